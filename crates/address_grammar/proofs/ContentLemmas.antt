@@ -9,8 +9,8 @@ use Rattle.address_grammar.specs.private.Lexemes.{HasMailTokens, unquoted, conte
 pub unquoted_at : (b : Bool) (octets : List ℕ) (i : ℕ) → i < length octets → unquoted b (drop i octets) ≡ unquoted b (get_or octets i 0 ∷ drop (i + 1) octets)
 unquoted_at b octets i h = ap (unquoted b) (drop_more octets i 0 h)
 
-pub contents_turn : (all rest behind : List TokenValue) (t : TokenValue) (old new : List ℕ) → old ++ contents rest ≡ contents all → rest ≡ t ∷ behind → new ≡ old ++ content t → new ++ contents behind ≡ contents all
-contents_turn all rest behind t old new so e put = ap (λ r. r ++ contents behind) put ∙ append_assoc old (content t) (contents behind) ∙ ap (λ r. old ++ contents r) (sym e) ∙ so
+pub contents_turn : (all rest following : List TokenValue) (t : TokenValue) (old new : List ℕ) → old ++ contents rest ≡ contents all → rest ≡ t ∷ following → new ≡ old ++ content t → new ++ contents following ≡ contents all
+contents_turn all rest following t old new so e put = ap (λ r. r ++ contents following) put ∙ append_assoc old (content t) (contents following) ∙ ap (λ r. old ++ contents r) (sym e) ∙ so
 
 pub contents_end : (all rest : List TokenValue) (made : List ℕ) → made ++ contents rest ≡ contents all → rest ≡ [] → made ≡ contents all
 contents_end all rest made so e = sym (append-nil made) ∙ ap (λ r. made ++ contents r) (sym e) ∙ so

@@ -3,7 +3,7 @@ use Rattle.std.proofs.Common.{◌≡◌, ℕ, true, List, [], ◌∷◌, ◌++�
 use Rattle.std.proofs.lemmas.List.{append_assoc, append-nil}
 use Rattle.field_tokens.specs.Tokens.{TokenValue}
 use Rattle.address_grammar.specs.private.Lexemes.{is_special_of}
-use Rattle.address_grammar.specs.private.Walks.{awaited_behind, and_then, walk, SplitsPlace, IsLastPlace}
+use Rattle.address_grammar.specs.private.Walks.{awaited_after, and_then, walk, SplitsPlace, IsLastPlace}
 use Rattle.address_grammar.specs.AddressLists.{Divided, SayParts, AreDivided}
 use Rattle.address_grammar.proofs.WalkLemmas.{walked_not, not_last}
 
@@ -42,9 +42,9 @@ cut_walk w (h ∷ a) [] s t x y wa wb is it e =
 cut_walk w (h ∷ a) (k ∷ b) s t x y wa wb is it e =
     let same : h ≡ k = cc e in
     let rest : a ++ s ∷ x ≡ b ++ t ∷ y = cc e in
-    let first = step (awaited_behind w h) a wa in
-    let second = step (awaited_behind w k) b wb in
-    let next : first.next ≡ second.next = cc (sym first.is ∙ ap (awaited_behind w) same ∙ second.is) in
+    let first = step (awaited_after w h) a wa in
+    let second = step (awaited_after w k) b wb in
+    let next : first.next ≡ second.next = cc (sym first.is ∙ ap (awaited_after w) same ∙ second.is) in
     let more = cut_walk first.next a b s t x y first.walked (rw (next) second.walked) is it rest in
     let front : a ≡ b = more.place in
     record { place = cc; rest = more.rest }

@@ -6,11 +6,11 @@ use Rattle.address_grammar.specs.private.Lexemes.{is_blank_token, are_blank, is_
 use Rattle.field_tokens.specs.Squeezed.{words_of}
 
 -- what may follow behind a word
-abbrev pub dotted_behind : (TokenValue → Bool) → List TokenValue → Bool
-dotted_behind p [] = true
-dotted_behind p (dot ∷ words) = is_special_of 46 dot && are_dotted p words
+abbrev pub dotted_after : (TokenValue → Bool) → List TokenValue → Bool
+dotted_after p [] = true
+dotted_after p (dot ∷ words) = is_special_of 46 dot && are_dotted p words
 
-dotted-word : (p : TokenValue → Bool) (w : TokenValue) (ws : List TokenValue) → p w ≡ true → are_dotted p (w ∷ ws) ≡ dotted_behind p ws
+dotted-word : (p : TokenValue → Bool) (w : TokenValue) (ws : List TokenValue) → p w ≡ true → are_dotted p (w ∷ ws) ≡ dotted_after p ws
 dotted-word p w [] h = h
 dotted-word p w (d ∷ ws) h = rw h refl
 
@@ -18,7 +18,7 @@ other-word : (p : TokenValue → Bool) (w : TokenValue) (ws : List TokenValue) �
 other-word p w [] h = h
 other-word p w (d ∷ ws) h = rw h refl
 
-pub part_found : (p : TokenValue → Bool) (ts rest : List TokenValue) → BeginsSo p ts rest → are_dotted p (words_of ts) ≡ dotted_behind p (words_of rest)
+pub part_found : (p : TokenValue → Bool) (ts rest : List TokenValue) → BeginsSo p ts rest → are_dotted p (words_of ts) ≡ dotted_after p (words_of rest)
 part_found p ts rest b = rw (b.words) (dotted-word p b.word (words_of rest) b.passes)
 
 pub part_other : (p : TokenValue → Bool) (ts : List TokenValue) → BeginsOther p ts → are_dotted p (words_of ts) ≡ false
@@ -28,7 +28,7 @@ part_other p ts other = by (words_of ts) refl
     by [] e = refl
     by (w ∷ ws) e = other-word p w ws (other w ws e)
 
-pub dot_found : (p : TokenValue → Bool) (ts rest : List TokenValue) → BeginsSo (is_special_of 46) ts rest → dotted_behind p (words_of ts) ≡ are_dotted p (words_of rest)
+pub dot_found : (p : TokenValue → Bool) (ts rest : List TokenValue) → BeginsSo (is_special_of 46) ts rest → dotted_after p (words_of ts) ≡ are_dotted p (words_of rest)
 dot_found p ts rest b = rw (b.words, b.passes) refl
 
 -- tokens are blank where they have no word
@@ -51,9 +51,9 @@ word_not_blank w ws ts e = elim (cases_Bool (are_blank ts)) [
   | inr not_blank ↦ not_blank
 ]
 
-pub dot_other : (p : TokenValue → Bool) (ts : List TokenValue) → BeginsOther (is_special_of 46) ts → dotted_behind p (words_of ts) ≡ are_blank ts
+pub dot_other : (p : TokenValue → Bool) (ts : List TokenValue) → BeginsOther (is_special_of 46) ts → dotted_after p (words_of ts) ≡ are_blank ts
 dot_other p ts other = by (words_of ts) refl
   where
-    by : (ws : List TokenValue) → words_of ts ≡ ws → dotted_behind p ws ≡ are_blank ts
+    by : (ws : List TokenValue) → words_of ts ≡ ws → dotted_after p ws ≡ are_blank ts
     by [] e = sym (blank_words ts e)
     by (w ∷ ws) e = rw (other w ws e) (sym (word_not_blank w ws ts e))

@@ -20,38 +20,38 @@ pub record BeforeMark (mark : ℕ) (all rest : List TokenValue) : Type 0 where
 pub mark_start : (mark : ℕ) (ts : List TokenValue) → BeforeMark mark ts ts
 mark_start mark ts = record { front = []; whole = refl; lacks = refl }
 
-pub mark_turn : (mark : ℕ) (all rest behind : List TokenValue) (t : TokenValue) → BeforeMark mark all rest → rest ≡ t ∷ behind → is_special_of mark t ≡ false → BeforeMark mark all behind
-mark_turn mark all rest behind t b e other = record {
+pub mark_turn : (mark : ℕ) (all rest following : List TokenValue) (t : TokenValue) → BeforeMark mark all rest → rest ≡ t ∷ following → is_special_of mark t ≡ false → BeforeMark mark all following
+mark_turn mark all rest following t b e other = record {
   front = b.front ++ t ∷ [];
-  whole = b.whole ∙ ap (λ r. b.front ++ r) e ∙ sym (append_assoc b.front (t ∷ []) behind);
+  whole = b.whole ∙ ap (λ r. b.front ++ r) e ∙ sym (append_assoc b.front (t ∷ []) following);
   lacks = list_all-append (λ u. not (is_special_of mark u)) b.front (t ∷ []) ∙ rw (b.lacks, other) refl;
 }
 
-pub mark_found : (mark : ℕ) (all rest behind before : List TokenValue) (t : TokenValue) → BeforeMark mark all rest → rest ≡ t ∷ behind → is_special_of mark t ≡ true
-    → ((front : List TokenValue) → all ≡ front ++ rest → before ≡ front) → SplitsAt mark all before behind
-mark_found mark all rest behind before t b e is front_is =
+pub mark_found : (mark : ℕ) (all rest following before : List TokenValue) (t : TokenValue) → BeforeMark mark all rest → rest ≡ t ∷ following → is_special_of mark t ≡ true
+    → ((front : List TokenValue) → all ≡ front ++ rest → before ≡ front) → SplitsAt mark all before following
+mark_found mark all rest following before t b e is front_is =
     let front : before ≡ b.front = front_is b.front b.whole in
-    record { at = t; whole = b.whole ∙ ap (λ r. b.front ++ r) e ∙ ap (λ r. r ++ t ∷ behind) (sym front); is_at = is; first = ap (lacks_special mark) front ∙ b.lacks }
+    record { at = t; whole = b.whole ∙ ap (λ r. b.front ++ r) e ∙ ap (λ r. r ++ t ∷ following) (sym front); is_at = is; first = ap (lacks_special mark) front ∙ b.lacks }
 
-pub mark_shorter : (mark : ℕ) (all rest behind : List TokenValue) (t : TokenValue) → BeforeMark mark all rest → rest ≡ t ∷ behind → length behind < length all
-mark_shorter mark all rest behind t b e = omega (arith, ap length b.whole, length-append b.front rest, ap length e)
+pub mark_shorter : (mark : ℕ) (all rest following : List TokenValue) (t : TokenValue) → BeforeMark mark all rest → rest ≡ t ∷ following → length following < length all
+mark_shorter mark all rest following t b e = omega (arith, ap length b.whole, length-append b.front rest, ap length e)
 
 pub mark_missing : (mark : ℕ) (all rest : List TokenValue) → BeforeMark mark all rest → rest ≡ [] → lacks_special mark all ≡ true
 mark_missing mark all rest b e = ap (lacks_special mark) (b.whole ∙ ap (λ r. b.front ++ r) e ∙ append-nil b.front) ∙ b.lacks
 
 -- fewer tokens stand behind the first one
-pub less_behind : (rest behind : List TokenValue) (t : TokenValue) → rest ≡ t ∷ behind → length behind < length rest
-less_behind rest behind t e = omega (arith, ap length e)
+pub less_after : (rest following : List TokenValue) (t : TokenValue) → rest ≡ t ∷ following → length following < length rest
+less_after rest following t e = omega (arith, ap length e)
 
 -- what is taken before the tokens at the end
 pub front_taken : (all front rest : List TokenValue) → all ≡ front ++ rest → take (length all - length rest) all ≡ front
 front_taken all front rest e = ap (take (length all - length rest)) e ∙ take_at front rest (length all - length rest) (omega (arith, ap length e, length-append front rest))
 
-pub word_turn : (rest behind : List TokenValue) (t : TokenValue) → rest ≡ t ∷ behind → is_blank_token t ≡ true → words_of rest ≡ words_of behind
-word_turn rest behind t e blank = ap words_of e ∙ rw blank refl
+pub word_turn : (rest following : List TokenValue) (t : TokenValue) → rest ≡ t ∷ following → is_blank_token t ≡ true → words_of rest ≡ words_of following
+word_turn rest following t e blank = ap words_of e ∙ rw blank refl
 
-pub word_here : (rest behind : List TokenValue) (t : TokenValue) → rest ≡ t ∷ behind → is_blank_token t ≡ false → words_of rest ≡ t ∷ words_of behind
-word_here rest behind t e word = ap words_of e ∙ rw word refl
+pub word_here : (rest following : List TokenValue) (t : TokenValue) → rest ≡ t ∷ following → is_blank_token t ≡ false → words_of rest ≡ t ∷ words_of following
+word_here rest following t e word = ap words_of e ∙ rw word refl
 
 -- ---- marks
 
@@ -124,8 +124,8 @@ cut_once m (h ∷ a) (k ∷ b) s t x y la lb is it e =
     let front : a ≡ b = r.front in
     record { front = cc; mark = r.mark; rest = r.rest }
 
-pub mark_in : (mark : ℕ) (ts before behind : List TokenValue) → SplitsAt mark ts before behind → false ≡ lacks_special mark ts
-mark_in mark ts before behind s = elim (cases_Bool (lacks_special mark ts)) [
-  | inl lacks ↦ absurd (not_lacking mark before behind s.at s.is_at (rw (s.whole) at lacks))
+pub mark_in : (mark : ℕ) (ts before following : List TokenValue) → SplitsAt mark ts before following → false ≡ lacks_special mark ts
+mark_in mark ts before following s = elim (cases_Bool (lacks_special mark ts)) [
+  | inl lacks ↦ absurd (not_lacking mark before following s.at s.is_at (rw (s.whole) at lacks))
   | inr other ↦ sym other
 ]

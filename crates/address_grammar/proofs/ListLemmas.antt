@@ -9,7 +9,7 @@ use Rattle.address_grammar.specs.private.Lexemes.{is_special_of, lacks_special, 
 use Rattle.address_grammar.specs.Addresses.{IsAddress}
 use Rattle.address_grammar.specs.Phrases.{phrase_items, SaysPhrase}
 use Rattle.address_grammar.specs.AddressLists.{Divided, IsRoute, MailboxValue, IsBare, IsRoutedOrNot, IsNamed, IsMailbox, SayParts, AreDivided, IsOneMailbox, AreMembers, ElementValue, One, Group, IsGroupBy, IsGroup, IsElement, SaysPlace}
-use Rattle.address_grammar.specs.private.Walks.{awaited_behind, walk}
+use Rattle.address_grammar.specs.private.Walks.{awaited_after, walk}
 use Rattle.address_grammar.specs.private.ListSteps.{SplitsName, SaysGroup, SaysSingle}
 use Rattle.address_grammar.proofs.LexemeLemmas.{other_mark, blank_lacks, cut_once, not_lacking}
 use Rattle.address_grammar.proofs.AddressLemmas.{lacks-append, address_lacks, IsAddress-once}
@@ -38,15 +38,15 @@ walk_blank : (ts : List TokenValue) → are_blank ts ≡ true → walk None ts �
 walk_blank ts h = walk_plain ts (blank_lacks 44 ts h) (blank_lacks 60 ts h) (blank_lacks 58 ts h)
 
 -- what stands between a mark and the one that it awaits
-walk_between : (n : ℕ) (before inner after : List TokenValue) (s t : TokenValue) → walk None before ≡ Some None → awaited_behind None s ≡ Some (Some n) → lacks_special n inner ≡ true → is_special_of n t ≡ true → are_blank after ≡ true
+walk_between : (n : ℕ) (before inner after : List TokenValue) (s t : TokenValue) → walk None before ≡ Some None → awaited_after None s ≡ Some (Some n) → lacks_special n inner ≡ true → is_special_of n t ≡ true → are_blank after ≡ true
     → walk None (before ++ s ∷ (inner ++ t ∷ after)) ≡ Some None
 walk_between n before inner after s t front opens l closes blank =
     rw (walk-append before (s ∷ (inner ++ t ∷ after)) None, front, opens, walk-append inner (t ∷ after) (Some n), walk_awaits n inner l, closes) (walk_blank after blank)
 
-opens_angle : (t : TokenValue) → is_special_of 60 t ≡ true → awaited_behind None t ≡ Some (Some 62)
+opens_angle : (t : TokenValue) → is_special_of 60 t ≡ true → awaited_after None t ≡ Some (Some 62)
 opens_angle t h = rw (other_mark 60 44 t (λ e. omega (arith, e)) h, h) refl
 
-opens_group : (t : TokenValue) → is_special_of 58 t ≡ true → awaited_behind None t ≡ Some (Some 59)
+opens_group : (t : TokenValue) → is_special_of 58 t ≡ true → awaited_after None t ≡ Some (Some 59)
 opens_group t h = rw (other_mark 58 44 t (λ e. omega (arith, e)) h, other_mark 58 60 t (λ e. omega (arith, e)) h, h) refl
 
 says_walked : (ts : List TokenValue) (phrase : Bool) (units : List UnitValue) → SaysPhrase ts phrase units → walk None ts ≡ Some None
@@ -60,7 +60,7 @@ mailbox_walked ts m (inl is) =
 mailbox_walked ts m (inr is) =
     let first = named_angles ts m is in
     rw (is.angled.whole) (walk_between 62 is.before is.inner is.angled.after is.angled.open_mark is.angled.close_mark
-    (says_walked is.before m.phrase m.display is.named.says) (opens_angle is.angled.open_mark is.angled.opens) first.first_close is.angled.closes is.angled.behind)
+    (says_walked is.before m.phrase m.display is.named.says) (opens_angle is.angled.open_mark is.angled.opens) first.first_close is.angled.closes is.angled.following)
 
 pub one_walked : Walked IsOneMailbox
 one_walked ts [] is = absurd is
@@ -76,7 +76,7 @@ mailbox_lacks ts m (inr is) =
     rw (a.whole) (lacks-append 59 is.before (a.open_mark ∷ (is.inner ++ a.close_mark ∷ a.after)) (says_lacks 59 is.before m.phrase m.display (λ e. omega (arith, e)) is.named.says)
     (and_from (not (is_special_of 59 a.open_mark)) (lacks_special 59 (is.inner ++ a.close_mark ∷ a.after)) (ap not (other_mark 60 59 a.open_mark (λ e. omega (arith, e)) a.opens))
     (lacks-append 59 is.inner (a.close_mark ∷ a.after) (routed_lacks 59 is.inner m.address (λ e. omega (arith, e)) (λ e. omega (arith, e)) (λ e. omega (arith, e)) (λ e. omega (arith, e)) is.named.address)
-    (and_from (not (is_special_of 59 a.close_mark)) (lacks_special 59 a.after) (ap not (other_mark 62 59 a.close_mark (λ e. omega (arith, e)) a.closes)) (blank_lacks 59 a.after a.behind)))))
+    (and_from (not (is_special_of 59 a.close_mark)) (lacks_special 59 a.after) (ap not (other_mark 62 59 a.close_mark (λ e. omega (arith, e)) a.closes)) (blank_lacks 59 a.after a.following)))))
 
 one_lacks : (ts : List TokenValue) (ms : List MailboxValue) → IsOneMailbox ts ms → lacks_special 59 ts ≡ true
 one_lacks ts [] is = absurd is
@@ -131,9 +131,9 @@ route_colon ts r = route_lacks 58 ts (λ e. omega (arith, e)) (λ e. omega (arit
 
 routed_once : (ts : List TokenValue) (a b : Address) → IsRoutedOrNot ts a → IsRoutedOrNot ts b → a ≡ b
 routed_once ts a b (inl p) (inl q) = IsAddress-once ts a b p q
-routed_once ts a b (inl p) (inr q) = absurd (not_lacking 58 q.route q.behind q.colon q.is_colon (rw (q.whole) at (no_colon ts a p)))
-routed_once ts a b (inr p) (inl q) = absurd (not_lacking 58 p.route p.behind p.colon p.is_colon (rw (p.whole) at (no_colon ts b q)))
-routed_once ts a b (inr p) (inr q) = IsAddress-once p.behind a b p.is_address (routed_parts ts p.route p.behind b (record { at = p.colon; whole = p.whole; is_at = p.is_colon; first = route_colon p.route p.is_route }) (inr q)).1
+routed_once ts a b (inl p) (inr q) = absurd (not_lacking 58 q.route q.following q.colon q.is_colon (rw (q.whole) at (no_colon ts a p)))
+routed_once ts a b (inr p) (inl q) = absurd (not_lacking 58 p.route p.following p.colon p.is_colon (rw (p.whole) at (no_colon ts b q)))
+routed_once ts a b (inr p) (inr q) = IsAddress-once p.following a b p.is_address (routed_parts ts p.route p.following b (record { at = p.colon; whole = p.whole; is_at = p.is_colon; first = route_colon p.route p.is_route }) (inr q)).1
 
 same_mailbox : (m n : MailboxValue) → m.phrase ≡ n.phrase → m.display ≡ n.display → m.angle ≡ n.angle → m.address ≡ n.address → m ≡ n
 same_mailbox m n p d g a = let eta : m ≡ record { phrase = n.phrase; display = n.display; angle = n.angle; address = n.address } = rw (← p, ← d, ← g, ← a) refl in eta
@@ -187,20 +187,20 @@ pub record SameGroup (us vs : List UnitValue) (ms ns : List MailboxValue) : Type
   pub name : us ≡ vs
   pub members : ms ≡ ns
 
-pub group_inner : (before behind inner after : List TokenValue) (name : List UnitValue) (ms : List MailboxValue) → SplitsAt 59 behind inner after → IsGroupBy before behind name ms → (are_blank after ≡ true) × AreMembers inner ms
-group_inner before behind inner after name ms s g =
+pub group_inner : (before following inner after : List TokenValue) (name : List UnitValue) (ms : List MailboxValue) → SplitsAt 59 following inner after → IsGroupBy before following name ms → (are_blank after ≡ true) × AreMembers inner ms
+group_inner before following inner after name ms s g =
     let cut = cut_once 59 inner g.inner s.at g.semicolon after g.after s.first (members_lack g.inner ms g.are_members) s.is_at g.is_semicolon (sym s.whole ∙ g.whole) in
     (rw (cut.rest) g.nothing_after, rw (cut.front) g.are_members)
 
-pub group_once : (before behind : List TokenValue) (us vs : List UnitValue) (ms ns : List MailboxValue) → IsGroupBy before behind us ms → IsGroupBy before behind vs ns → SameGroup us vs ms ns
-group_once before behind us vs ms ns p q = record {
+pub group_once : (before following : List TokenValue) (us vs : List UnitValue) (ms ns : List MailboxValue) → IsGroupBy before following us ms → IsGroupBy before following vs ns → SameGroup us vs ms ns
+group_once before following us vs ms ns p q = record {
   name = HasPhraseUnits-once (phrase_items before) us vs p.says q.says;
-  members = members_once p.inner ms ns p.are_members (group_inner before behind p.inner p.after vs ns (record { at = p.semicolon; whole = p.whole; is_at = p.is_semicolon; first = members_lack p.inner ms p.are_members }) q).1;
+  members = members_once p.inner ms ns p.are_members (group_inner before following p.inner p.after vs ns (record { at = p.semicolon; whole = p.whole; is_at = p.is_semicolon; first = members_lack p.inner ms p.are_members }) q).1;
 }
 
 -- ---- which kind of element stands in a place
 
-pub group_name : (ts : List TokenValue) (name : List UnitValue) (ms : List MailboxValue) → (is : IsGroup ts name ms) → SplitsName ts is.before is.behind
+pub group_name : (ts : List TokenValue) (name : List UnitValue) (ms : List MailboxValue) → (is : IsGroup ts name ms) → SplitsName ts is.before is.following
 group_name ts name ms is = record {
   splits = record { at = is.colon; whole = is.whole; is_at = is.is_colon; first = phrase_lacks 58 is.before (λ e. omega (arith, e)) is.group.is_phrase };
   closed = phrase_lacks 60 is.before (λ e. omega (arith, e)) is.group.is_phrase;
@@ -220,30 +220,30 @@ two_marks (h ∷ a) (k ∷ b) s t x y la lb is it e =
     two_marks a b s t x y (and_parts (not (is_special_of 60 h)) (lacks_special 60 a) la).1 (and_parts (not (is_special_of 58 k)) (lacks_special 58 b) lb).1 is it rest
 
 -- where a name is split off, the element is a group
-pub mailbox_no_name : (ts before behind : List TokenValue) (m : MailboxValue) → SplitsName ts before behind → IsMailbox ts m → ⊥
-mailbox_no_name ts before behind m s (inl is) =
-    not_lacking 58 before behind s.splits.at s.splits.is_at (rw (s.splits.whole) at (bare_lacks 58 ts m (λ e. omega (arith, e)) (λ e. omega (arith, e)) is))
-mailbox_no_name ts before behind m s (inr is) =
-    two_marks before is.before s.splits.at is.angled.open_mark behind (is.inner ++ is.angled.close_mark ∷ is.angled.after) s.closed (says_lacks 58 is.before m.phrase m.display (λ e. omega (arith, e)) is.named.says)
+pub mailbox_no_name : (ts before following : List TokenValue) (m : MailboxValue) → SplitsName ts before following → IsMailbox ts m → ⊥
+mailbox_no_name ts before following m s (inl is) =
+    not_lacking 58 before following s.splits.at s.splits.is_at (rw (s.splits.whole) at (bare_lacks 58 ts m (λ e. omega (arith, e)) (λ e. omega (arith, e)) is))
+mailbox_no_name ts before following m s (inr is) =
+    two_marks before is.before s.splits.at is.angled.open_mark following (is.inner ++ is.angled.close_mark ∷ is.angled.after) s.closed (says_lacks 58 is.before m.phrase m.display (λ e. omega (arith, e)) is.named.says)
     s.splits.is_at is.angled.opens (sym s.splits.whole ∙ is.angled.whole)
 
-pub group_parts : (ts before behind : List TokenValue) (name : List UnitValue) (ms : List MailboxValue) → SplitsName ts before behind → IsGroup ts name ms → IsGroupBy before behind name ms
-group_parts ts before behind name ms s is =
+pub group_parts : (ts before following : List TokenValue) (name : List UnitValue) (ms : List MailboxValue) → SplitsName ts before following → IsGroup ts name ms → IsGroupBy before following name ms
+group_parts ts before following name ms s is =
     let other = group_name ts name ms is in
-    let cut = cut_once 58 before is.before s.splits.at is.colon behind is.behind s.splits.first other.splits.first s.splits.is_at is.is_colon (sym s.splits.whole ∙ is.whole) in
+    let cut = cut_once 58 before is.before s.splits.at is.colon following is.following s.splits.first other.splits.first s.splits.is_at is.is_colon (sym s.splits.whole ∙ is.whole) in
     rw (cut.front, cut.rest) is.group
 
-pub element_group : (ts before behind : List TokenValue) (e : ElementValue) → SplitsName ts before behind → IsElement ts e → SaysGroup before behind e
-element_group ts before behind (One m) s is = absurd (mailbox_no_name ts before behind m s is)
-element_group ts before behind (Group name ms) s is = group_parts ts before behind name ms s is
+pub element_group : (ts before following : List TokenValue) (e : ElementValue) → SplitsName ts before following → IsElement ts e → SaysGroup before following e
+element_group ts before following (One m) s is = absurd (mailbox_no_name ts before following m s is)
+element_group ts before following (Group name ms) s is = group_parts ts before following name ms s is
 
-pub group_element : (ts before behind : List TokenValue) (e : ElementValue) → SplitsName ts before behind → SaysGroup before behind e → IsElement ts e
-group_element ts before behind (One m) s is = absurd is
-group_element ts before behind (Group name ms) s is = record { before = before; colon = s.splits.at; behind = behind; whole = s.splits.whole; is_colon = s.splits.is_at; group = is }
+pub group_element : (ts before following : List TokenValue) (e : ElementValue) → SplitsName ts before following → SaysGroup before following e → IsElement ts e
+group_element ts before following (One m) s is = absurd is
+group_element ts before following (Group name ms) s is = record { before = before; colon = s.splits.at; following = following; whole = s.splits.whole; is_colon = s.splits.is_at; group = is }
 
-pub element_single : (ts : List TokenValue) (e : ElementValue) → ((before behind : List TokenValue) → SplitsName ts before behind → ⊥) → IsElement ts e → SaysSingle ts e
+pub element_single : (ts : List TokenValue) (e : ElementValue) → ((before following : List TokenValue) → SplitsName ts before following → ⊥) → IsElement ts e → SaysSingle ts e
 element_single ts (One m) none is = is
-element_single ts (Group name ms) none is = absurd (none is.before is.behind (group_name ts name ms is))
+element_single ts (Group name ms) none is = absurd (none is.before is.following (group_name ts name ms is))
 
 pub single_element : (ts : List TokenValue) (e : ElementValue) → SaysSingle ts e → IsElement ts e
 single_element ts (One m) is = is
@@ -251,17 +251,17 @@ single_element ts (Group name ms) is = absurd is
 
 pub IsElement-once : (ts : List TokenValue) (e f : ElementValue) → IsElement ts e → IsElement ts f → e ≡ f
 IsElement-once ts (One m) (One n) p q = ap One (IsMailbox-once ts m n p q)
-IsElement-once ts (One m) (Group vs ns) p q = absurd (mailbox_no_name ts q.before q.behind m (group_name ts vs ns q) p)
-IsElement-once ts (Group us ms) (One n) p q = absurd (mailbox_no_name ts p.before p.behind n (group_name ts us ms p) q)
+IsElement-once ts (One m) (Group vs ns) p q = absurd (mailbox_no_name ts q.before q.following m (group_name ts vs ns q) p)
+IsElement-once ts (Group us ms) (One n) p q = absurd (mailbox_no_name ts p.before p.following n (group_name ts us ms p) q)
 IsElement-once ts (Group us ms) (Group vs ns) p q =
-    let same = group_once p.before p.behind us vs ms ns p.group (group_parts ts p.before p.behind vs ns (group_name ts us ms p) q) in
+    let same = group_once p.before p.following us vs ms ns p.group (group_parts ts p.before p.following vs ns (group_name ts us ms p) q) in
     let name : us ≡ vs = same.name in
     let members : ms ≡ ns = same.members in
     cc
 
 pub element_not_blank : (ts : List TokenValue) (e : ElementValue) → IsElement ts e → are_blank ts ≡ true → ⊥
 element_not_blank ts (One m) is h = mailbox_not_blank ts m is h
-element_not_blank ts (Group name ms) is h = not_lacking 58 is.before is.behind is.colon is.is_colon (rw (is.whole) at (blank_lacks 58 ts h))
+element_not_blank ts (Group name ms) is h = not_lacking 58 is.before is.following is.colon is.is_colon (rw (is.whole) at (blank_lacks 58 ts h))
 
 pub place_once : SaysOnce SaysPlace
 place_once ts [] [] p q = refl
@@ -274,10 +274,10 @@ place_once ts (e ∷ d ∷ es) fs p q = absurd p
 
 -- ---- where a name is split off
 
-pub no_name : (ts : List TokenValue) → lacks_special 58 ts ≡ true → (before behind : List TokenValue) → SplitsName ts before behind → ⊥
-no_name ts l before behind s = not_lacking 58 before behind s.splits.at s.splits.is_at (rw (s.splits.whole) at l)
+pub no_name : (ts : List TokenValue) → lacks_special 58 ts ≡ true → (before following : List TokenValue) → SplitsName ts before following → ⊥
+no_name ts l before following s = not_lacking 58 before following s.splits.at s.splits.is_at (rw (s.splits.whole) at l)
 
-pub name_open : (ts before behind : List TokenValue) → SplitsAt 58 ts before behind → lacks_special 60 before ≡ false → (a b : List TokenValue) → SplitsName ts a b → ⊥
-name_open ts before behind s l a b n =
-    let cut = cut_once 58 before a s.at n.splits.at behind b s.first n.splits.first s.is_at n.splits.is_at (sym s.whole ∙ n.splits.whole) in
+pub name_open : (ts before following : List TokenValue) → SplitsAt 58 ts before following → lacks_special 60 before ≡ false → (a b : List TokenValue) → SplitsName ts a b → ⊥
+name_open ts before following s l a b n =
+    let cut = cut_once 58 before a s.at n.splits.at following b s.first n.splits.first s.is_at n.splits.is_at (sym s.whole ∙ n.splits.whole) in
     both_ways (lacks_special 60 a) (rw (cut.front) at l) n.closed

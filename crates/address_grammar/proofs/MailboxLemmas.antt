@@ -149,23 +149,23 @@ route_lacks m ts dot at comma r = by r.hops ts r.divided r.each
 pub routed_lacks : (m : ℕ) (ts : List TokenValue) (a : Address) → m ≢ 46 → m ≢ 64 → m ≢ 44 → m ≢ 58 → IsRoutedOrNot ts a → lacks_special m ts ≡ true
 routed_lacks m ts a dot at comma colon (inl is) = address_lacks m ts a dot at is
 routed_lacks m ts a dot at comma colon (inr is) =
-    rw (is.whole) (lacks-append m is.route (is.colon ∷ is.behind) (route_lacks m is.route dot at comma is.is_route)
-    (and_from (not (is_special_of m is.colon)) (lacks_special m is.behind) (ap not (other_mark 58 m is.colon (λ e. colon (sym e)) is.is_colon)) (address_lacks m is.behind a dot at is.is_address)))
+    rw (is.whole) (lacks-append m is.route (is.colon ∷ is.following) (route_lacks m is.route dot at comma is.is_route)
+    (and_from (not (is_special_of m is.colon)) (lacks_special m is.following) (ap not (other_mark 58 m is.colon (λ e. colon (sym e)) is.is_colon)) (address_lacks m is.following a dot at is.is_address)))
 
-pub routed_parts : (ts route behind : List TokenValue) (a : Address) → SplitsAt 58 ts route behind → IsRoutedOrNot ts a → IsRoute route × IsAddress behind a
-routed_parts ts route behind a s (inl is) =
-    absurd (not_lacking 58 route behind s.at s.is_at (rw (s.whole) at (address_lacks 58 ts a (λ e. omega (arith, e)) (λ e. omega (arith, e)) is)))
-routed_parts ts route behind a s (inr is) =
-    let cut = cut_once 58 route is.route s.at is.colon behind is.behind s.first
+pub routed_parts : (ts route following : List TokenValue) (a : Address) → SplitsAt 58 ts route following → IsRoutedOrNot ts a → IsRoute route × IsAddress following a
+routed_parts ts route following a s (inl is) =
+    absurd (not_lacking 58 route following s.at s.is_at (rw (s.whole) at (address_lacks 58 ts a (λ e. omega (arith, e)) (λ e. omega (arith, e)) is)))
+routed_parts ts route following a s (inr is) =
+    let cut = cut_once 58 route is.route s.at is.colon following is.following s.first
     (route_lacks 58 is.route (λ e. omega (arith, e)) (λ e. omega (arith, e)) (λ e. omega (arith, e)) is.is_route) s.is_at is.is_colon (sym s.whole ∙ is.whole) in
     (rw (cut.front) is.is_route, rw (cut.rest) is.is_address)
 
-pub routed_made : (ts route behind : List TokenValue) (a : Address) → SplitsAt 58 ts route behind → IsRoute route → IsAddress behind a → IsRoutedOrNot ts a
-routed_made ts route behind a s r is = inr (record { route = route; colon = s.at; behind = behind; whole = s.whole; is_colon = s.is_at; is_route = r; is_address = is })
+pub routed_made : (ts route following : List TokenValue) (a : Address) → SplitsAt 58 ts route following → IsRoute route → IsAddress following a → IsRoutedOrNot ts a
+routed_made ts route following a s r is = inr (record { route = route; colon = s.at; following = following; whole = s.whole; is_colon = s.is_at; is_route = r; is_address = is })
 
 pub unrouted : (ts : List TokenValue) (a : Address) → lacks_special 58 ts ≡ true → IsRoutedOrNot ts a → IsAddress ts a
 unrouted ts a l (inl is) = is
-unrouted ts a l (inr is) = absurd (not_lacking 58 is.route is.behind is.colon is.is_colon (rw (is.whole) at l))
+unrouted ts a l (inr is) = absurd (not_lacking 58 is.route is.following is.colon is.is_colon (rw (is.whole) at l))
 
 -- ---- mailboxes
 
@@ -199,10 +199,10 @@ named_made ts before inner m first named = inr (record { before = before; inner 
 -- ---- what the phrase says
 
 -- what stands before angle brackets is a phrase that says these units
-pub named_phrase : (ts before behind : List TokenValue) (m : MailboxValue) → SplitsAt 60 ts before behind → IsNamed ts m → m.phrase ≡ true → IsPhrase before × HasPhraseUnits (phrase_items before) m.display
-named_phrase ts before behind m s is phrase =
+pub named_phrase : (ts before following : List TokenValue) (m : MailboxValue) → SplitsAt 60 ts before following → IsNamed ts m → m.phrase ≡ true → IsPhrase before × HasPhraseUnits (phrase_items before) m.display
+named_phrase ts before following m s is phrase =
     let a = is.angled in
-    let cut = cut_once 60 before is.before s.at a.open_mark behind (is.inner ++ a.close_mark ∷ a.after) s.first (named_angles ts m is).first_open s.is_at a.opens (sym s.whole ∙ a.whole) in
+    let cut = cut_once 60 before is.before s.at a.open_mark following (is.inner ++ a.close_mark ∷ a.after) s.first (named_angles ts m is).first_open s.is_at a.opens (sym s.whole ∙ a.whole) in
     rw (cut.front) (by m.phrase phrase is.named.says)
   where
     by : (b : Bool) → b ≡ true → SaysPhrase is.before b m.display → IsPhrase is.before × HasPhraseUnits (phrase_items is.before) m.display
@@ -226,10 +226,10 @@ nothing_said ts m h (inr is) = by m.phrase h is.named.says
     by false h says = says.1
 
 -- units that were read of the phrase are those of the mailbox
-pub display_read : (ts before behind : List TokenValue) (m : FoundMailbox) (display units : List UnitValue) → SplitsAt 60 ts before behind → m.phrase ≡ true → IsMailbox ts (found_value m display)
+pub display_read : (ts before following : List TokenValue) (m : FoundMailbox) (display units : List UnitValue) → SplitsAt 60 ts before following → m.phrase ≡ true → IsMailbox ts (found_value m display)
     → HasPhraseUnits (phrase_items before) units → IsMailbox ts (found_value m units)
-display_read ts before behind m display units s phrase is has =
-    let said = named_phrase ts before behind (found_value m display) s (is_named ts (found_value m display) phrase is) phrase in
+display_read ts before following m display units s phrase is has =
+    let said = named_phrase ts before following (found_value m display) s (is_named ts (found_value m display) phrase is) phrase in
     subst (λ r. IsMailbox ts (found_value m r)) (HasPhraseUnits-once (phrase_items before) display units said.1 has) is
 
 pub display_none : (ts : List TokenValue) (m : FoundMailbox) (display units : List UnitValue) → m.phrase ≡ false → units ≡ [] → IsMailbox ts (found_value m display) → IsMailbox ts (found_value m units)

@@ -16,8 +16,8 @@ use Rattle.address_grammar.proofs.AddressLemmas.{IsAddress-once, address_lacks, 
 pub HasTokenValues-once : (text : List ℕ) (ts us : List TokenValue) → HasMailTokens text ts → HasMailTokens text us → ts ≡ us
 HasTokenValues-once text ts us p q = AreTokens-once Mail text ts us p.are_tokens q.are_tokens
 
-pub angled_made : (ts before behind inner after : List TokenValue) → SplitsAt 60 ts before behind → SplitsAt 62 behind inner after → are_blank after ≡ true → IsFirstAngled ts before inner
-angled_made ts before behind inner after opens closes_it blank = record {
+pub angled_made : (ts before following inner after : List TokenValue) → SplitsAt 60 ts before following → SplitsAt 62 following inner after → are_blank after ≡ true → IsFirstAngled ts before inner
+angled_made ts before following inner after opens closes_it blank = record {
   angled = record {
     open_mark = opens.at;
     close_mark = closes_it.at;
@@ -25,7 +25,7 @@ angled_made ts before behind inner after opens closes_it blank = record {
     whole = opens.whole ∙ ap (λ r. before ++ opens.at ∷ r) closes_it.whole;
     opens = opens.is_at;
     closes = closes_it.is_at;
-    behind = blank;
+    following = blank;
   };
   first_open = opens.first;
   first_close = closes_it.first;
@@ -34,9 +34,9 @@ angled_made ts before behind inner after opens closes_it blank = record {
 pub no_open : (ts before inner : List TokenValue) → lacks_special 60 ts ≡ true → IsFirstAngled ts before inner → ⊥
 no_open ts before inner l is = not_lacking 60 before (inner ++ is.angled.close_mark ∷ is.angled.after) is.angled.open_mark is.angled.opens (rw (is.angled.whole) at l)
 
-pub no_close : (ts front behind before inner : List TokenValue) → SplitsAt 60 ts front behind → lacks_special 62 behind ≡ true → IsFirstAngled ts before inner → ⊥
-no_close ts front behind before inner splits l is =
-    let cut = cut_once 60 front before splits.at is.angled.open_mark behind (inner ++ is.angled.close_mark ∷ is.angled.after) splits.first is.first_open splits.is_at is.angled.opens (sym splits.whole ∙ is.angled.whole) in
+pub no_close : (ts front following before inner : List TokenValue) → SplitsAt 60 ts front following → lacks_special 62 following ≡ true → IsFirstAngled ts before inner → ⊥
+no_close ts front following before inner splits l is =
+    let cut = cut_once 60 front before splits.at is.angled.open_mark following (inner ++ is.angled.close_mark ∷ is.angled.after) splits.first is.first_open splits.is_at is.angled.opens (sym splits.whole ∙ is.angled.whole) in
     not_lacking 62 inner is.angled.after is.angled.close_mark is.angled.closes (rw (cut.rest) at l)
 
 -- the brackets are the first ones
@@ -52,12 +52,12 @@ angles_once ts a b x y p q =
     let second = cut_once 62 x y p.angled.close_mark q.angled.close_mark p.angled.after q.angled.after p.first_close q.first_close p.angled.closes q.angled.closes first.rest in
     record { before = first.front; inner = second.front; after = second.rest }
 
-pub something_behind : (ts front behind inner after before within : List TokenValue) → SplitsAt 60 ts front behind → SplitsAt 62 behind inner after → are_blank after ≡ false
+pub something_after : (ts front following inner after before within : List TokenValue) → SplitsAt 60 ts front following → SplitsAt 62 following inner after → are_blank after ≡ false
     → IsFirstAngled ts before within → ⊥
-something_behind ts front behind inner after before within opens closes_it not_blank is =
-    let first = cut_once 60 front before opens.at is.angled.open_mark behind (within ++ is.angled.close_mark ∷ is.angled.after) opens.first is.first_open opens.is_at is.angled.opens (sym opens.whole ∙ is.angled.whole) in
+something_after ts front following inner after before within opens closes_it not_blank is =
+    let first = cut_once 60 front before opens.at is.angled.open_mark following (within ++ is.angled.close_mark ∷ is.angled.after) opens.first is.first_open opens.is_at is.angled.opens (sym opens.whole ∙ is.angled.whole) in
     let second = cut_once 62 inner within closes_it.at is.angled.close_mark after is.angled.after closes_it.first is.first_close closes_it.is_at is.angled.closes (sym closes_it.whole ∙ first.rest) in
-    let blank : are_blank after ≡ true = rw (second.rest) is.angled.behind in
+    let blank : are_blank after ≡ true = rw (second.rest) is.angled.following in
     absurd (cc (sym not_blank ∙ blank))
 
 path_lacks : (ts : List TokenValue) (answer : Option Address) → IsPathOf ts answer → lacks_special 62 ts ≡ true

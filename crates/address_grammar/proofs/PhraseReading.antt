@@ -61,9 +61,9 @@ word_turn : (phrase items : List PhraseItem) (given : List UnitValue) (octets : 
 word_turn phrase items given octets old new first free was may encoded t reads = λ places are.
     let p : Place = record { word = octets; says = t.says; run = gap_before items } in
     let has = reads p places (record { word = refl; says = t.says_is; run = refl }) are in
-    let behind : List UnitValue = with_text (cond (is_some t.says && begins_encoded places) [] (gap_before items)) (merged (raw_units places)) in
-    let raw : merged (raw_units (p ∷ places)) ≡ onto (word_unit t.says octets) behind = merged-onto (word_unit t.says octets) (Text (run_text p (begins_encoded places)) ∷ raw_units places) in
-    let same = t.units behind in
+    let following : List UnitValue = with_text (cond (is_some t.says && begins_encoded places) [] (gap_before items)) (merged (raw_units places)) in
+    let raw : merged (raw_units (p ∷ places)) ≡ onto (word_unit t.says octets) following = merged-onto (word_unit t.says octets) (Text (run_text p (begins_encoded places)) ∷ raw_units places) in
+    let same = t.units following in
     rw (t.encoded_is, same, t.encoded_is, run_is first free, ← raw) has
 
 dot_octets : (octets : List ℕ) → is_special_of 46 (record { kind = Special; octets = octets }) ≡ true → octets ≡ 46 ∷ []
@@ -73,15 +73,15 @@ pub token_turn : (kind : TokenKind) (octets : List ℕ) (phrase items : List Phr
     → may_stand_in_phrase (record { kind = kind; octets = octets }) ≡ true → is_blank_token (record { kind = kind; octets = octets }) ≡ false
     → TakesPart old new (cond (free && not first) (32 ∷ []) []) was (said_content kind octets) ((free && next) && is_atom_kind kind) encoded
     → begins_free items ≡ next → SoFar phrase given old first free was (item_of kind octets ∷ items) → SoFar phrase given new false false encoded items
-token_turn Atom octets phrase items given old new first free was next encoded may word t free_behind reads =
-    word_turn phrase items given octets old new first free was (free && begins_free items) encoded (rw (free_behind) (rw (and_true (free && next)) at t)) (λ p places is are. reads (p ∷ places) (is, are))
-token_turn Quoted octets phrase items given old new first free was next encoded may word t free_behind reads =
+token_turn Atom octets phrase items given old new first free was next encoded may word t free_after reads =
+    word_turn phrase items given octets old new first free was (free && begins_free items) encoded (rw (free_after) (rw (and_true (free && next)) at t)) (λ p places is are. reads (p ∷ places) (is, are))
+token_turn Quoted octets phrase items given old new first free was next encoded may word t free_after reads =
     word_turn phrase items given (said_content Quoted octets) old new first free was false encoded (rw (and_false (free && next)) at t) (λ p places is are. reads (p ∷ places) (is, are))
-token_turn Special octets phrase items given old new first free was next encoded may word t free_behind reads =
+token_turn Special octets phrase items given old new first free was next encoded may word t free_after reads =
     word_turn phrase items given (46 ∷ []) old new first free was false encoded (rw (and_false (free && next), dot_octets octets may) at t) (λ p places is are. reads (p ∷ places) (is, are))
-token_turn Literal octets phrase items given old new first free was next encoded may word t free_behind reads = cc may
-token_turn Gap octets phrase items given old new first free was next encoded may word t free_behind reads = cc word
-token_turn Comment octets phrase items given old new first free was next encoded may word t free_behind reads = cc word
+token_turn Literal octets phrase items given old new first free was next encoded may word t free_after reads = cc may
+token_turn Gap octets phrase items given old new first free was next encoded may word t free_after reads = cc word
+token_turn Comment octets phrase items given old new first free was next encoded may word t free_after reads = cc word
 
 pub blank_item : (kind : TokenKind) (octets : List ℕ) → is_blank_token (record { kind = kind; octets = octets }) ≡ true → item_of kind octets ≡ Separator
 blank_item Gap octets h = refl
@@ -131,15 +131,15 @@ given_writable phrase items given r utf8 reads =
 
 -- ---- token by token
 
-pub token_stands : (rest behind : List TokenValue) (t : TokenValue) → rest ≡ t ∷ behind → list_all may_stand_in_phrase rest ≡ true → may_stand_in_phrase t ≡ true
-token_stands rest behind t e all = (and_parts (may_stand_in_phrase t) (list_all may_stand_in_phrase behind) (rw (e) at all)).0
+pub token_stands : (rest following : List TokenValue) (t : TokenValue) → rest ≡ t ∷ following → list_all may_stand_in_phrase rest ≡ true → may_stand_in_phrase t ≡ true
+token_stands rest following t e all = (and_parts (may_stand_in_phrase t) (list_all may_stand_in_phrase following) (rw (e) at all)).0
 
-pub rest_stands : (rest behind : List TokenValue) (t : TokenValue) → rest ≡ t ∷ behind → list_all may_stand_in_phrase rest ≡ true → list_all may_stand_in_phrase behind ≡ true
-rest_stands rest behind t e all = (and_parts (may_stand_in_phrase t) (list_all may_stand_in_phrase behind) (rw (e) at all)).1
+pub rest_stands : (rest following : List TokenValue) (t : TokenValue) → rest ≡ t ∷ following → list_all may_stand_in_phrase rest ≡ true → list_all may_stand_in_phrase following ≡ true
+rest_stands rest following t e all = (and_parts (may_stand_in_phrase t) (list_all may_stand_in_phrase following) (rw (e) at all)).1
 
-pub token_reads : (phrase : List PhraseItem) (given : List UnitValue) (r : PhraseReader) (rest behind : List TokenValue) (t : TokenValue) → rest ≡ t ∷ behind → ReadsPhraseOn phrase given r (phrase_items rest)
-    → ReadsPhraseOn phrase given r (item_of t.kind t.octets ∷ phrase_items behind)
-token_reads phrase given r rest behind t e reads = rw (e) at reads
+pub token_reads : (phrase : List PhraseItem) (given : List UnitValue) (r : PhraseReader) (rest following : List TokenValue) (t : TokenValue) → rest ≡ t ∷ following → ReadsPhraseOn phrase given r (phrase_items rest)
+    → ReadsPhraseOn phrase given r (item_of t.kind t.octets ∷ phrase_items following)
+token_reads phrase given r rest following t e reads = rw (e) at reads
 
 pub rest_reads : (phrase : List PhraseItem) (given : List UnitValue) (r : PhraseReader) (rest : List TokenValue) → rest ≡ [] → ReadsPhraseOn phrase given r (phrase_items rest) → HasPhraseUnits phrase (given ++ all_units_then r.units [])
 rest_reads phrase given r rest e reads = end_reads phrase given r (rw (e) at reads)

@@ -6,7 +6,7 @@ use Rattle.std.proofs.lemmas.List.Folds.{list_all-append}
 use Rattle.std.proofs.lemmas.Str.{IsUtf8-nil, IsUtf8-append}
 use Rattle.std.specs.List.{AllByRecursion, list_all}
 use Rattle.std.specs.Str.{IsUtf8}
-use Rattle.encoded_words.proofs.WritableUnits.{behind_ascii, before_ascii}
+use Rattle.encoded_words.proofs.WritableUnits.{following_ascii, before_ascii}
 use Rattle.field_tokens.specs.declared.Style.TheVariants.{Mail}
 use Rattle.field_tokens.specs.declared.TokenKind.{TokenKind}
 use Rattle.field_tokens.specs.declared.TokenKind.TheVariants.{Atom, Quoted, Literal, Special, Gap, Comment}
@@ -65,7 +65,7 @@ content_utf8 Gap octets rest is u = IsUtf8-nil
 content_utf8 Comment octets rest is u = IsUtf8-nil
 content_utf8 Quoted octets rest is u =
     let inside : List ℕ = inside_octets quoted_marks is.inside in
-    let within : IsUtf8 (inside ++ 34 ∷ []) = behind_ascii 34 (inside ++ 34 ∷ []) (omega arith) (rw (is.spelled) at u) in
+    let within : IsUtf8 (inside ++ 34 ∷ []) = following_ascii 34 (inside ++ 34 ∷ []) (omega arith) (rw (is.spelled) at u) in
     rw (inner-group octets inside is.spelled) (unquoted_utf8 inside (before_ascii inside (34 ∷ []) (omega arith) within).front)
 
 content_line : (kind : TokenKind) (octets rest : List ℕ) → IsToken Mail kind octets rest → list_all is_line_octet octets ≡ true → list_all is_line_octet (said_content kind octets) ≡ true

@@ -6,7 +6,7 @@ use Rattle.std.proofs.lemmas.List.{append_assoc}
 use Rattle.std.proofs.lemmas.Str.{IsUtf8-append}
 use Rattle.std.specs.List.{flat_map}
 use Rattle.std.specs.Str.{IsUtf8}
-use Rattle.encoded_words.proofs.WritableUnits.{one_ascii, behind_ascii, before_ascii}
+use Rattle.encoded_words.proofs.WritableUnits.{one_ascii, following_ascii, before_ascii}
 use Rattle.address_grammar.specs.private.Lexemes.{unquoted}
 use Rattle.address_grammar.specs.Addresses.{quoted_octet}
 
@@ -21,7 +21,7 @@ unquoted_from true front (x ∷ octets) u =
 unquoted_from false front (x ∷ octets) u = elim (cases_Bool (eqb x 92)) [
   | inl mark ↦
       let cut = before_ascii front (x ∷ octets) (is_backslash x mark) u in
-      rw (mark) (unquoted_from true front octets (IsUtf8-append front octets cut.front (behind_ascii x octets (is_backslash x mark) cut.rest)))
+      rw (mark) (unquoted_from true front octets (IsUtf8-append front octets cut.front (following_ascii x octets (is_backslash x mark) cut.rest)))
   | inr other ↦
       rw (other) (rw (append_assoc front (x ∷ []) (unquoted false octets)) at (unquoted_from false (front ++ x ∷ []) octets (rw (append_assoc front (x ∷ []) octets) u)))
 ]
@@ -38,7 +38,7 @@ quoted_from front [] u = u
 quoted_from front (x ∷ octets) u = elim (cases_Bool (eqb x 34 || eqb x 92)) [
   | inl mark ↦
       let cut = before_ascii front (x ∷ octets) (mark_ascii x mark) u in
-      let rest = quoted_from [] octets (behind_ascii x octets (mark_ascii x mark) cut.rest) in
+      let rest = quoted_from [] octets (following_ascii x octets (mark_ascii x mark) cut.rest) in
       rw (mark) (IsUtf8-append front (92 ∷ x ∷ flat_map quoted_octet octets) cut.front
       (IsUtf8-append (92 ∷ []) (x ∷ flat_map quoted_octet octets) (one_ascii 92 (omega arith)) (IsUtf8-append (x ∷ []) (flat_map quoted_octet octets) (one_ascii x (mark_ascii x mark)) rest)))
   | inr other ↦

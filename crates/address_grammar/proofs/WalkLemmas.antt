@@ -4,11 +4,11 @@ use Rattle.std.proofs.lemmas.Bool.{cases_Bool}
 use Rattle.std.proofs.lemmas.List.{append_assoc, append-nil, length-append}
 use Rattle.field_tokens.specs.Tokens.{TokenValue}
 use Rattle.address_grammar.specs.private.Lexemes.{is_special_of}
-use Rattle.address_grammar.specs.private.Walks.{awaited_behind, and_then, walk, SplitsPlace, IsLastPlace}
+use Rattle.address_grammar.specs.private.Walks.{awaited_after, and_then, walk, SplitsPlace, IsLastPlace}
 
 pub walk-append : (a b : List TokenValue) (awaited : Option ℕ) → walk awaited (a ++ b) ≡ and_then (walk awaited a) (λ next. walk next b)
 walk-append [] b awaited = refl
-walk-append (t ∷ a) b awaited = by (awaited_behind awaited t) (walk-append a b)
+walk-append (t ∷ a) b awaited = by (awaited_after awaited t) (walk-append a b)
   where
     by : (next : Option (Option ℕ)) → ((n : Option ℕ) → walk n (a ++ b) ≡ and_then (walk n a) (λ n. walk n b))
         → and_then next (λ n. walk n (a ++ b)) ≡ and_then (and_then next (λ n. walk n a)) (λ n. walk n b)
@@ -20,7 +20,7 @@ pub record IsEnd (awaited : Option ℕ) (t : TokenValue) : Type 0 where
   pub nothing : awaited ≡ None
   pub comma : is_special_of 44 t ≡ true
 
-pub ends_here : (awaited : Option ℕ) (t : TokenValue) → awaited_behind awaited t ≡ None → IsEnd awaited t
+pub ends_here : (awaited : Option ℕ) (t : TokenValue) → awaited_after awaited t ≡ None → IsEnd awaited t
 ends_here (Some mark) t e = elim (cases_Bool (is_special_of mark t)) [
   | inl is ↦ cc (rw (is) at e)
   | inr other ↦ cc (rw (other) at e)
@@ -45,27 +45,27 @@ pub record WalksTo (all : List TokenValue) (awaited : Option ℕ) (rest : List T
 pub walks_start : (ts : List TokenValue) → WalksTo ts None ts
 walks_start ts = record { front = []; whole = refl; walked = refl }
 
-pub walks_turn : (all rest behind : List TokenValue) (t : TokenValue) (awaited next : Option ℕ) → WalksTo all awaited rest → rest ≡ t ∷ behind → awaited_behind awaited t ≡ Some next → WalksTo all next behind
-walks_turn all rest behind t awaited next w e is = record {
+pub walks_turn : (all rest following : List TokenValue) (t : TokenValue) (awaited next : Option ℕ) → WalksTo all awaited rest → rest ≡ t ∷ following → awaited_after awaited t ≡ Some next → WalksTo all next following
+walks_turn all rest following t awaited next w e is = record {
   front = w.front ++ t ∷ [];
-  whole = w.whole ∙ ap (λ r. w.front ++ r) e ∙ sym (append_assoc w.front (t ∷ []) behind);
+  whole = w.whole ∙ ap (λ r. w.front ++ r) e ∙ sym (append_assoc w.front (t ∷ []) following);
   walked = rw (walk-append w.front (t ∷ []) None, w.walked, is) refl;
 }
 
-pub place_ends : (all rest behind place : List TokenValue) (t : TokenValue) (awaited : Option ℕ) → WalksTo all awaited rest → rest ≡ t ∷ behind → awaited_behind awaited t ≡ None
-    → ((front : List TokenValue) → all ≡ front ++ rest → place ≡ front) → SplitsPlace all place behind
-place_ends all rest behind place t awaited w e is front_is =
+pub place_ends : (all rest following place : List TokenValue) (t : TokenValue) (awaited : Option ℕ) → WalksTo all awaited rest → rest ≡ t ∷ following → awaited_after awaited t ≡ None
+    → ((front : List TokenValue) → all ≡ front ++ rest → place ≡ front) → SplitsPlace all place following
+place_ends all rest following place t awaited w e is front_is =
     let front : place ≡ w.front = front_is w.front w.whole in
     let end = ends_here awaited t is in
     record {
       comma = t;
-      whole = w.whole ∙ ap (λ r. w.front ++ r) e ∙ ap (λ r. r ++ t ∷ behind) (sym front);
+      whole = w.whole ∙ ap (λ r. w.front ++ r) e ∙ ap (λ r. r ++ t ∷ following) (sym front);
       is_comma = end.comma;
       walked = ap (walk None) front ∙ w.walked ∙ ap Some end.nothing;
     }
 
-pub place_shorter : (all rest behind : List TokenValue) (t : TokenValue) (awaited : Option ℕ) → WalksTo all awaited rest → rest ≡ t ∷ behind → length behind < length all
-place_shorter all rest behind t awaited w e = omega (arith, ap length w.whole, length-append w.front rest, ap length e)
+pub place_shorter : (all rest following : List TokenValue) (t : TokenValue) (awaited : Option ℕ) → WalksTo all awaited rest → rest ≡ t ∷ following → length following < length all
+place_shorter all rest following t awaited w e = omega (arith, ap length w.whole, length-append w.front rest, ap length e)
 
 pub last_place : (all rest : List TokenValue) (awaited : Option ℕ) → WalksTo all awaited rest → rest ≡ [] → IsLastPlace all
 last_place all rest awaited w e =

@@ -21,23 +21,23 @@ pub members_malformed : (ts : List TokenValue) → are_blank ts ≡ false → ((
 members_malformed ts not_blank none ms (inl is) = both_ways (are_blank ts) not_blank is.0
 members_malformed ts not_blank none ms (inr is) = none ms is
 
-pub group_unclosed : (before behind : List TokenValue) → lacks_special 59 behind ≡ true → (e : ElementValue) → SaysGroup before behind e → ⊥
-group_unclosed before behind l (One m) is = is
-group_unclosed before behind l (Group name ms) is = not_lacking 59 is.inner is.after is.semicolon is.is_semicolon (rw (is.whole) at l)
+pub group_unclosed : (before following : List TokenValue) → lacks_special 59 following ≡ true → (e : ElementValue) → SaysGroup before following e → ⊥
+group_unclosed before following l (One m) is = is
+group_unclosed before following l (Group name ms) is = not_lacking 59 is.inner is.after is.semicolon is.is_semicolon (rw (is.whole) at l)
 
-pub group_followed : (before behind inner after : List TokenValue) → SplitsAt 59 behind inner after → are_blank after ≡ false → (e : ElementValue) → SaysGroup before behind e → ⊥
-group_followed before behind inner after s not_blank (One m) is = is
-group_followed before behind inner after s not_blank (Group name ms) is = both_ways (are_blank after) not_blank (group_inner before behind inner after name ms s is).0
+pub group_followed : (before following inner after : List TokenValue) → SplitsAt 59 following inner after → are_blank after ≡ false → (e : ElementValue) → SaysGroup before following e → ⊥
+group_followed before following inner after s not_blank (One m) is = is
+group_followed before following inner after s not_blank (Group name ms) is = both_ways (are_blank after) not_blank (group_inner before following inner after name ms s is).0
 
-pub group_members : (before behind inner after : List TokenValue) → SplitsAt 59 behind inner after → ((ms : List MailboxValue) → AreMembers inner ms → ⊥) → (e : ElementValue) → SaysGroup before behind e → ⊥
-group_members before behind inner after s none (One m) is = is
-group_members before behind inner after s none (Group name ms) is = none ms (group_inner before behind inner after name ms s is).1
+pub group_members : (before following inner after : List TokenValue) → SplitsAt 59 following inner after → ((ms : List MailboxValue) → AreMembers inner ms → ⊥) → (e : ElementValue) → SaysGroup before following e → ⊥
+group_members before following inner after s none (One m) is = is
+group_members before following inner after s none (Group name ms) is = none ms (group_inner before following inner after name ms s is).1
 
 single_mailbox : (ts : List TokenValue) → ((m : MailboxValue) → IsMailbox ts m → ⊥) → (e : ElementValue) → SaysSingle ts e → ⊥
 single_mailbox ts none (One m) is = none m is
 single_mailbox ts none (Group name ms) is = is
 
-pub single_malformed : (ts : List TokenValue) → ((before behind : List TokenValue) → SplitsName ts before behind → ⊥) → ((m : MailboxValue) → IsMailbox ts m → ⊥) → (e : ElementValue) → IsElement ts e → ⊥
+pub single_malformed : (ts : List TokenValue) → ((before following : List TokenValue) → SplitsName ts before following → ⊥) → ((m : MailboxValue) → IsMailbox ts m → ⊥) → (e : ElementValue) → IsElement ts e → ⊥
 single_malformed ts unnamed none e is = single_mailbox ts none e (element_single ts e unnamed is)
 
 -- ---- whole texts

@@ -82,12 +82,12 @@ dotted_writes (w ∷ []) h s more rest stops are =
 dotted_writes (w ∷ d ∷ ws) h s more rest stops are =
     let parts = and_parts (is_part false w) (is_special_of 46 d && are_dotted (is_part false) ws) h in
     let others = and_parts (is_special_of 46 d) (are_dotted (is_part false) ws) parts.1 in
-    let behind : AreTokens Mail (ws ++ more) (contents ws ++ rest) = dotted_writes ws others.1 s.1.1 more rest stops are in
+    let following : AreTokens Mail (ws ++ more) (contents ws ++ rest) = dotted_writes ws others.1 s.1.1 more rest stops are in
     rw (mark_is 46 d others.0) (
       (46 ∷ (contents ws ++ rest)),
       rw (atom_content w.kind w.octets parts.0) (append_assoc w.octets (46 ∷ contents ws) rest),
       atom_token w.kind w.octets (46 ∷ (contents ws ++ rest)) parts.0 s.0 refl,
-      (contents ws ++ rest, refl, (46, refl, refl), behind),
+      (contents ws ++ rest, refl, (46, refl, refl), following),
     )
 
 -- ---- domains
@@ -324,9 +324,9 @@ mark m = record { kind = Special; octets = m ∷ [] }
 pub path_of_parts : (l d : List ℕ) (local domain : List TokenValue) (a : Address) → IsLine (in_angles (l ++ 64 ∷ d)) → Writes l local → Writes d domain
     → IsLocal local → is_domain domain ≡ true → a.local ≡ contents local → a.domain ≡ contents domain → HasPath (in_angles (l ++ 64 ∷ d)) (Some a)
 path_of_parts l d local domain a line local_writes domain_writes local_is domain_is p q =
-    let behind : AreTokens Mail (domain ++ mark 62 ∷ []) (d ++ 62 ∷ []) = domain_writes.are_tokens (mark 62 ∷ []) (62 ∷ []) refl ([], refl, (62, refl, refl), refl) in
+    let following : AreTokens Mail (domain ++ mark 62 ∷ []) (d ++ 62 ∷ []) = domain_writes.are_tokens (mark 62 ∷ []) (62 ∷ []) refl ([], refl, (62, refl, refl), refl) in
     let all : AreTokens Mail (local ++ mark 64 ∷ (domain ++ mark 62 ∷ [])) (l ++ 64 ∷ (d ++ 62 ∷ [])) =
-    local_writes.are_tokens (mark 64 ∷ (domain ++ mark 62 ∷ [])) (64 ∷ (d ++ 62 ∷ [])) refl (d ++ 62 ∷ [], refl, (64, refl, refl), behind) in
+    local_writes.are_tokens (mark 64 ∷ (domain ++ mark 62 ∷ [])) (64 ∷ (d ++ 62 ∷ [])) refl (d ++ 62 ∷ [], refl, (64, refl, refl), following) in
     let text : (l ++ 64 ∷ d) ++ 62 ∷ [] ≡ l ++ 64 ∷ (d ++ 62 ∷ []) = append_assoc l (64 ∷ d) (62 ∷ []) in
     record {
       tokens = mark 60 ∷ (local ++ mark 64 ∷ (domain ++ mark 62 ∷ []));
@@ -344,7 +344,7 @@ path_of_parts l d local domain a line local_writes domain_writes local_is domain
           whole = ap (λ r. mark 60 ∷ r) (sym (append_assoc local (mark 64 ∷ domain) (mark 62 ∷ [])));
           opens = refl;
           closes = refl;
-          behind = refl;
+          following = refl;
         };
         nothing_before = refl;
         holds = record {
@@ -383,5 +383,5 @@ path_again a comes =
     let path = comes.1 in
     let sound = tokens_sound path.tokens comes.0 path.has_tokens.are_tokens path.has_tokens.is_line in
     let angled = path.is_path.angled in
-    let behind = (sound_rest path.is_path.before (angled.open_mark ∷ (path.is_path.inner ++ angled.close_mark ∷ angled.after)) (rw (angled.whole) at sound)).1 in
-    address_again path.is_path.inner a (sound_front path.is_path.inner (angled.close_mark ∷ angled.after) behind) path.is_path.holds
+    let following = (sound_rest path.is_path.before (angled.open_mark ∷ (path.is_path.inner ++ angled.close_mark ∷ angled.after)) (rw (angled.whole) at sound)).1 in
+    address_again path.is_path.inner a (sound_front path.is_path.inner (angled.close_mark ∷ angled.after) following) path.is_path.holds

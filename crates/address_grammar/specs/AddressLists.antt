@@ -1,6 +1,7 @@
 -- Lists of addresses (RFC 5322, 3.4 and 4.4).
 use Rattle.std.specs.Prelude.{◌≡◌, ℕ, Bool, true, false, ◌⊎◌, List, [], ◌∷◌, ◌++◌, filter}
 use Rattle.std.specs.List.{AllByRecursion}
+use Rattle.mail_wire.specs.Characters.{comma, colon as colon_octet, semicolon as semicolon_octet, at_sign}
 use Rattle.encoded_words.specs.Words.{UnitValue}
 use Rattle.encoded_words.specs.PhraseUnits.{HasPhraseUnits}
 use Rattle.field_tokens.specs.declared.Token.{Token}
@@ -29,24 +30,24 @@ pub record IsHop (tokens : List TokenValue) : Type 0 where
   pub domain : List TokenValue
   pub whole : tokens ≡ before ++ at ∷ domain
   pub nothing_before : are_blank before ≡ true
-  pub is_at : is_special_of 64 at ≡ true
+  pub is_at : is_special_of at_sign at ≡ true
   pub is_domain : is_domain domain ≡ true
 
 -- domains each with `@` before it, divided by commas (RFC 5322, 4.4, obs-domain-list)
 pub record IsRoute (tokens : List TokenValue) : Type 0 where
   pub hops : List (List TokenValue)
-  pub divided : Divided 44 hops tokens
+  pub divided : Divided comma hops tokens
   pub each : AllByRecursion IsHop hops
 
 -- a route, a colon and an address
 pub record IsRouted (tokens : List TokenValue) (address : Address) : Type 0 where
   pub route : List TokenValue
   pub colon : TokenValue
-  pub behind : List TokenValue
-  pub whole : tokens ≡ route ++ colon ∷ behind
-  pub is_colon : is_special_of 58 colon ≡ true
+  pub following : List TokenValue
+  pub whole : tokens ≡ route ++ colon ∷ following
+  pub is_colon : is_special_of colon_octet colon ≡ true
   pub is_route : IsRoute route
-  pub is_address : IsAddress behind address
+  pub is_address : IsAddress following address
 
 -- The value of a mailbox. A route is no part of it.
 pub record MailboxValue : Type 0 where
@@ -93,7 +94,7 @@ SayParts {E = E} Says (part ∷ parts) values = (first : List E) × (others : Li
 -- the tokens are parts divided by commas, and say this
 pub record AreDivided {E : Type 0} (Says : List TokenValue → List E → Type 0) (tokens : List TokenValue) (values : List E) : Type 0 where
   pub parts : List (List TokenValue)
-  pub divided : Divided 44 parts tokens
+  pub divided : Divided comma parts tokens
   pub say : SayParts Says parts values
 
 -- The tokens are one mailbox, and the list is of it alone.
@@ -114,12 +115,12 @@ pub data ElementValue : Type 0 where
   Group : List UnitValue → List MailboxValue → ElementValue
 
 -- a name, and members and `;` behind its colon
-pub record IsGroupBy (before behind : List TokenValue) (name : List UnitValue) (members : List MailboxValue) : Type 0 where
+pub record IsGroupBy (before following : List TokenValue) (name : List UnitValue) (members : List MailboxValue) : Type 0 where
   pub inner : List TokenValue
   pub semicolon : TokenValue
   pub after : List TokenValue
-  pub whole : behind ≡ inner ++ semicolon ∷ after
-  pub is_semicolon : is_special_of 59 semicolon ≡ true
+  pub whole : following ≡ inner ++ semicolon ∷ after
+  pub is_semicolon : is_special_of semicolon_octet semicolon ≡ true
   pub nothing_after : are_blank after ≡ true
   pub is_phrase : IsPhrase before
   pub says : HasPhraseUnits (phrase_items before) name
@@ -129,10 +130,10 @@ pub record IsGroupBy (before behind : List TokenValue) (name : List UnitValue) (
 pub record IsGroup (tokens : List TokenValue) (name : List UnitValue) (members : List MailboxValue) : Type 0 where
   pub before : List TokenValue
   pub colon : TokenValue
-  pub behind : List TokenValue
-  pub whole : tokens ≡ before ++ colon ∷ behind
-  pub is_colon : is_special_of 58 colon ≡ true
-  pub group : IsGroupBy before behind name members
+  pub following : List TokenValue
+  pub whole : tokens ≡ before ++ colon ∷ following
+  pub is_colon : is_special_of colon_octet colon ≡ true
+  pub group : IsGroupBy before following name members
 
 -- The tokens are a mailbox or a group, and say this (address of RFC 5322, 3.4).
 abbrev pub IsElement : List TokenValue → ElementValue → Type 0

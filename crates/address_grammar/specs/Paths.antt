@@ -1,5 +1,6 @@
 -- Paths (RFC 5321, 4.1.2, without source routes).
 use Rattle.std.specs.Prelude.{◌≡◌, ℕ, true, List, [], ◌∷◌, ◌++◌, Option, Some, None}
+use Rattle.mail_wire.specs.Characters.{less_than, greater_than}
 use Rattle.field_tokens.specs.Tokens.{TokenValue}
 use Rattle.address_grammar.specs.declared.Address.{Address}
 use Rattle.address_grammar.specs.private.Lexemes.{HasMailTokens, is_special_of, lacks_special, are_blank}
@@ -11,15 +12,15 @@ pub record IsAngled (tokens before inner : List TokenValue) : Type 0 where
   pub close_mark : TokenValue
   pub after : List TokenValue
   pub whole : tokens ≡ before ++ open_mark ∷ (inner ++ close_mark ∷ after)
-  pub opens : is_special_of 60 open_mark ≡ true
-  pub closes : is_special_of 62 close_mark ≡ true
-  pub behind : are_blank after ≡ true
+  pub opens : is_special_of less_than open_mark ≡ true
+  pub closes : is_special_of greater_than close_mark ≡ true
+  pub following : are_blank after ≡ true
 
 -- The tokens have their first angle brackets here: these stand before them, and these within.
 pub record IsFirstAngled (tokens before inner : List TokenValue) : Type 0 where
   pub angled : IsAngled tokens before inner
-  pub first_open : lacks_special 60 before ≡ true
-  pub first_close : lacks_special 62 inner ≡ true
+  pub first_open : lacks_special less_than before ≡ true
+  pub first_close : lacks_special greater_than inner ≡ true
 
 -- nothing, or an address
 abbrev pub IsPathOf : List TokenValue → Option Address → Type 0
@@ -46,7 +47,7 @@ ComesInPath address = (text : List ℕ) × HasPath text (Some address)
 
 -- The octets between angle brackets.
 abbrev pub in_angles : List ℕ → List ℕ
-in_angles octets = 60 ∷ (octets ++ 62 ∷ [])
+in_angles octets = less_than ∷ (octets ++ greater_than ∷ [])
 
 -- what a text says that may be a path
 abbrev pub IsReading : List ℕ → Option (Option Address) → Type 0

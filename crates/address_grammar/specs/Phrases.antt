@@ -1,6 +1,7 @@
 -- Phrases (RFC 5322, 3.2.5 and 4.1).
 use Rattle.std.specs.Prelude.{◌≡◌, ℕ, Bool, true, false, ◌||◌, List, [], map}
 use Rattle.std.specs.List.{list_all}
+use Rattle.mail_wire.specs.Characters.{dot}
 use Rattle.field_tokens.specs.declared.TokenKind.{TokenKind}
 use Rattle.field_tokens.specs.declared.TokenKind.TheVariants.{Atom, Quoted, Literal, Special, Gap, Comment}
 use Rattle.field_tokens.specs.Tokens.{TokenValue}
@@ -10,7 +11,7 @@ use Rattle.address_grammar.specs.private.Lexemes.{is_blank_token, are_blank, is_
 
 -- an atom, a quoted string or a dot, or what separates them
 abbrev pub may_stand_in_phrase : TokenValue → Bool
-may_stand_in_phrase t = is_blank_token t || (is_word t || is_special_of 46 t)
+may_stand_in_phrase t = is_blank_token t || (is_word t || is_special_of dot t)
 
 -- one or more words and dots, with gaps and comments anywhere
 pub record IsPhrase (tokens : List TokenValue) : Type 0 where

@@ -60,8 +60,8 @@ fn are_dotted(lexemes: Lexemes<'_, '_>, allows_quoted: bool) -> bool
     let Some(mut rest) = part_rest(lexemes, allows_quoted) else {
         return false;
     };
-    while let Some(behind) = dot_rest(rest) {
-        let Some(after) = part_rest(behind, allows_quoted) else {
+    while let Some(following) = dot_rest(rest) {
+        let Some(after) = part_rest(following, allows_quoted) else {
             return false;
         };
         rest = after;

@@ -42,11 +42,11 @@ pub fn are_blank(lexemes: Lexemes<'_, '_>) -> bool
     ensures { result ≡ are_blank_of (values_of lexemes.entry) }
 {
     let mut rest = lexemes;
-    while let Some((lexeme, behind)) = rest.split_first() {
+    while let Some((lexeme, following)) = rest.split_first() {
         if !is_blank(lexeme) {
             return false;
         }
-        rest = behind;
+        rest = following;
     }
     true
 }
@@ -58,11 +58,11 @@ pub fn first_word<'a, 'b>(lexemes: Lexemes<'a, 'b>) -> Option<(Lexeme<'a>, Lexem
     ensures none { IfNone result (words_of (values_of lexemes.entry) ≡ []) }
 {
     let mut rest = lexemes;
-    while let Some((lexeme, behind)) = rest.split_first() {
+    while let Some((lexeme, following)) = rest.split_first() {
         if !is_blank(lexeme) {
-            return Some((lexeme, behind));
+            return Some((lexeme, following));
         }
-        rest = behind;
+        rest = following;
     }
     None
 }
@@ -85,11 +85,11 @@ pub fn split_at_mark<'a, 'b>(
     ensures none { IfNone result (lacks_special mark (values_of lexemes.entry) ≡ true) }
 {
     let mut rest = lexemes;
-    while let Some((lexeme, behind)) = rest.split_first() {
+    while let Some((lexeme, following)) = rest.split_first() {
         if is_mark(lexeme, mark) {
-            return Some((front_before(lexemes, rest), behind));
+            return Some((front_before(lexemes, rest), following));
         }
-        rest = behind;
+        rest = following;
     }
     None
 }
@@ -179,9 +179,9 @@ fn room_for(alloc: Global, lexemes: Lexemes<'_, '_>) -> Result<Octets, Memory>
 {
     let mut room = 0usize;
     let mut rest = lexemes;
-    while let Some((lexeme, behind)) = rest.split_first() {
+    while let Some((lexeme, following)) = rest.split_first() {
         room = room.saturating_add(lexeme.octets.len());
-        rest = behind;
+        rest = following;
     }
     Ok(Octets::from_vec(Vec::with_capacity(alloc, room)?))
 }
@@ -201,9 +201,9 @@ pub fn contents(alloc: Global, lexemes: Lexemes<'_, '_>) -> Result<Octets, Memor
 {
     let mut made = room_for(alloc, lexemes)?;
     let mut rest = lexemes;
-    while let Some((lexeme, behind)) = rest.split_first() {
+    while let Some((lexeme, following)) = rest.split_first() {
         push_content(&mut made, lexeme)?;
-        rest = behind;
+        rest = following;
     }
     Ok(made)
 }

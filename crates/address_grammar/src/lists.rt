@@ -39,9 +39,9 @@ fn read_mailboxes(alloc: Global, lexemes: Lexemes<'_, '_>) -> Result<Vec<Mailbox
 {
     let mut made = Vec::new(alloc);
     let mut rest = lexemes;
-    while let Some((part, behind)) = split_place(rest) {
+    while let Some((part, following)) = split_place(rest) {
         push_mailbox(alloc, &mut made, part)?;
-        rest = behind;
+        rest = following;
     }
     push_mailbox(alloc, &mut made, rest)?;
     Ok(made)
@@ -63,13 +63,13 @@ fn read_members(alloc: Global, lexemes: Lexemes<'_, '_>) -> Result<Mailboxes, Ad
 /// and its members.
 pub fn split_name<'a, 'b>(lexemes: Lexemes<'a, 'b>) -> Option<(Lexemes<'a, 'b>, Lexemes<'a, 'b>)>
     ensures found { IfSome result (λ x. SplitsName (values_of lexemes.entry) (values_of x.0) (values_of x.1)) }
-    ensures none { IfNone result ((before behind : List TokenValue) → ¬ SplitsName (values_of lexemes.entry) before behind) }
+    ensures none { IfNone result ((before following : List TokenValue) → ¬ SplitsName (values_of lexemes.entry) before following) }
 {
-    let Some((before, behind)) = split_at_mark(lexemes, b':') else {
+    let Some((before, following)) = split_at_mark(lexemes, b':') else {
         return None;
     };
     if lacks_mark(before, b'<') {
-        Some((before, behind))
+        Some((before, following))
     } else {
         None
     }
@@ -79,12 +79,12 @@ pub fn split_name<'a, 'b>(lexemes: Lexemes<'a, 'b>) -> Option<(Lexemes<'a, 'b>, 
 fn read_group(
     alloc: Global,
     name: Lexemes<'_, '_>,
-    behind: Lexemes<'_, '_>,
+    following: Lexemes<'_, '_>,
 ) -> Result<Element, AddressFault>
-    ensures ok { IfOk result (λ e. SaysGroup (values_of name.entry) (values_of behind.entry) (element_value e)) }
-    ensures malformed { result ≡ Err AddressFault.Malformed → (e : ElementValue) → ¬ SaysGroup (values_of name.entry) (values_of behind.entry) e }
+    ensures ok { IfOk result (λ e. SaysGroup (values_of name.entry) (values_of following.entry) (element_value e)) }
+    ensures malformed { result ≡ Err AddressFault.Malformed → (e : ElementValue) → ¬ SaysGroup (values_of name.entry) (values_of following.entry) e }
 {
-    let Some((inner, after)) = split_at_mark(behind, b';') else {
+    let Some((inner, after)) = split_at_mark(following, b';') else {
         return Err(AddressFault::Malformed);
     };
     if !are_blank(after) {
@@ -116,7 +116,7 @@ pub fn read_element(alloc: Global, lexemes: Lexemes<'_, '_>) -> Result<Element, 
     ensures malformed { result ≡ Err AddressFault.Malformed → (e : ElementValue) → ¬ IsElement (values_of lexemes.entry) e }
 {
     match split_name(lexemes) {
-        Some((name, behind)) => read_group(alloc, name, behind),
+        Some((name, following)) => read_group(alloc, name, following),
         None => read_single(alloc, lexemes),
     }
 }
@@ -147,9 +147,9 @@ fn read_elements(alloc: Global, lexemes: Lexemes<'_, '_>) -> Result<Vec<Element>
 {
     let mut made = Vec::new(alloc);
     let mut rest = lexemes;
-    while let Some((place, behind)) = split_place(rest) {
+    while let Some((place, following)) = split_place(rest) {
         push_place(alloc, &mut made, place)?;
-        rest = behind;
+        rest = following;
     }
     push_place(alloc, &mut made, rest)?;
     Ok(made)

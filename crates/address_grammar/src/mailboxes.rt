@@ -30,11 +30,11 @@ fn is_route(lexemes: Lexemes<'_, '_>) -> bool
     ensures { IsTrue result ↔ IsRoute (values_of lexemes.entry) }
 {
     let mut rest = lexemes;
-    while let Some((hop, behind)) = split_at_mark(rest, b',') {
+    while let Some((hop, following)) = split_at_mark(rest, b',') {
         if !is_hop(hop) {
             return false;
         }
-        rest = behind;
+        rest = following;
     }
     is_hop(rest)
 }
@@ -45,9 +45,9 @@ fn read_routed(alloc: Global, lexemes: Lexemes<'_, '_>) -> Result<Address, Addre
     ensures malformed { result ≡ Err AddressFault.Malformed → (address : Address) → ¬ IsRoutedOrNot (values_of lexemes.entry) address }
 {
     match split_at_mark(lexemes, b':') {
-        Some((route, behind)) => {
+        Some((route, following)) => {
             if is_route(route) {
-                read_address(alloc, behind)
+                read_address(alloc, following)
             } else {
                 Err(AddressFault::Malformed)
             }

@@ -23,10 +23,10 @@ pub fn split_angled<'a, 'b>(lexemes: Lexemes<'a, 'b>) -> Option<(Lexemes<'a, 'b>
     ensures found { IfSome result (λ x. IsFirstAngled (values_of lexemes.entry) (values_of x.0) (values_of x.1)) }
     ensures none { IfNone result ((before inner : List TokenValue) → ¬ IsFirstAngled (values_of lexemes.entry) before inner) }
 {
-    let Some((before, behind)) = split_at_mark(lexemes, b'<') else {
+    let Some((before, following)) = split_at_mark(lexemes, b'<') else {
         return None;
     };
-    let Some((inner, after)) = split_at_mark(behind, b'>') else {
+    let Some((inner, after)) = split_at_mark(following, b'>') else {
         return None;
     };
     if !are_blank(after) {

@@ -26,11 +26,11 @@ fn all_stand_in_phrase(lexemes: Lexemes<'_, '_>) -> bool
     ensures { result ≡ list_all may_stand_of (values_of lexemes.entry) }
 {
     let mut rest = lexemes;
-    while let Some((lexeme, behind)) = rest.split_first() {
+    while let Some((lexeme, following)) = rest.split_first() {
         if !may_stand_in_phrase(lexeme) {
             return false;
         }
-        rest = behind;
+        rest = following;
     }
     true
 }
@@ -42,10 +42,10 @@ pub fn is_phrase(lexemes: Lexemes<'_, '_>) -> bool
 }
 
 // One space where words stand apart.
-fn space(is_apart: bool) -> &'static [u8]
-    ensures { result.now ≡ (if is_apart then 32 ∷ [] else []) }
+fn space(has_space_before: bool) -> &'static [u8]
+    ensures { result.now ≡ (if has_space_before then 32 ∷ [] else []) }
 {
-    if is_apart { b" " } else { b"" }
+    if has_space_before { b" " } else { b"" }
 }
 
 // Takes a word and the run before it, and answers whether it is an encoded word.
@@ -122,7 +122,7 @@ impl PhraseReader {
     }
 
     // Whether a space stands before the next word.
-    fn is_apart(&self) -> bool
+    fn has_space_before(&self) -> bool
         ensures { result ≡ (self.now.is_free && not self.now.is_first) }
     {
         self.is_free && !self.is_first
@@ -144,7 +144,7 @@ impl PhraseReader {
             self.is_free = true;
             return Ok(());
         }
-        let run = space(self.is_apart());
+        let run = space(self.has_space_before());
         let may_be_encoded = self.may_be_encoded(lexeme, is_next_free);
         self.after_encoded = push_said(
             alloc,
@@ -164,12 +164,12 @@ impl PhraseReader {
         &mut self,
         alloc: Global,
         lexeme: Lexeme<'_>,
-        behind: Lexemes<'_, '_>,
+        following: Lexemes<'_, '_>,
     ) -> Result<Vec<Unit>, Memory>
         requires { may_stand_of (value_of lexeme) ≡ true }
-        ensures { IfOk result (λ said. ReadsToken self.old self.new (value_of lexeme.entry) (values_of behind.entry) (unit_values said.items)) }
+        ensures { IfOk result (λ said. ReadsToken self.old self.new (value_of lexeme.entry) (values_of following.entry) (unit_values said.items)) }
     {
-        self.take(alloc, lexeme, begins_free(behind))?;
+        self.take(alloc, lexeme, begins_free(following))?;
         Ok(self.units.take_done(alloc))
     }
 
@@ -200,9 +200,9 @@ pub fn read_phrase(alloc: Global, lexemes: Lexemes<'_, '_>) -> Result<Vec<Unit>,
 {
     let mut reader = PhraseReader::new(alloc);
     let mut rest = lexemes;
-    while let Some((lexeme, behind)) = rest.split_first() {
-        reader.take(alloc, lexeme, begins_free(behind))?;
-        rest = behind;
+    while let Some((lexeme, following)) = rest.split_first() {
+        reader.take(alloc, lexeme, begins_free(following))?;
+        rest = following;
     }
     reader.finish(alloc)
 }

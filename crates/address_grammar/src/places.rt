@@ -1,15 +1,15 @@
 //! Where the places of a list end.
 ghost use Rattle.std.specs.Prelude.{◌≡◌, ◌<◌, length, IfSome, IfNone};
 ghost use Rattle.field_tokens.specs.Lexemes.{value_of, values_of};
-ghost use Rattle.address_grammar.specs.private.Walks.{awaited_behind as awaited_behind_of, SplitsPlace, IsLastPlace};
+ghost use Rattle.address_grammar.specs.private.Walks.{awaited_after as awaited_after_of, SplitsPlace, IsLastPlace};
 
 use crate::lexemes::{front_before, is_mark};
 use field_tokens::{Lexeme, Lexemes};
 
 // What is awaited behind a token: where nothing is, `>` behind `<` and `;` behind `:`. A comma that ends the place gives
 // nothing.
-fn awaited_behind(awaited: Option<u8>, lexeme: Lexeme<'_>) -> Option<Option<u8>>
-    ensures { result ≡ awaited_behind_of awaited (value_of lexeme.entry) }
+fn awaited_after(awaited: Option<u8>, lexeme: Lexeme<'_>) -> Option<Option<u8>>
+    ensures { result ≡ awaited_after_of awaited (value_of lexeme.entry) }
 {
     match awaited {
         Some(mark) => {
@@ -41,12 +41,12 @@ pub fn split_place<'a, 'b>(lexemes: Lexemes<'a, 'b>) -> Option<(Lexemes<'a, 'b>,
 {
     let mut awaited = None;
     let mut rest = lexemes;
-    while let Some((lexeme, behind)) = rest.split_first() {
-        let Some(next) = awaited_behind(awaited, lexeme) else {
-            return Some((front_before(lexemes, rest), behind));
+    while let Some((lexeme, following)) = rest.split_first() {
+        let Some(next) = awaited_after(awaited, lexeme) else {
+            return Some((front_before(lexemes, rest), following));
         };
         awaited = next;
-        rest = behind;
+        rest = following;
     }
     None
 }

@@ -27,26 +27,26 @@ pub line_grows : (front more old mid new : List ℕ) → mid ≡ old ++ lines_of
 line_grows front more old mid new e f = f ∙ ap (λ r. r ++ more) e ∙ append_assoc old (lines_of (front ∷ [])) more ∙ ap (λ r. old ++ r) (line_onward front more)
 
 -- a comma behind the last piece
-comma_behind : (ps : List (List ℕ)) → ps ≢ [] → lines_of ps ++ 44 ∷ [] ≡ lines_of (with_comma ps)
-comma_behind [] some = absurd (some refl)
-comma_behind (p ∷ []) some = line_onward p (44 ∷ [])
-comma_behind (p ∷ q ∷ ps) some = append_assoc (crlf ++ 32 ∷ p) (lines_of (q ∷ ps)) (44 ∷ []) ∙ ap (λ r. (crlf ++ 32 ∷ p) ++ r) (comma_behind (q ∷ ps) (λ e. cc e))
+comma_after : (ps : List (List ℕ)) → ps ≢ [] → lines_of ps ++ 44 ∷ [] ≡ lines_of (with_comma ps)
+comma_after [] some = absurd (some refl)
+comma_after (p ∷ []) some = line_onward p (44 ∷ [])
+comma_after (p ∷ q ∷ ps) some = append_assoc (crlf ++ 32 ∷ p) (lines_of (q ∷ ps)) (44 ∷ []) ∙ ap (λ r. (crlf ++ 32 ∷ p) ++ r) (comma_after (q ∷ ps) (λ e. cc e))
 
 pub adds_comma : {P Q : List (List ℕ) → Type 0} → {old mid new : List ℕ} → ((ps : List (List ℕ)) → P ps → ps ≢ []) → ((ps : List (List ℕ)) → P ps → Q (with_comma ps)) → AddsLines P old mid → new ≡ mid ++ 44 ∷ [] → AddsLines Q old new
 adds_comma {old = old} some turn a e = record {
   pieces = with_comma a.pieces;
   holds = turn a.pieces a.holds;
   added =
-      e ∙ ap (λ r. r ++ 44 ∷ []) a.added ∙ append_assoc old (lines_of a.pieces) (44 ∷ []) ∙ ap (λ r. old ++ r) (comma_behind a.pieces (some a.pieces a.holds));
+      e ∙ ap (λ r. r ++ 44 ∷ []) a.added ∙ append_assoc old (lines_of a.pieces) (44 ∷ []) ∙ ap (λ r. old ++ r) (comma_after a.pieces (some a.pieces a.holds));
 }
 
 -- what was put behind the old octets
 pub more_added : {P : List (List ℕ) → Type 0} → {old mid new : List ℕ} → AddsLines P old mid → new ≡ mid → (more : List ℕ) × (new ≡ old ++ more)
 more_added a e = (lines_of a.pieces, e ∙ a.added)
 
-pub some_behind : (a b : List (List ℕ)) (x : List ℕ) → a ++ x ∷ b ≢ []
-some_behind [] b x = λ e. cc e
-some_behind (y ∷ a) b x = λ e. cc e
+pub some_after : (a b : List (List ℕ)) (x : List ℕ) → a ++ x ∷ b ≢ []
+some_after [] b x = λ e. cc e
+some_after (y ∷ a) b x = λ e. cc e
 
 all_at : {X Y : Type 0} (P : Y → Type 0) (f : X → Y) (xs : List X) (i : ℕ) (d : X) → AllByRecursion P (map f xs) → i < length xs → P (f (get_or xs i d))
 all_at {X = X} {Y = Y} P f xs i d all h =

@@ -23,16 +23,16 @@ use Rattle.field_tokens.specs.Squeezed.{is_special_kind, words_of}
 
 -- What may be said of tokens with gaps and comments at their ends as well as without.
 pub record StandsAmongBlanks (P : List TokenValue → Type 0) : Type 0 where
-  pub behind_one : (t : TokenValue) (ts : List TokenValue) → is_blank_token t ≡ true → P ts → P (t ∷ ts)
+  pub after_one : (t : TokenValue) (ts : List TokenValue) → is_blank_token t ≡ true → P ts → P (t ∷ ts)
   pub before_one : (ts : List TokenValue) (t : TokenValue) → is_blank_token t ≡ true → P ts → P (ts ++ t ∷ [])
   pub without_first : (t : TokenValue) (ts : List TokenValue) → is_blank_token t ≡ true → P (t ∷ ts) → P ts
   pub without_last : (ts : List TokenValue) (t : TokenValue) → is_blank_token t ≡ true → P (ts ++ t ∷ []) → P ts
 
-pub behind_blanks : (P : List TokenValue → Type 0) → StandsAmongBlanks P → (a ts : List TokenValue) → are_blank a ≡ true → P ts → P (a ++ ts)
-behind_blanks P among [] ts blank p = p
-behind_blanks P among (t ∷ a) ts blank p =
+pub after_blanks : (P : List TokenValue → Type 0) → StandsAmongBlanks P → (a ts : List TokenValue) → are_blank a ≡ true → P ts → P (a ++ ts)
+after_blanks P among [] ts blank p = p
+after_blanks P among (t ∷ a) ts blank p =
     let parts = and_parts (is_blank_token t) (are_blank a) blank in
-    among.behind_one t (a ++ ts) parts.0 (behind_blanks P among a ts parts.1 p)
+    among.after_one t (a ++ ts) parts.0 (after_blanks P among a ts parts.1 p)
 
 pub before_blanks : (P : List TokenValue → Type 0) → StandsAmongBlanks P → (ts b : List TokenValue) → are_blank b ≡ true → P ts → P (ts ++ b)
 before_blanks P among ts [] blank p = rw (append-nil ts) p
@@ -46,14 +46,14 @@ without_front P among (t ∷ a) ts blank p =
     let parts = and_parts (is_blank_token t) (are_blank a) blank in
     without_front P among a ts parts.1 (among.without_first t (a ++ ts) parts.0 p)
 
-without_behind : (P : List TokenValue → Type 0) → StandsAmongBlanks P → (ts b : List TokenValue) → are_blank b ≡ true → P (ts ++ b) → P ts
-without_behind P among ts [] blank p = rw (append-nil ts) at p
-without_behind P among ts (t ∷ b) blank p =
+without_after : (P : List TokenValue → Type 0) → StandsAmongBlanks P → (ts b : List TokenValue) → are_blank b ≡ true → P (ts ++ b) → P ts
+without_after P among ts [] blank p = rw (append-nil ts) at p
+without_after P among ts (t ∷ b) blank p =
     let parts = and_parts (is_blank_token t) (are_blank b) blank in
-    among.without_last ts t parts.0 (without_behind P among (ts ++ t ∷ []) b parts.1 (rw (append_assoc ts (t ∷ []) b) p))
+    among.without_last ts t parts.0 (without_after P among (ts ++ t ∷ []) b parts.1 (rw (append_assoc ts (t ∷ []) b) p))
 
 pub without_blanks : (P : List TokenValue → Type 0) → StandsAmongBlanks P → (a ts b : List TokenValue) → are_blank a ≡ true → are_blank b ≡ true → P (a ++ (ts ++ b)) → P ts
-without_blanks P among a ts b p q h = without_behind P among ts b q (without_front P among a (ts ++ b) p h)
+without_blanks P among a ts b p q h = without_after P among ts b q (without_front P among a (ts ++ b) p h)
 
 -- ---- where a mark stands among blanks
 
@@ -84,7 +84,7 @@ first_before n t ts (k ∷ l) m r blank is e =
     record { left = l; is_left = ap (λ x. x ∷ l) (sym head); whole = tail }
 
 -- the last token stands behind the mark
-record LastBehind (ts : List TokenValue) (t : TokenValue) (l r : List TokenValue) (m : TokenValue) : Type 0 where
+record LastAfter (ts : List TokenValue) (t : TokenValue) (l r : List TokenValue) (m : TokenValue) : Type 0 where
   right : List TokenValue
   is_right : r ≡ right ++ t ∷ []
   whole : ts ≡ l ++ m ∷ right
@@ -93,17 +93,17 @@ nothing_left : (l : List TokenValue) (m : TokenValue) (r : List TokenValue) → 
 nothing_left [] m r e = cc e
 nothing_left (k ∷ l) m r e = cc e
 
-last_behind : (n : ℕ) (ts : List TokenValue) (t : TokenValue) (l : List TokenValue) (m : TokenValue) (r : List TokenValue) → is_blank_token t ≡ true → is_special_of n m ≡ true → ts ++ t ∷ [] ≡ l ++ m ∷ r → LastBehind ts t l r m
-last_behind n [] t [] m r blank is e = absurd (mark_not_blank n t m blank is (cc e))
-last_behind n (u ∷ ts) t [] m r blank is e =
+last_after : (n : ℕ) (ts : List TokenValue) (t : TokenValue) (l : List TokenValue) (m : TokenValue) (r : List TokenValue) → is_blank_token t ≡ true → is_special_of n m ≡ true → ts ++ t ∷ [] ≡ l ++ m ∷ r → LastAfter ts t l r m
+last_after n [] t [] m r blank is e = absurd (mark_not_blank n t m blank is (cc e))
+last_after n (u ∷ ts) t [] m r blank is e =
     let head : u ≡ m = cc e in
     let tail : ts ++ t ∷ [] ≡ r = cc e in
     record { right = ts; is_right = sym tail; whole = ap (λ x. x ∷ ts) head }
-last_behind n [] t (k ∷ l) m r blank is e = let tail : [] ≡ l ++ m ∷ r = cc e in absurd (nothing_left l m r tail)
-last_behind n (u ∷ ts) t (k ∷ l) m r blank is e =
+last_after n [] t (k ∷ l) m r blank is e = let tail : [] ≡ l ++ m ∷ r = cc e in absurd (nothing_left l m r tail)
+last_after n (u ∷ ts) t (k ∷ l) m r blank is e =
     let head : u ≡ k = cc e in
     let tail : ts ++ t ∷ [] ≡ l ++ m ∷ r = cc e in
-    let more = last_behind n ts t l m r blank is tail in
+    let more = last_after n ts t l m r blank is tail in
     record { right = more.right; is_right = more.is_right; whole = ap (λ x. x ∷ ts) head ∙ ap (λ x. k ∷ x) more.whole }
 
 -- ---- addresses
@@ -130,21 +130,21 @@ address_alike ts us a is local domain p q whole = record {
 
 pub address_among : (a : Address) → StandsAmongBlanks (λ ts. IsAddress ts a)
 address_among a = record {
-  behind_one = λ t ts blank is. address_alike ts (t ∷ ts) a is (t ∷ is.local) is.domain (words_first t is.local blank) refl (ap (λ r. t ∷ r) is.whole);
+  after_one = λ t ts blank is. address_alike ts (t ∷ ts) a is (t ∷ is.local) is.domain (words_first t is.local blank) refl (ap (λ r. t ∷ r) is.whole);
   before_one = λ ts t blank is.
       address_alike ts (ts ++ t ∷ []) a is is.local (is.domain ++ t ∷ []) refl (words_last is.domain t blank) (ap (λ r. r ++ t ∷ []) is.whole ∙ append_assoc is.local (is.at ∷ is.domain) (t ∷ []));
   without_first = λ t ts blank is.
       let cut = first_before 64 t ts is.local is.at is.domain blank is.is_at is.whole in
       address_alike (t ∷ ts) ts a is cut.left is.domain (sym (ap words_of cut.is_left ∙ words_first t cut.left blank)) refl cut.whole;
   without_last = λ ts t blank is.
-      let cut = last_behind 64 ts t is.local is.at is.domain blank is.is_at is.whole in
+      let cut = last_after 64 ts t is.local is.at is.domain blank is.is_at is.whole in
       address_alike (ts ++ t ∷ []) ts a is is.local cut.right refl (sym (ap words_of cut.is_right ∙ words_last cut.right t blank)) cut.whole;
 }
 
 -- ---- phrases
 
-pub phrase_behind : (t : TokenValue) (ts : List TokenValue) (us : List UnitValue) → is_blank_token t ≡ true → IsPhrase ts × HasPhraseUnits (phrase_items ts) us → IsPhrase (t ∷ ts) × HasPhraseUnits (phrase_items (t ∷ ts)) us
-phrase_behind t ts us blank says = (
+pub phrase_after : (t : TokenValue) (ts : List TokenValue) (us : List UnitValue) → is_blank_token t ≡ true → IsPhrase ts × HasPhraseUnits (phrase_items ts) us → IsPhrase (t ∷ ts) × HasPhraseUnits (phrase_items (t ∷ ts)) us
+phrase_after t ts us blank says = (
   record { some = rw (blank) says.0.some; each = and_from (may_stand_in_phrase t) (list_all may_stand_in_phrase ts) (rw (blank) refl) says.0.each },
   rw (append-nil (phrase_items ts)) at (HasPhraseUnits-around (phrase_items (t ∷ [])) (phrase_items ts) [] us (blank_separators (t ∷ []) (and_from (is_blank_token t) true blank refl)) tt says.1),
 )
@@ -155,9 +155,9 @@ phrase_without t ts us blank says = (
   HasPhraseUnits-within (phrase_items (t ∷ [])) (phrase_items ts) [] us (blank_separators (t ∷ []) (and_from (is_blank_token t) true blank refl)) tt (rw (append-nil (phrase_items ts)) says.1),
 )
 
-says_behind : (t : TokenValue) (ts : List TokenValue) (phrase : Bool) (us : List UnitValue) → is_blank_token t ≡ true → SaysPhrase ts phrase us → SaysPhrase (t ∷ ts) phrase us
-says_behind t ts true us blank says = phrase_behind t ts us blank says
-says_behind t ts false us blank says = (and_from (is_blank_token t) (are_blank ts) blank says.0, says.1)
+says_after : (t : TokenValue) (ts : List TokenValue) (phrase : Bool) (us : List UnitValue) → is_blank_token t ≡ true → SaysPhrase ts phrase us → SaysPhrase (t ∷ ts) phrase us
+says_after t ts true us blank says = phrase_after t ts us blank says
+says_after t ts false us blank says = (and_from (is_blank_token t) (are_blank ts) blank says.0, says.1)
 
 says_without : (t : TokenValue) (ts : List TokenValue) (phrase : Bool) (us : List UnitValue) → is_blank_token t ≡ true → SaysPhrase (t ∷ ts) phrase us → SaysPhrase ts phrase us
 says_without t ts true us blank says = phrase_without t ts us blank says
@@ -175,7 +175,7 @@ bare_among : (m : MailboxValue) → StandsAmongBlanks (λ ts. IsBare ts m)
 bare_among m =
     let among = address_among m.address in
     record {
-      behind_one = λ t ts blank is. record { is_address = among.behind_one t ts blank is.is_address; phrase = is.phrase; display = is.display; angle = is.angle };
+      after_one = λ t ts blank is. record { is_address = among.after_one t ts blank is.is_address; phrase = is.phrase; display = is.display; angle = is.angle };
       before_one = λ ts t blank is. record { is_address = among.before_one ts t blank is.is_address; phrase = is.phrase; display = is.display; angle = is.angle };
       without_first = λ t ts blank is. record { is_address = among.without_first t ts blank is.is_address; phrase = is.phrase; display = is.display; angle = is.angle };
       without_last = λ ts t blank is. record { is_address = among.without_last ts t blank is.is_address; phrase = is.phrase; display = is.display; angle = is.angle };
@@ -187,40 +187,40 @@ named_alike : (ts us : List TokenValue) (m : MailboxValue) (is : IsNamed ts m) (
 named_alike ts us m is before after says blank whole = record {
   before = before;
   inner = is.inner;
-  angled = record { open_mark = is.angled.open_mark; close_mark = is.angled.close_mark; after = after; whole = whole; opens = is.angled.opens; closes = is.angled.closes; behind = blank };
+  angled = record { open_mark = is.angled.open_mark; close_mark = is.angled.close_mark; after = after; whole = whole; opens = is.angled.opens; closes = is.angled.closes; following = blank };
   named = record { says = says; address = is.named.address; angle = is.named.angle };
 }
 
 named_among : (m : MailboxValue) → StandsAmongBlanks (λ ts. IsNamed ts m)
 named_among m = record {
-  behind_one = λ t ts blank is.
-      named_alike ts (t ∷ ts) m is (t ∷ is.before) is.angled.after (says_behind t is.before m.phrase m.display blank is.named.says) is.angled.behind (ap (λ r. t ∷ r) is.angled.whole);
+  after_one = λ t ts blank is.
+      named_alike ts (t ∷ ts) m is (t ∷ is.before) is.angled.after (says_after t is.before m.phrase m.display blank is.named.says) is.angled.following (ap (λ r. t ∷ r) is.angled.whole);
   before_one = λ ts t blank is.
-      named_alike ts (ts ++ t ∷ []) m is is.before (is.angled.after ++ t ∷ []) is.named.says (blank_more is.angled.after t is.angled.behind blank)
+      named_alike ts (ts ++ t ∷ []) m is is.before (is.angled.after ++ t ∷ []) is.named.says (blank_more is.angled.after t is.angled.following blank)
       (ap (λ r. r ++ t ∷ []) is.angled.whole ∙ append_assoc is.before (is.angled.open_mark ∷ (is.inner ++ is.angled.close_mark ∷ is.angled.after)) (t ∷ [])
       ∙ ap (λ r. is.before ++ is.angled.open_mark ∷ r) (append_assoc is.inner (is.angled.close_mark ∷ is.angled.after) (t ∷ [])));
   without_first = λ t ts blank is.
       let cut = first_before 60 t ts is.before is.angled.open_mark (is.inner ++ is.angled.close_mark ∷ is.angled.after) blank is.angled.opens is.angled.whole in
-      named_alike (t ∷ ts) ts m is cut.left is.angled.after (says_without t cut.left m.phrase m.display blank (subst (λ r. SaysPhrase r m.phrase m.display) cut.is_left is.named.says)) is.angled.behind cut.whole;
+      named_alike (t ∷ ts) ts m is cut.left is.angled.after (says_without t cut.left m.phrase m.display blank (subst (λ r. SaysPhrase r m.phrase m.display) cut.is_left is.named.says)) is.angled.following cut.whole;
   without_last = λ ts t blank is.
       let whole : ts ++ t ∷ [] ≡ (is.before ++ is.angled.open_mark ∷ is.inner) ++ is.angled.close_mark ∷ is.angled.after
       = is.angled.whole ∙ sym (append_assoc is.before (is.angled.open_mark ∷ is.inner) (is.angled.close_mark ∷ is.angled.after)) in
-      let cut = last_behind 62 ts t (is.before ++ is.angled.open_mark ∷ is.inner) is.angled.close_mark is.angled.after blank is.angled.closes whole in
-      named_alike (ts ++ t ∷ []) ts m is is.before cut.right is.named.says (blank_less cut.right t (subst (λ r. are_blank r ≡ true) cut.is_right is.angled.behind))
+      let cut = last_after 62 ts t (is.before ++ is.angled.open_mark ∷ is.inner) is.angled.close_mark is.angled.after blank is.angled.closes whole in
+      named_alike (ts ++ t ∷ []) ts m is is.before cut.right is.named.says (blank_less cut.right t (subst (λ r. are_blank r ≡ true) cut.is_right is.angled.following))
       (cut.whole ∙ append_assoc is.before (is.angled.open_mark ∷ is.inner) (is.angled.close_mark ∷ cut.right));
 }
 
 pub mailbox_among : (m : MailboxValue) → StandsAmongBlanks (λ ts. IsMailbox ts m)
 mailbox_among m = record {
-  behind_one = λ t ts blank is. by_behind t ts blank is;
+  after_one = λ t ts blank is. by_after t ts blank is;
   before_one = λ ts t blank is. by_before ts t blank is;
   without_first = λ t ts blank is. by_first t ts blank is;
   without_last = λ ts t blank is. by_last ts t blank is;
 }
   where
-    by_behind : (t : TokenValue) (ts : List TokenValue) → is_blank_token t ≡ true → IsMailbox ts m → IsMailbox (t ∷ ts) m
-    by_behind t ts blank (inl is) = inl ((bare_among m).behind_one t ts blank is)
-    by_behind t ts blank (inr is) = inr ((named_among m).behind_one t ts blank is)
+    by_after : (t : TokenValue) (ts : List TokenValue) → is_blank_token t ≡ true → IsMailbox ts m → IsMailbox (t ∷ ts) m
+    by_after t ts blank (inl is) = inl ((bare_among m).after_one t ts blank is)
+    by_after t ts blank (inr is) = inr ((named_among m).after_one t ts blank is)
 
     by_before : (ts : List TokenValue) (t : TokenValue) → is_blank_token t ≡ true → IsMailbox ts m → IsMailbox (ts ++ t ∷ []) m
     by_before ts t blank (inl is) = inl ((bare_among m).before_one ts t blank is)
@@ -242,7 +242,7 @@ group_alike : (ts us : List TokenValue) (name : List UnitValue) (ms : List Mailb
 group_alike ts us name ms is before after says blank whole = record {
   before = before;
   colon = is.colon;
-  behind = is.group.inner ++ is.group.semicolon ∷ after;
+  following = is.group.inner ++ is.group.semicolon ∷ after;
   whole = whole;
   is_colon = is.is_colon;
   group = record {
@@ -266,8 +266,8 @@ group_says ts name ms is = (is.group.is_phrase, is.group.says)
 
 group_among : (name : List UnitValue) (ms : List MailboxValue) → StandsAmongBlanks (λ ts. IsGroup ts name ms)
 group_among name ms = record {
-  behind_one = λ t ts blank is.
-      group_alike ts (t ∷ ts) name ms is (t ∷ is.before) is.group.after (phrase_behind t is.before name blank (group_says ts name ms is)) is.group.nothing_after (ap (λ r. t ∷ r) (group_whole ts name ms is));
+  after_one = λ t ts blank is.
+      group_alike ts (t ∷ ts) name ms is (t ∷ is.before) is.group.after (phrase_after t is.before name blank (group_says ts name ms is)) is.group.nothing_after (ap (λ r. t ∷ r) (group_whole ts name ms is));
   before_one = λ ts t blank is.
       group_alike ts (ts ++ t ∷ []) name ms is is.before (is.group.after ++ t ∷ []) (group_says ts name ms is) (blank_more is.group.after t is.group.nothing_after blank)
       (ap (λ r. r ++ t ∷ []) (group_whole ts name ms is) ∙ append_assoc is.before (is.colon ∷ (is.group.inner ++ is.group.semicolon ∷ is.group.after)) (t ∷ [])
@@ -279,7 +279,7 @@ group_among name ms = record {
   without_last = λ ts t blank is.
       let whole : ts ++ t ∷ [] ≡ (is.before ++ is.colon ∷ is.group.inner) ++ is.group.semicolon ∷ is.group.after
       = group_whole (ts ++ t ∷ []) name ms is ∙ sym (append_assoc is.before (is.colon ∷ is.group.inner) (is.group.semicolon ∷ is.group.after)) in
-      let cut = last_behind 59 ts t (is.before ++ is.colon ∷ is.group.inner) is.group.semicolon is.group.after blank is.group.is_semicolon whole in
+      let cut = last_after 59 ts t (is.before ++ is.colon ∷ is.group.inner) is.group.semicolon is.group.after blank is.group.is_semicolon whole in
       group_alike (ts ++ t ∷ []) ts name ms is is.before cut.right (group_says (ts ++ t ∷ []) name ms is) (blank_less cut.right t (subst (λ r. are_blank r ≡ true) cut.is_right is.group.nothing_after))
       (cut.whole ∙ append_assoc is.before (is.colon ∷ is.group.inner) (is.group.semicolon ∷ cut.right));
 }
@@ -291,9 +291,9 @@ element_among (Group name ms) = group_among name ms
 -- ---- parts
 
 -- what parts say they say with gaps and comments before the first one
-pub divided_behind : {E : Type 0} (Says : List TokenValue → List E → Type 0) → ((a ts : List TokenValue) (es : List E) → are_blank a ≡ true → Says ts es → Says (a ++ ts) es)
+pub divided_after : {E : Type 0} (Says : List TokenValue → List E → Type 0) → ((a ts : List TokenValue) (es : List E) → are_blank a ≡ true → Says ts es → Says (a ++ ts) es)
     → (a ts : List TokenValue) (es : List E) → are_blank a ≡ true → AreDivided Says ts es → AreDivided Says (a ++ ts) es
-divided_behind {E = E} Says more a ts es blank d = by d.parts d.divided d.say
+divided_after {E = E} Says more a ts es blank d = by d.parts d.divided d.say
   where
     by : (parts : List (List TokenValue)) → Divided 44 parts ts → SayParts Says parts es → AreDivided Says (a ++ ts) es
     by [] div say = absurd div
@@ -327,26 +327,26 @@ divided_before {E = E} Says more ts b es blank d = by d.parts ts es d.divided d.
 
 -- ---- several mailboxes, and places
 
-one_behind : (a ts : List TokenValue) (ms : List MailboxValue) → are_blank a ≡ true → IsOneMailbox ts ms → IsOneMailbox (a ++ ts) ms
-one_behind a ts [] blank is = is
-one_behind a ts (m ∷ []) blank is = behind_blanks (λ r. IsMailbox r m) (mailbox_among m) a ts blank is
-one_behind a ts (m ∷ n ∷ ms) blank is = is
+one_after : (a ts : List TokenValue) (ms : List MailboxValue) → are_blank a ≡ true → IsOneMailbox ts ms → IsOneMailbox (a ++ ts) ms
+one_after a ts [] blank is = is
+one_after a ts (m ∷ []) blank is = after_blanks (λ r. IsMailbox r m) (mailbox_among m) a ts blank is
+one_after a ts (m ∷ n ∷ ms) blank is = is
 
 one_before : (ts b : List TokenValue) (ms : List MailboxValue) → are_blank b ≡ true → IsOneMailbox ts ms → IsOneMailbox (ts ++ b) ms
 one_before ts b [] blank is = is
 one_before ts b (m ∷ []) blank is = before_blanks (λ r. IsMailbox r m) (mailbox_among m) ts b blank is
 one_before ts b (m ∷ n ∷ ms) blank is = is
 
-pub mailboxes_behind : (a ts : List TokenValue) (ms : List MailboxValue) → are_blank a ≡ true → AreDivided IsOneMailbox ts ms → AreDivided IsOneMailbox (a ++ ts) ms
-mailboxes_behind a ts ms blank d = divided_behind IsOneMailbox one_behind a ts ms blank d
+pub mailboxes_after : (a ts : List TokenValue) (ms : List MailboxValue) → are_blank a ≡ true → AreDivided IsOneMailbox ts ms → AreDivided IsOneMailbox (a ++ ts) ms
+mailboxes_after a ts ms blank d = divided_after IsOneMailbox one_after a ts ms blank d
 
 pub mailboxes_before : (ts b : List TokenValue) (ms : List MailboxValue) → are_blank b ≡ true → AreDivided IsOneMailbox ts ms → AreDivided IsOneMailbox (ts ++ b) ms
 mailboxes_before ts b ms blank d = divided_before IsOneMailbox one_before ts b ms blank d
 
-place_behind : (a ts : List TokenValue) (es : List ElementValue) → are_blank a ≡ true → SaysPlace ts es → SaysPlace (a ++ ts) es
-place_behind a ts [] blank says = list_all-append is_blank_token a ts ∙ and_from (are_blank a) (are_blank ts) blank says
-place_behind a ts (e ∷ []) blank says = behind_blanks (λ r. IsElement r e) (element_among e) a ts blank says
-place_behind a ts (e ∷ f ∷ es) blank says = says
+place_following : (a ts : List TokenValue) (es : List ElementValue) → are_blank a ≡ true → SaysPlace ts es → SaysPlace (a ++ ts) es
+place_following a ts [] blank says = list_all-append is_blank_token a ts ∙ and_from (are_blank a) (are_blank ts) blank says
+place_following a ts (e ∷ []) blank says = after_blanks (λ r. IsElement r e) (element_among e) a ts blank says
+place_following a ts (e ∷ f ∷ es) blank says = says
 
-pub places_behind : (a ts : List TokenValue) (es : List ElementValue) → are_blank a ≡ true → AreDivided SaysPlace ts es → AreDivided SaysPlace (a ++ ts) es
-places_behind a ts es blank d = divided_behind SaysPlace place_behind a ts es blank d
+pub places_after : (a ts : List TokenValue) (es : List ElementValue) → are_blank a ≡ true → AreDivided SaysPlace ts es → AreDivided SaysPlace (a ++ ts) es
+places_after a ts es blank d = divided_after SaysPlace place_following a ts es blank d

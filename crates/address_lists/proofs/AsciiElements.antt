@@ -70,15 +70,15 @@ ascii_address ts a h is =
 ascii_routed : (ts : List TokenValue) (a : Address) → AreAscii ts → IsRoutedOrNot ts a → served_address a ≡ Some a
 ascii_routed ts a h (inl is) = ascii_address ts a h is
 ascii_routed ts a h (inr is) =
-    let all : AreAscii (is.route ++ is.colon ∷ is.behind) = rw (is.whole) at h in
-    ascii_address is.behind a (ascii_tail is.colon is.behind (ascii_rest is.route (is.colon ∷ is.behind) all)) is.is_address
+    let all : AreAscii (is.route ++ is.colon ∷ is.following) = rw (is.whole) at h in
+    ascii_address is.following a (ascii_tail is.colon is.following (ascii_rest is.route (is.colon ∷ is.following) all)) is.is_address
 
 pub ascii_mailbox : (ts : List TokenValue) (m : MailboxValue) → AreAscii ts → IsMailbox ts m → IsAsServed m
 ascii_mailbox ts m h (inl is) = ascii_address ts m.address h is.is_address
 ascii_mailbox ts m h (inr is) =
     let all : AreAscii (is.before ++ is.angled.open_mark ∷ (is.inner ++ is.angled.close_mark ∷ is.angled.after)) = rw (is.angled.whole) at h in
-    let behind = ascii_tail is.angled.open_mark (is.inner ++ is.angled.close_mark ∷ is.angled.after) (ascii_rest is.before (is.angled.open_mark ∷ (is.inner ++ is.angled.close_mark ∷ is.angled.after)) all) in
-    ascii_routed is.inner m.address (ascii_front is.inner (is.angled.close_mark ∷ is.angled.after) behind) is.named.address
+    let following = ascii_tail is.angled.open_mark (is.inner ++ is.angled.close_mark ∷ is.angled.after) (ascii_rest is.before (is.angled.open_mark ∷ (is.inner ++ is.angled.close_mark ∷ is.angled.after)) all) in
+    ascii_routed is.inner m.address (ascii_front is.inner (is.angled.close_mark ∷ is.angled.after) following) is.named.address
 
 ascii_one : (ts : List TokenValue) (ms : List MailboxValue) → AreAscii ts → IsOneMailbox ts ms → AllByRecursion IsAsServed ms
 ascii_one ts [] h is = tt
@@ -110,9 +110,9 @@ own_mailboxes (m ∷ ms) all = (own_mailbox m all.0, own_mailboxes ms all.1)
 ascii_stands : (ts : List TokenValue) (e : ElementValue) → AreAscii ts → IsElement ts e → StandsForElement e e
 ascii_stands ts (One m) h is = let own = ascii_mailbox ts m h is in rw (ap is_some own) (own_mailbox m own)
 ascii_stands ts (Group name ms) h is =
-    let whole : AreAscii (is.before ++ is.colon ∷ is.behind) = rw (is.whole) at h in
-    let behind : AreAscii (is.group.inner ++ is.group.semicolon ∷ is.group.after) = rw (is.group.whole) at (ascii_tail is.colon is.behind (ascii_rest is.before (is.colon ∷ is.behind) whole)) in
-    let own = ascii_members is.group.inner ms (ascii_front is.group.inner (is.group.semicolon ∷ is.group.after) behind) is.group.are_members in
+    let whole : AreAscii (is.before ++ is.colon ∷ is.following) = rw (is.whole) at h in
+    let following : AreAscii (is.group.inner ++ is.group.semicolon ∷ is.group.after) = rw (is.group.whole) at (ascii_tail is.colon is.following (ascii_rest is.before (is.colon ∷ is.following) whole)) in
+    let own = ascii_members is.group.inner ms (ascii_front is.group.inner (is.group.semicolon ∷ is.group.after) following) is.group.are_members in
     rw (own_plain ms own) ((refl, own_mailboxes ms own))
 
 -- ---- the tokens without gaps at both ends

@@ -19,7 +19,7 @@ use Rattle.address_lists.specs.ListPieces.{SaysAddresses}
 use Rattle.address_grammar.specs.private.ListSteps.{SplitsName, SaysGroup}
 use Rattle.address_grammar.proofs.LexemeLemmas.{not_lacking}
 use Rattle.address_grammar.proofs.AddressLemmas.{address_parts, address_missing, address_made}
-use Rattle.address_grammar.proofs.PathLemmas.{angled_made, no_close, something_behind}
+use Rattle.address_grammar.proofs.PathLemmas.{angled_made, no_close, something_after}
 use Rattle.address_grammar.proofs.MailboxLemmas.{no_says, hop_lacks, hop_parts, hop_made, no_hop, routed_parts, routed_made, unrouted, named_angles, named_parts, bare_lacks, only_bare, named_made}
 use Rattle.address_grammar.proofs.DividedLemmas.{Walked}
 use Rattle.address_lists.proofs.DecideDivided.{Known, decide_divided}
@@ -123,9 +123,9 @@ decide_says ts = elim (cases_Bool (are_blank ts)) [
   ]
 ]
 
-opened : (ts before behind : List TokenValue) (m : MailboxValue) → SplitsAt 60 ts before behind → IsMailbox ts m → IsNamed ts m
-opened ts before behind m s (inl is) = absurd (not_lacking 60 before behind s.at s.is_at (rw (s.whole) at (bare_lacks 60 ts m (λ e. omega (arith, e)) (λ e. omega (arith, e)) is)))
-opened ts before behind m s (inr is) = is
+opened : (ts before following : List TokenValue) (m : MailboxValue) → SplitsAt 60 ts before following → IsMailbox ts m → IsNamed ts m
+opened ts before following m s (inl is) = absurd (not_lacking 60 before following s.at s.is_at (rw (s.whole) at (bare_lacks 60 ts m (λ e. omega (arith, e)) (λ e. omega (arith, e)) is)))
+opened ts before following m s (inr is) = is
 
 bare_value : Address → MailboxValue
 bare_value a = record { phrase = false; display = []; angle = false; address = a }
@@ -143,7 +143,7 @@ decide_mailbox ts = elim (splits_or_lacks 60 ts) [
   | inl s ↦ elim (splits_or_lacks 62 s.1) [
     | inr l ↦ inr (λ m is. let named = opened ts s.0 s.1 m s.2 is in no_close ts s.0 s.1 named.before named.inner s.2 l (named_angles ts m named))
     | inl c ↦ elim (cases_Bool (are_blank c.1)) [
-      | inr other ↦ inr (λ m is. let named = opened ts s.0 s.1 m s.2 is in something_behind ts s.0 s.1 c.0 c.1 named.before named.inner s.2 c.2 other (named_angles ts m named))
+      | inr other ↦ inr (λ m is. let named = opened ts s.0 s.1 m s.2 is in something_after ts s.0 s.1 c.0 c.1 named.before named.inner s.2 c.2 other (named_angles ts m named))
       | inl blank ↦
           let first = angled_made ts s.0 s.1 c.0 c.1 s.2 c.2 blank in
           elim (decide_says s.0) [
@@ -179,22 +179,22 @@ decide_members ts = elim (cases_Bool (are_blank ts)) [
   ]
 ]
 
-no_group_name : (before behind : List TokenValue) (e : ElementValue) → ¬ IsPhrase before → SaysGroup before behind e → ⊥
-no_group_name before behind (One m) none is = is
-no_group_name before behind (Group name ms) none is = none is.is_phrase
+no_group_name : (before following : List TokenValue) (e : ElementValue) → ¬ IsPhrase before → SaysGroup before following e → ⊥
+no_group_name before following (One m) none is = is
+no_group_name before following (Group name ms) none is = none is.is_phrase
 
-decide_group : (before behind : List TokenValue) → Found (SaysGroup before behind)
-decide_group before behind = elim (decide_phrase before) [
-  | inr none ↦ inr (λ e is. no_group_name before behind e none is)
-  | inl phrase ↦ elim (splits_or_lacks 59 behind) [
-    | inr l ↦ inr (group_unclosed before behind l)
+decide_group : (before following : List TokenValue) → Found (SaysGroup before following)
+decide_group before following = elim (decide_phrase before) [
+  | inr none ↦ inr (λ e is. no_group_name before following e none is)
+  | inl phrase ↦ elim (splits_or_lacks 59 following) [
+    | inr l ↦ inr (group_unclosed before following l)
     | inl s ↦ elim (cases_Bool (are_blank s.1)) [
-      | inr other ↦ inr (group_followed before behind s.0 s.1 s.2 other)
+      | inr other ↦ inr (group_followed before following s.0 s.1 s.2 other)
       | inl blank ↦ elim (decide_members s.0) [
-        | inr none ↦ inr (group_members before behind s.0 s.1 s.2 none)
+        | inr none ↦ inr (group_members before following s.0 s.1 s.2 none)
         | inl members ↦
             let units = HasPhraseUnits-some (phrase_items before) in
-            let by : IsGroupBy before behind units.0 members.0
+            let by : IsGroupBy before following units.0 members.0
             = record { inner = s.0; semicolon = s.2.at; after = s.1; whole = s.2.whole; is_semicolon = s.2.is_at; nothing_after = blank; is_phrase = phrase; says = units.1; are_members = members.1 } in
             inl (Group units.0 members.0, by)
       ]
@@ -204,7 +204,7 @@ decide_group before behind = elim (decide_phrase before) [
 
 -- ---- elements
 
-decide_single : (ts : List TokenValue) → ((before behind : List TokenValue) → SplitsName ts before behind → ⊥) → Found (IsElement ts)
+decide_single : (ts : List TokenValue) → ((before following : List TokenValue) → SplitsName ts before following → ⊥) → Found (IsElement ts)
 decide_single ts unnamed = elim (decide_mailbox ts) [
   | inl m ↦ inl (One m.0, m.1)
   | inr none ↦ inr (single_malformed ts unnamed none)

@@ -3,7 +3,7 @@ use Rattle.std.proofs.Common.{◌≡◌, ℕ, ◌⊎◌, inl, inr, List, [], ◌
 use Rattle.std.proofs.lemmas.List.{append_assoc, append-nil}
 use Rattle.field_tokens.specs.Tokens.{TokenValue}
 use Rattle.address_grammar.specs.AddressLists.{AreDivided}
-use Rattle.address_grammar.specs.private.Walks.{awaited_behind, walk, SplitsPlace}
+use Rattle.address_grammar.specs.private.Walks.{awaited_after, walk, SplitsPlace}
 use Rattle.address_grammar.proofs.WalkLemmas.{walk-append, ends_here}
 use Rattle.address_grammar.proofs.DividedLemmas.{Walked, divided_first, divided_more, divided_one, divided_last}
 
@@ -27,9 +27,9 @@ DecidesFrom Says ts = (front : List TokenValue) (awaited : Option ℕ) → walk 
 
 decide_token : {E : Type 0} (Says : List TokenValue → List E → Type 0) (walked : Walked Says) (known : (ts : List TokenValue) → Known Says ts) (t : TokenValue) (ts : List TokenValue) → DecidesFrom Says ts
     → DecidesFrom Says (t ∷ ts)
-decide_token Says walked known t ts more front awaited w = by (awaited_behind awaited t) refl
+decide_token Says walked known t ts more front awaited w = by (awaited_after awaited t) refl
   where
-    by : (next : Option (Option ℕ)) → awaited_behind awaited t ≡ next → Known (AreDivided Says) (front ++ t ∷ ts)
+    by : (next : Option (Option ℕ)) → awaited_after awaited t ≡ next → Known (AreDivided Says) (front ++ t ∷ ts)
     by None e =
         let ends = ends_here awaited t e in
         let s : SplitsPlace (front ++ t ∷ ts) front ts = record { comma = t; whole = refl; is_comma = ends.comma; walked = w ∙ ap Some ends.nothing } in

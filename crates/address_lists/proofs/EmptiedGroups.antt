@@ -27,7 +27,7 @@ use Rattle.address_grammar.proofs.SoundLemmas.{IsSound, sound_front, sound_rest,
 use Rattle.address_lists.proofs.SoundPhrases.{AreAtomOctets, sound_items, sound_atoms}
 use Rattle.address_grammar.proofs.WritingLemmas.{local_line, mark}
 use Rattle.address_lists.proofs.PhrasesAgain.{phrase_before, units_before, units_head}
-use Rattle.address_lists.proofs.MadeTokens.{AreMade, made_two, made_none, MadePhrase, head_phrase, AreCommentsOfLine, comments_behind}
+use Rattle.address_lists.proofs.MadeTokens.{AreMade, made_two, made_none, MadePhrase, head_phrase, AreCommentsOfLine, comments_after}
 
 -- ---- units
 
@@ -68,21 +68,21 @@ address_utf8 ts a sound is =
     let local = sound_front is.local (is.at ∷ is.domain) all in
     let domain = (sound_rest is.local (is.at ∷ is.domain) all).1 in
     let front : IsUtf8 (local_text a.local) = (local_line a.local (rw (is.local_says) (record { utf8 = contents_utf8 is.local local; plain = contents_line is.local local }))).utf8 in
-    let behind : IsUtf8 a.domain = rw (is.domain_says) (contents_utf8 is.domain domain) in
-    IsUtf8-append (local_text a.local) (64 ∷ a.domain) front (IsUtf8-append (64 ∷ []) a.domain (ascii_line (64 ∷ []) refl refl).utf8 behind)
+    let following : IsUtf8 a.domain = rw (is.domain_says) (contents_utf8 is.domain domain) in
+    IsUtf8-append (local_text a.local) (64 ∷ a.domain) front (IsUtf8-append (64 ∷ []) a.domain (ascii_line (64 ∷ []) refl refl).utf8 following)
 
 routed_utf8 : (ts : List TokenValue) (a : Address) → AllByRecursion IsSound ts → IsRoutedOrNot ts a → IsUtf8 (address_text a)
 routed_utf8 ts a sound (inl is) = address_utf8 ts a sound is
-routed_utf8 ts a sound (inr is) = address_utf8 is.behind a (sound_rest is.route (is.colon ∷ is.behind) (rw (is.whole) at sound)).1 is.is_address
+routed_utf8 ts a sound (inr is) = address_utf8 is.following a (sound_rest is.route (is.colon ∷ is.following) (rw (is.whole) at sound)).1 is.is_address
 
 pub mailbox_sound : (ts : List TokenValue) (m : MailboxValue) → AllByRecursion IsSound ts → IsMailbox ts m → IsSoundMailbox m
 mailbox_sound ts m sound (inl is) = record { units = rw (is.display) no_sound_units; address = address_utf8 ts m.address sound is.is_address }
 mailbox_sound ts m sound (inr is) =
     let all : AllByRecursion IsSound (is.before ++ is.angled.open_mark ∷ (is.inner ++ is.angled.close_mark ∷ is.angled.after)) = rw (is.angled.whole) at sound in
-    let behind = (sound_rest is.before (is.angled.open_mark ∷ (is.inner ++ is.angled.close_mark ∷ is.angled.after)) all).1 in
+    let following = (sound_rest is.before (is.angled.open_mark ∷ (is.inner ++ is.angled.close_mark ∷ is.angled.after)) all).1 in
     record {
       units = says_units is.before m.phrase m.display (sound_front is.before (is.angled.open_mark ∷ (is.inner ++ is.angled.close_mark ∷ is.angled.after)) all) is.named.says;
-      address = routed_utf8 is.inner m.address (sound_front is.inner (is.angled.close_mark ∷ is.angled.after) behind) is.named.address;
+      address = routed_utf8 is.inner m.address (sound_front is.inner (is.angled.close_mark ∷ is.angled.after) following) is.named.address;
     }
 
 one_sound : (ts : List TokenValue) (ms : List MailboxValue) → AllByRecursion IsSound ts → IsOneMailbox ts ms → AllByRecursion IsSoundMailbox ms
@@ -181,9 +181,9 @@ members_units_sound (m ∷ n ∷ ms) all =
 
 pub group_stands : (ts : List TokenValue) (name : List UnitValue) (ms : List MailboxValue) → AllByRecursion IsSound ts → HasPhraseUnits (phrase_items ts) name → AllByRecursion IsSoundMailbox ms → StandInUnits (group_units name ms)
 group_stands ts name ms sound has all =
-    let behind : List UnitValue = Text (32 ∷ []) ∷ members_units ms in
-    merged_stand (name ++ behind) (merged_there name behind (text_there 32 [] (merged (members_units ms))))
-    (units_append name behind (phrase_units ts name sound has) (space_unit (members_units ms) (members_units_sound ms all)))
+    let following : List UnitValue = Text (32 ∷ []) ∷ members_units ms in
+    merged_stand (name ++ following) (merged_there name following (text_there 32 [] (merged (members_units ms))))
+    (units_append name following (phrase_units ts name sound has) (space_unit (members_units ms) (members_units_sound ms all)))
 
 -- ---- the group
 
@@ -209,7 +209,7 @@ pub emptied_again : (us : List UnitValue) (words cs comments : List (List ℕ)) 
     → IsEmptiedAgain us values (words ++ no_members ∷ comments)
 emptied_again us words cs comments values stand writes all say are =
     let name = words_phrase us words stand writes in
-    let b = comments_behind cs values comments all say are in
+    let b = comments_after cs values comments all say are in
     let colon : List TokenValue = mark 58 ∷ mark 59 ∷ [] in
     let front : List TokenValue = name.tokens ++ space ∷ colon in
     let whole : front ++ b.tokens ≡ (name.tokens ++ space ∷ []) ++ mark 58 ∷ mark 59 ∷ b.tokens
@@ -221,7 +221,7 @@ emptied_again us words cs comments values stand writes all say are =
       is_group = record {
         before = name.tokens ++ space ∷ [];
         colon = mark 58;
-        behind = mark 59 ∷ b.tokens;
+        following = mark 59 ∷ b.tokens;
         whole = whole;
         is_colon = refl;
         group = record {

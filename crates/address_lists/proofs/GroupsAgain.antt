@@ -23,8 +23,8 @@ use Rattle.address_grammar.proofs.ListLemmas.{one_walked, one_once, members_not_
 use Rattle.address_grammar.proofs.DividedLemmas.{divided_once}
 use Rattle.address_lists.proofs.PhrasesAgain.{CommentsSay-append, say_both, phrase_before, units_before, PlacePieces-read}
 use Rattle.address_lists.proofs.PhraseListsAgain.{comma}
-use Rattle.address_lists.proofs.MadeTokens.{AreMade, made_two, made_divided, made_mark, MadePhrase, again_phrase, text_line_comments, MadeBehind, comments_behind}
-use Rattle.address_lists.proofs.AmongBlanks.{divided_put, mailboxes_behind, mailboxes_before}
+use Rattle.address_lists.proofs.MadeTokens.{AreMade, made_two, made_divided, made_mark, MadePhrase, again_phrase, text_line_comments, MadeAfter, comments_after}
+use Rattle.address_lists.proofs.AmongBlanks.{divided_put, mailboxes_after, mailboxes_before}
 use Rattle.address_lists.proofs.EmptiedGroups.{members_sound, group_stands, emptied_again}
 use Rattle.address_lists.proofs.MailboxesAgain.{IsMailboxAgain, IsElementAgain, text_sound, mark_comments, IsMailboxIn, plain_again}
 use Rattle.address_lists.proofs.AsciiElements.{ascii_member_again}
@@ -39,10 +39,10 @@ pub record CutsText (n : ℕ) (ts before after : List TokenValue) : Type 0 where
 
 pub cut_text : (n : ℕ) (ts before after : List TokenValue) (t : TokenValue) → HasMailTokens (octets_of ts) ts → ts ≡ before ++ t ∷ after → is_special_of n t ≡ true → CutsText n ts before after
 cut_text n ts before after t has whole is =
-    let behind : ts ≡ (before ++ t ∷ []) ++ (after ++ []) = whole ∙ sym (append_assoc before (t ∷ []) after) ∙ ap (λ r. (before ++ t ∷ []) ++ r) (sym (append-nil after)) in
+    let following : ts ≡ (before ++ t ∷ []) ++ (after ++ []) = whole ∙ sym (append_assoc before (t ∷ []) after) ∙ ap (λ r. (before ++ t ∷ []) ++ r) (sym (append-nil after)) in
     record {
       front = HasTokenValues-part (octets_of ts) [] before (t ∷ after) (subst (HasMailTokens (octets_of ts)) whole has);
-      rest = HasTokenValues-part (octets_of ts) (before ++ t ∷ []) after [] (subst (HasMailTokens (octets_of ts)) behind has);
+      rest = HasTokenValues-part (octets_of ts) (before ++ t ∷ []) after [] (subst (HasMailTokens (octets_of ts)) following has);
       comments = ap comments_of whole ∙ mark_comments n before after t is;
     }
 
@@ -72,16 +72,16 @@ last_member m values pieces is = record {
   are_made = is.are_made;
 }
 
-next_member : (m : MailboxValue) (ms : List MailboxValue) (front behind : List CommentValue) (first others : List (List ℕ)) → IsMailboxAgain m front first → AreMailboxesAgain ms behind others
-    → AreMailboxesAgain (m ∷ ms) (front ++ behind) (with_comma first ++ others)
-next_member m ms front behind first others one more = record {
+next_member : (m : MailboxValue) (ms : List MailboxValue) (front following : List CommentValue) (first others : List (List ℕ)) → IsMailboxAgain m front first → AreMailboxesAgain ms following others
+    → AreMailboxesAgain (m ∷ ms) (front ++ following) (with_comma first ++ others)
+next_member m ms front following first others one more = record {
   made = one.made ∷ more.made;
   same = (one.same, more.same);
   tokens = one.tokens ++ comma ∷ space ∷ more.tokens;
   divided = divided_put IsOneMailbox one.tokens (one.tokens ++ comma ∷ space ∷ more.tokens) (space ∷ more.tokens) comma (one.made ∷ []) more.made refl refl one.is_mailbox
-      (mailboxes_behind (space ∷ []) more.tokens more.made refl more.divided);
-  say = subst (λ r. CommentsSay r (front ++ behind)) (sym (mark_comments 44 one.tokens (space ∷ more.tokens) comma refl))
-      (CommentsSay-append (comments_of one.tokens) (comments_of more.tokens) front behind one.say more.say);
+      (mailboxes_after (space ∷ []) more.tokens more.made refl more.divided);
+  say = subst (λ r. CommentsSay r (front ++ following)) (sym (mark_comments 44 one.tokens (space ∷ more.tokens) comma refl))
+      (CommentsSay-append (comments_of one.tokens) (comments_of more.tokens) front following one.say more.say);
   are_made = made_divided one.tokens more.tokens first others one.are_made more.are_made;
 }
 
@@ -95,14 +95,14 @@ one_member p (m ∷ []) values pieces has is plain say given =
     last_member m values pieces (member_again (list_all is_ascii (octets_of p)) p m values pieces refl (record { text = has; is_mailbox = is; say = say }) (all_plain m [] plain).0 given)
 one_member p (m ∷ n ∷ ms) values pieces has is plain say given = absurd is
 
-more_members : (p : List TokenValue) (ms ns : List MailboxValue) (front behind : List CommentValue) (first others : List (List ℕ)) → HasMailTokens (octets_of p) p → IsOneMailbox p ms → list_all has_served_address (ms ++ ns) ≡ true
-    → CommentsSay (comments_of p) front → MemberPieces (list_all is_ascii (octets_of p)) p first → (list_all has_served_address ns ≡ true → AreMailboxesAgain ns behind others)
-    → AreMailboxesAgain (ms ++ ns) (front ++ behind) (with_comma first ++ others)
-more_members p [] ns front behind first others has is plain say given more = absurd is
-more_members p (m ∷ []) ns front behind first others has is plain say given more =
+more_members : (p : List TokenValue) (ms ns : List MailboxValue) (front following : List CommentValue) (first others : List (List ℕ)) → HasMailTokens (octets_of p) p → IsOneMailbox p ms → list_all has_served_address (ms ++ ns) ≡ true
+    → CommentsSay (comments_of p) front → MemberPieces (list_all is_ascii (octets_of p)) p first → (list_all has_served_address ns ≡ true → AreMailboxesAgain ns following others)
+    → AreMailboxesAgain (ms ++ ns) (front ++ following) (with_comma first ++ others)
+more_members p [] ns front following first others has is plain say given more = absurd is
+more_members p (m ∷ []) ns front following first others has is plain say given more =
     let parts = all_plain m ns plain in
-    next_member m ns front behind first others (member_again (list_all is_ascii (octets_of p)) p m front first refl (record { text = has; is_mailbox = is; say = say }) parts.0 given) (more parts.1)
-more_members p (m ∷ n ∷ ms) ns front behind first others has is plain say given more = absurd is
+    next_member m ns front following first others (member_again (list_all is_ascii (octets_of p)) p m front first refl (record { text = has; is_mailbox = is; say = say }) parts.0 given) (more parts.1)
+more_members p (m ∷ n ∷ ms) ns front following first others has is plain say given more = absurd is
 
 pub MembersPieces-read : (parts : List (List TokenValue)) (ts : List TokenValue) (ms : List MailboxValue) (values : List CommentValue) (pieces : List (List ℕ)) → HasMailTokens (octets_of ts) ts → Divided 44 parts ts
     → SayParts IsOneMailbox parts ms → list_all has_served_address ms ≡ true → CommentsSay (comments_of ts) values → MembersPieces parts pieces → AreMailboxesAgain ms values pieces
@@ -140,7 +140,7 @@ some_members_said ts ms filled (inr d) = d
 inner_again : (ts : List TokenValue) (ms : List MailboxValue) (values : List CommentValue) (pieces : List (List ℕ)) → HasMailTokens (octets_of ts) ts → AreMembers ts ms → list_all has_served_address ms ≡ true → CommentsSay (comments_of ts) values
     → InnerPieces ts pieces → IsInnerAgain ms values pieces
 inner_again ts ms values pieces has are plain say (inl given) =
-    let b = comments_behind (comments_of ts) values pieces (text_line_comments (octets_of ts) ts has) say given.1 in
+    let b = comments_after (comments_of ts) values pieces (text_line_comments (octets_of ts) ts has) say given.1 in
     rw (no_members_said ts ms given.0 are) (record {
       made = [];
       same = tt;
@@ -159,7 +159,7 @@ inner_again ts ms values pieces has are plain say (inr given) =
       made = again.made;
       same = again.same;
       tokens = space ∷ again.tokens;
-      are_members = inr (mailboxes_before (space ∷ again.tokens) (space ∷ []) again.made refl (mailboxes_behind (space ∷ []) again.tokens again.made refl again.divided));
+      are_members = inr (mailboxes_before (space ∷ again.tokens) (space ∷ []) again.made refl (mailboxes_after (space ∷ []) again.tokens again.made refl again.divided));
       say = again.say;
       onto = λ front first made. made_two front again.tokens first pieces made again.are_made;
     }
@@ -185,7 +185,7 @@ kept_comments n i b =
     ∙ ap (λ r. comments_of n ++ r) (mark_comments 59 (i ++ space ∷ []) b (mark 59) refl ∙ ap (λ r. r ++ comments_of b) (spaced_comments i))
 
 -- the three parts of a group that are written beside each other
-kept_made : (name : List UnitValue) (ms : List MailboxValue) (v w x : List CommentValue) (first inner comments : List (List ℕ)) → list_all has_served_address ms ≡ true → MadePhrase name v first → IsInnerAgain ms w inner → MadeBehind x comments
+kept_made : (name : List UnitValue) (ms : List MailboxValue) (v w x : List CommentValue) (first inner comments : List (List ℕ)) → list_all has_served_address ms ≡ true → MadePhrase name v first → IsInnerAgain ms w inner → MadeAfter x comments
     → IsElementAgain (Group name ms) (v ++ (w ++ x)) (first ++ (58 ∷ []) ∷ (inner ++ (59 ∷ []) ∷ comments))
 kept_made name ms v w x first inner comments plain n i b =
     let whole : List TokenValue = (n.tokens ++ space ∷ []) ++ mark 58 ∷ ((i.tokens ++ space ∷ []) ++ mark 59 ∷ b.tokens) in
@@ -206,7 +206,7 @@ kept_made name ms v w x first inner comments plain n i b =
       is_element = record {
         before = n.tokens ++ space ∷ [];
         colon = mark 58;
-        behind = (i.tokens ++ space ∷ []) ++ mark 59 ∷ b.tokens;
+        following = (i.tokens ++ space ∷ []) ++ mark 59 ∷ b.tokens;
         whole = refl;
         is_colon = refl;
         group = record {
@@ -231,22 +231,22 @@ kept_made name ms v w x first inner comments plain n i b =
 kept_again : (ts : List TokenValue) (name : List UnitValue) (ms : List MailboxValue) (values : List CommentValue) (first inner comments : List (List ℕ)) → HasMailTokens (octets_of ts) ts → (g : IsGroup ts name ms)
     → CommentsSay (comments_of ts) values → list_all has_served_address ms ≡ true → PlacePieces g.before first → InnerPieces g.group.inner inner → CommentsPieces (comments_of g.group.after) comments
     → IsElementAgain (Group name ms) values (first ++ (58 ∷ []) ∷ (inner ++ (59 ∷ []) ∷ comments))
-kept_again ts name ms values first inner comments has g say plain place members behind =
-    let outer = cut_text 58 ts g.before g.behind g.colon has g.whole g.is_colon in
-    let within = cut_text 59 g.behind g.group.inner g.group.after g.group.semicolon outer.rest g.group.whole g.group.is_semicolon in
-    let one = say_both (comments_of g.before) (comments_of g.behind) values (subst (λ r. CommentsSay r values) outer.comments say) in
+kept_again ts name ms values first inner comments has g say plain place members following =
+    let outer = cut_text 58 ts g.before g.following g.colon has g.whole g.is_colon in
+    let within = cut_text 59 g.following g.group.inner g.group.after g.group.semicolon outer.rest g.group.whole g.group.is_semicolon in
+    let one = say_both (comments_of g.before) (comments_of g.following) values (subst (λ r. CommentsSay r values) outer.comments say) in
     let two = say_both (comments_of g.group.inner) (comments_of g.group.after) one.more (subst (λ r. CommentsSay r one.more) within.comments one.more_say) in
     let n = again_phrase name one.first first (PlacePieces-read g.before name one.first first outer.front g.group.is_phrase g.group.says one.first_say place) in
     let i = inner_again g.group.inner ms two.first inner within.front g.group.are_members plain two.first_say members in
-    let b = comments_behind (comments_of g.group.after) two.more comments (text_line_comments (octets_of g.group.after) g.group.after within.rest) two.more_say behind in
+    let b = comments_after (comments_of g.group.after) two.more comments (text_line_comments (octets_of g.group.after) g.group.after within.rest) two.more_say following in
     let all : values ≡ one.first ++ (two.first ++ two.more) = one.whole ∙ ap (λ r. one.first ++ r) two.whole in
     subst (λ r. IsElementAgain (Group name ms) r (first ++ (58 ∷ []) ∷ (inner ++ (59 ∷ []) ∷ comments))) (sym all) (kept_made name ms one.first two.first two.more first inner comments plain n i b)
 
 group_sound : (ts : List TokenValue) (name : List UnitValue) (ms : List MailboxValue) → AllByRecursion IsSound ts → (g : IsGroup ts name ms) → AllByRecursion IsSound g.before × AllByRecursion IsSound g.group.inner
 group_sound ts name ms sound g =
-    let outer : AllByRecursion IsSound (g.before ++ g.colon ∷ g.behind) = subst (AllByRecursion IsSound) g.whole sound in
-    let within : AllByRecursion IsSound (g.group.inner ++ g.group.semicolon ∷ g.group.after) = subst (AllByRecursion IsSound) g.group.whole (sound_rest g.before (g.colon ∷ g.behind) outer).1 in
-    (sound_front g.before (g.colon ∷ g.behind) outer, sound_front g.group.inner (g.group.semicolon ∷ g.group.after) within)
+    let outer : AllByRecursion IsSound (g.before ++ g.colon ∷ g.following) = subst (AllByRecursion IsSound) g.whole sound in
+    let within : AllByRecursion IsSound (g.group.inner ++ g.group.semicolon ∷ g.group.after) = subst (AllByRecursion IsSound) g.group.whole (sound_rest g.before (g.colon ∷ g.following) outer).1 in
+    (sound_front g.before (g.colon ∷ g.following) outer, sound_front g.group.inner (g.group.semicolon ∷ g.group.after) within)
 
 -- the pieces of a group with an address that can't be served
 emptied_group : (ts : List TokenValue) (name : List UnitValue) (ms : List MailboxValue) (values : List CommentValue) (words comments : List (List ℕ)) → HasMailTokens (octets_of ts) ts → IsGroup ts name ms → CommentsSay (comments_of ts) values
@@ -267,9 +267,9 @@ emptied_group ts name ms values words comments has g say other writes are =
 -- the pieces of a group
 pub GroupPieces-read : (ts : List TokenValue) (name : List UnitValue) (ms : List MailboxValue) (values : List CommentValue) (pieces : List (List ℕ)) → HasMailTokens (octets_of ts) ts → IsGroup ts name ms
     → CommentsSay (comments_of ts) values → GroupPieces ts pieces → IsElementAgain (Group name ms) values pieces
-GroupPieces-read ts name ms values pieces has is say (Kept n ns first inner comments g plain place members behind whole) =
+GroupPieces-read ts name ms values pieces has is say (Kept n ns first inner comments g plain place members following whole) =
     let same : Group name ms ≡ Group n ns = IsElement-once ts (Group name ms) (Group n ns) is g in
-    rw (whole, same) (kept_again ts n ns values first inner comments has g say plain place members behind)
+    rw (whole, same) (kept_again ts n ns values first inner comments has g say plain place members following)
 GroupPieces-read ts name ms values pieces has is say (Emptied n ns words comments g other writes are whole) =
     let same : Group name ms ≡ Group n ns = IsElement-once ts (Group name ms) (Group n ns) is g in
     rw (whole, same) (emptied_group ts n ns values words comments has g say other writes are)

@@ -20,8 +20,8 @@ use Rattle.address_grammar.proofs.LexemeLemmas.{not_lacking, cut_once}
 use Rattle.address_grammar.proofs.MailboxLemmas.{phrase_lacks}
 use Rattle.address_grammar.proofs.DividedLemmas.{divided_first, divided_last}
 use Rattle.address_grammar.proofs.ListLemmas.{one_walked, mailbox_not_blank, group_inner, members_once}
-use Rattle.address_lists.proofs.AddedPieces.{adds_piece, adds_comma, some_behind}
-use Rattle.address_lists.proofs.WritableTokens.{behind_can}
+use Rattle.address_lists.proofs.AddedPieces.{adds_piece, adds_comma, some_after}
+use Rattle.address_lists.proofs.WritableTokens.{following_can}
 use Rattle.address_lists.proofs.ServedMailboxes.{mailbox_some}
 
 -- ---- members
@@ -40,7 +40,7 @@ pub other_member : (ts : List TokenValue) (m : MailboxValue) (old new : List ℕ
 other_member ts m old new is h a = adds_as (λ ps g. record { member = m; says = is; gives = rw (h) g }) a
 
 member_some : (b : Bool) (ts : List TokenValue) (ps : List (List ℕ)) → MemberPieces b ts ps → ps ≢ []
-member_some true ts ps is = λ none. some_behind [] [] _ (sym is.2 ∙ none)
+member_some true ts ps is = λ none. some_after [] [] _ (sym is.2 ∙ none)
 member_some false ts ps is = mailbox_some ts ps is
 
 -- the members of some parts were written, and rest is left
@@ -82,7 +82,7 @@ GivesWithComma part pieces = (first : List (List ℕ)) × GivesMember part first
 members_turn : (ts rest part after : List TokenValue) (written put : List (List ℕ)) → SplitsPlace rest part after → WritesMembers ts rest written → GivesWithComma part put → WritesMembers ts after (written ++ put)
 members_turn ts rest part after written put s w g = subst (λ r. WritesMembers ts after (written ++ r)) (sym g.2) (record {
   onward = λ ms d more p. subst (GivesMembers ts) (sym (append_assoc written (with_comma g.0) more)) (members_onward ts rest part after written g.0 w s g.1 d.parts ms more d.divided d.say p);
-  can = behind_can rest part after s.comma s.whole w.can;
+  can = following_can rest part after s.comma s.whole w.can;
   left = members_left rest part after w.left s;
 })
 
@@ -117,27 +117,27 @@ inner_mailboxes ts some known = members_divided ts known.0 some known.1
 -- ---- groups
 
 pub no_colon : (ts : List TokenValue) (served : Bool) → IsServedGroup ts served → lacks_special 58 ts ≡ true → ⊥
-no_colon ts served g l = let is = g.group in not_lacking 58 is.before is.behind is.colon is.is_colon (rw (is.whole) at l)
+no_colon ts served g l = let is = g.group in not_lacking 58 is.before is.following is.colon is.is_colon (rw (is.whole) at l)
 
-pub group_at : (ts before behind : List TokenValue) (served : Bool) (g : IsServedGroup ts served) → SplitsAt 58 ts before behind → IsGroupBy before behind g.name g.members
-group_at ts before behind served g s =
+pub group_at : (ts before following : List TokenValue) (served : Bool) (g : IsServedGroup ts served) → SplitsAt 58 ts before following → IsGroupBy before following g.name g.members
+group_at ts before following served g s =
     let is = g.group in
-    let cut = cut_once 58 before is.before s.at is.colon behind is.behind s.first (phrase_lacks 58 is.before (λ e. omega (arith, e)) is.group.is_phrase) s.is_at is.is_colon (sym s.whole ∙ is.whole) in
+    let cut = cut_once 58 before is.before s.at is.colon following is.following s.first (phrase_lacks 58 is.before (λ e. omega (arith, e)) is.group.is_phrase) s.is_at is.is_colon (sym s.whole ∙ is.whole) in
     rw (cut.front, cut.rest) is.group
 
-pub no_semicolon : (ts before behind : List TokenValue) (served : Bool) → IsServedGroup ts served → SplitsAt 58 ts before behind → lacks_special 59 behind ≡ true → ⊥
-no_semicolon ts before behind served g s l = let is = group_at ts before behind served g s in not_lacking 59 is.inner is.after is.semicolon is.is_semicolon (rw (is.whole) at l)
+pub no_semicolon : (ts before following : List TokenValue) (served : Bool) → IsServedGroup ts served → SplitsAt 58 ts before following → lacks_special 59 following ≡ true → ⊥
+no_semicolon ts before following served g s l = let is = group_at ts before following served g s in not_lacking 59 is.inner is.after is.semicolon is.is_semicolon (rw (is.whole) at l)
 
-pub inner_members : (ts before behind inner after : List TokenValue) (served : Bool) (g : IsServedGroup ts served) → SplitsAt 58 ts before behind → SplitsAt 59 behind inner after → AreMembers inner g.members
-inner_members ts before behind inner after served g s t = (group_inner before behind inner after g.name g.members t (group_at ts before behind served g s)).1
+pub inner_members : (ts before following inner after : List TokenValue) (served : Bool) (g : IsServedGroup ts served) → SplitsAt 58 ts before following → SplitsAt 59 following inner after → AreMembers inner g.members
+inner_members ts before following inner after served g s t = (group_inner before following inner after g.name g.members t (group_at ts before following served g s)).1
 
-pub inner_known : (ts before behind inner after : List TokenValue) (served : Bool) → IsServedGroup ts served → SplitsAt 58 ts before behind → SplitsAt 59 behind inner after → AreSomeMembers inner
-inner_known ts before behind inner after served g s t = (g.members, inner_members ts before behind inner after served g s t)
+pub inner_known : (ts before following inner after : List TokenValue) (served : Bool) → IsServedGroup ts served → SplitsAt 58 ts before following → SplitsAt 59 following inner after → AreSomeMembers inner
+inner_known ts before following inner after served g s t = (g.members, inner_members ts before following inner after served g s t)
 
-pub group_with : (ts before behind inner after : List TokenValue) (served : Bool) (g : IsServedGroup ts served) (s : SplitsAt 58 ts before behind) (t : SplitsAt 59 behind inner after) → IsGroupBy before behind g.name g.members
-group_with ts before behind inner after served g s t =
-    let is = group_at ts before behind served g s in
-    let both = group_inner before behind inner after g.name g.members t is in
+pub group_with : (ts before following inner after : List TokenValue) (served : Bool) (g : IsServedGroup ts served) (s : SplitsAt 58 ts before following) (t : SplitsAt 59 following inner after) → IsGroupBy before following g.name g.members
+group_with ts before following inner after served g s t =
+    let is = group_at ts before following served g s in
+    let both = group_inner before following inner after g.name g.members t is in
     record {
       inner = inner;
       semicolon = t.at;
@@ -163,41 +163,41 @@ mark_then {old = old} {mid = mid} mark e a = adds_both (λ xs ys is p. (ys, p, a
 both : {P Q : List (List ℕ) → Type 0} → {old mid new : List ℕ} → AddsLines P old mid → AddsLines Q mid new → AddsLines (Both P Q) old new
 both a b = adds_both (λ xs ys p q. (xs, ys, p, q, refl)) a b
 
-kept_made : (ts before behind inner after : List TokenValue) (pieces : List (List ℕ)) → (g : IsServedGroup ts true) → (s : SplitsAt 58 ts before behind) → (t : SplitsAt 59 behind inner after)
+kept_made : (ts before following inner after : List TokenValue) (pieces : List (List ℕ)) → (g : IsServedGroup ts true) → (s : SplitsAt 58 ts before following) → (t : SplitsAt 59 following inner after)
     → Both (PlacePieces before) (MarkThen 58 (Both (InnerPieces inner) (MarkThen 59 (CommentsPieces (comments_of after))))) pieces → GroupPieces ts pieces
 unfolding group_with
-kept_made ts before behind inner after pieces g s t p =
+kept_made ts before following inner after pieces g s t p =
     let marked = p.3 in
     let rest = marked.1 in
     let closed = rest.3 in
     GroupPieces.Kept g.name g.members p.0 rest.0 closed.0
-    (record { before = before; colon = s.at; behind = behind; whole = s.whole; is_colon = s.is_at; group = group_with ts before behind inner after true g s t }) (sym g.served) p.2 rest.2 closed.1
+    (record { before = before; colon = s.at; following = following; whole = s.whole; is_colon = s.is_at; group = group_with ts before following inner after true g s t }) (sym g.served) p.2 rest.2 closed.1
     (p.4 ∙ ap (λ r. p.0 ++ r) (marked.2 ∙ ap (λ r. (58 ∷ []) ∷ r) (rest.4 ∙ ap (λ r. rest.0 ++ r) closed.2)))
 
-pub kept_adds : (ts before behind inner after : List TokenValue) (old a b c d new : List ℕ) → IsServedGroup ts true → SplitsAt 58 ts before behind → SplitsAt 59 behind inner after
+pub kept_adds : (ts before following inner after : List TokenValue) (old a b c d new : List ℕ) → IsServedGroup ts true → SplitsAt 58 ts before following → SplitsAt 59 following inner after
     → AddsLines (PlacePieces before) old a → b ≡ a ++ lines_of ((58 ∷ []) ∷ []) → AddsLines (InnerPieces inner) b c → d ≡ c ++ lines_of ((59 ∷ []) ∷ []) → AddsLines (CommentsPieces (comments_of after)) d new
     → AddsLines (GroupPieces ts) old new
-kept_adds ts before behind inner after old a b c d new g s t p e q f r = adds_as (λ ps x. kept_made ts before behind inner after ps g s t x) (both p (mark_then 58 e (both q (mark_then 59 f r))))
+kept_adds ts before following inner after old a b c d new g s t p e q f r = adds_as (λ ps x. kept_made ts before following inner after ps g s t x) (both p (mark_then 58 e (both q (mark_then 59 f r))))
 
 -- the members that aren't all served are some
-pub not_kept_members : (ts before behind inner after : List TokenValue) → IsServedGroup ts false → SplitsAt 58 ts before behind → SplitsAt 59 behind inner after → AreSomeMailboxes inner
-not_kept_members ts before behind inner after g s t = by g.members g.served (inner_members ts before behind inner after false g s t)
+pub not_kept_members : (ts before following inner after : List TokenValue) → IsServedGroup ts false → SplitsAt 58 ts before following → SplitsAt 59 following inner after → AreSomeMailboxes inner
+not_kept_members ts before following inner after g s t = by g.members g.served (inner_members ts before following inner after false g s t)
   where
     by : (ms : List MailboxValue) → false ≡ list_all has_served_address ms → AreMembers inner ms → AreSomeMailboxes inner
     by ms e (inl none) = cc (e ∙ ap (list_all has_served_address) none.1)
     by ms e (inr divided) = (ms, divided)
 
-pub emptied_group : (ts before behind inner after : List TokenValue) (old mid new : List ℕ) → (g : IsServedGroup ts false) → SplitsAt 58 ts before behind → SplitsAt 59 behind inner after
+pub emptied_group : (ts before following inner after : List TokenValue) (old mid new : List ℕ) → (g : IsServedGroup ts false) → SplitsAt 58 ts before following → SplitsAt 59 following inner after
     → AddsLines (GivesGroupUnits before inner) old mid → AddsLines (NoMembersPieces ts) mid new → AddsLines (GroupPieces ts) old new
-emptied_group ts before behind inner after old mid new g s t a b = adds_both (λ words rest p q.
-    let is = group_at ts before behind false g s in
-    let both = group_inner before behind inner after g.name g.members t is in
+emptied_group ts before following inner after old mid new g s t a b = adds_both (λ words rest p q.
+    let is = group_at ts before following false g s in
+    let both = group_inner before following inner after g.name g.members t is in
     let same : g.members ≡ p.members = members_once inner g.members p.members both.1 (inr p.are_members) in
     let whole : IsGroup ts p.said p.members
     = record {
       before = before;
       colon = s.at;
-      behind = behind;
+      following = following;
       whole = s.whole;
       is_colon = s.is_at;
       group = record { inner = inner; semicolon = t.at; after = after; whole = t.whole; is_semicolon = t.is_at; nothing_after = both.0; is_phrase = is.is_phrase; says = p.has_units; are_members = inr p.are_members };
@@ -205,5 +205,5 @@ emptied_group ts before behind inner after old mid new g s t a b = adds_both (λ
     GroupPieces.Emptied p.said p.members words q.0 whole (ap (list_all has_served_address) (sym same) ∙ sym g.served) p.write q.1 (ap (λ r. words ++ r) q.2)) a b
 
 pub group_some : (ts : List TokenValue) (ps : List (List ℕ)) → GroupPieces ts ps → ps ≢ []
-group_some ts ps (GroupPieces.Kept name members first inner comments g plain p i cs e) = λ none. some_behind first (inner ++ (59 ∷ []) ∷ comments) (58 ∷ []) (sym e ∙ none)
-group_some ts ps (GroupPieces.Emptied name members words comments g plain w cs e) = λ none. some_behind words comments _ (sym e ∙ none)
+group_some ts ps (GroupPieces.Kept name members first inner comments g plain p i cs e) = λ none. some_after first (inner ++ (59 ∷ []) ∷ comments) (58 ∷ []) (sym e ∙ none)
+group_some ts ps (GroupPieces.Emptied name members words comments g plain w cs e) = λ none. some_after words comments _ (sym e ∙ none)

@@ -72,10 +72,10 @@ first_angled ts before inner m angled named = record { angled = angled; first_op
 angles_same : (ts a b x y : List TokenValue) (m n : MailboxValue) (p : IsAngled ts a x) (q : IsAngled ts b y) → IsNamedBy a x m → IsNamedBy b y n → SameAngles a b x y p.after q.after
 angles_same ts a b x y m n p q pn qn = angles_once ts a b x y (first_angled ts a x m p pn) (first_angled ts b y n q qn)
 
-firsts_same : (a b core trail other behind : List TokenValue) (ps qs : List (List ℕ)) → a ≡ b → HasCore a core trail → HasCore b other behind
-    → PhrasePieces (list_all is_ascii (octets_of core)) core ps → PhrasePieces (list_all is_ascii (octets_of other)) other qs → (trail ≡ behind) × (ps ≡ qs)
-firsts_same a b core trail other behind ps qs e p q f g =
-    let same = core_once b core trail other behind (subst (λ r. HasCore r core trail) e p) q in
+firsts_same : (a b core trail other following : List TokenValue) (ps qs : List (List ℕ)) → a ≡ b → HasCore a core trail → HasCore b other following
+    → PhrasePieces (list_all is_ascii (octets_of core)) core ps → PhrasePieces (list_all is_ascii (octets_of other)) other qs → (trail ≡ following) × (ps ≡ qs)
+firsts_same a b core trail other following ps qs e p q f g =
+    let same = core_once b core trail other following (subst (λ r. HasCore r core trail) e p) q in
     (same.rest, PhrasePieces-once (list_all is_ascii (octets_of other)) other ps qs (subst (λ ts. PhrasePieces (list_all is_ascii (octets_of ts)) ts ps) same.front f) g)
 
 comments_same : (ts us : List TokenValue) (ps qs : List (List ℕ)) → ts ≡ us → CommentsPieces (comments_of ts) ps → CommentsPieces (comments_of us) qs → ps ≡ qs
@@ -98,13 +98,13 @@ MailboxPieces-once ts ps qs (Angled m s before inner cs a is none e c w) (Emptie
 MailboxPieces-once ts ps qs (Named m s before inner core trail first cs a is some has phrase e c w) (Bare n t ds js f d v) = absurd (not_both ts n m js (named_by ts before inner m a is))
 MailboxPieces-once ts ps qs (Named m s before inner core trail first cs a is some has phrase e c w) (Angled n t x y ds b js none f d v) =
     absurd (phrase_or_not ts m n (inr (named_by ts before inner m a is)) (inr (named_by ts x y n b js)) some none)
-MailboxPieces-once ts ps qs (Named m s before inner core trail first cs a is some has phrase e c w) (Named n t x y other behind front ds b js one haves words f d v) =
+MailboxPieces-once ts ps qs (Named m s before inner core trail first cs a is some has phrase e c w) (Named n t x y other following front ds b js one haves words f d v) =
     let served : s ≡ t = served_same ts m n s t (inr (named_by ts before inner m a is)) (inr (named_by ts x y n b js)) e f in
     let angles = angles_same ts before x inner y m n a b is js in
-    let firsts = firsts_same before x core trail other behind first front angles.before has haves phrase words in
-    let rest : trail ++ inner ++ a.after ≡ behind ++ y ++ b.after
-    = ap (λ r. (r ++ inner) ++ a.after) firsts.0 ∙ ap (λ r. (behind ++ r) ++ a.after) angles.inner ∙ ap (λ r. (behind ++ y) ++ r) angles.after in
-    let comments = comments_same (trail ++ inner ++ a.after) (behind ++ y ++ b.after) cs ds rest c d in
+    let firsts = firsts_same before x core trail other following first front angles.before has haves phrase words in
+    let rest : trail ++ inner ++ a.after ≡ following ++ y ++ b.after
+    = ap (λ r. (r ++ inner) ++ a.after) firsts.0 ∙ ap (λ r. (following ++ r) ++ a.after) angles.inner ∙ ap (λ r. (following ++ y) ++ r) angles.after in
+    let comments = comments_same (trail ++ inner ++ a.after) (following ++ y ++ b.after) cs ds rest c d in
     w ∙ ap (λ r. r ++ in_angles (address_text s) ∷ cs) firsts.1 ∙ ap (λ (k : Address). front ++ in_angles (address_text k) ∷ cs) served ∙ ap (λ r. front ++ in_angles (address_text t) ∷ r) comments ∙ sym v
 MailboxPieces-once ts ps qs (Named m s before inner core trail first cs a is some has phrase e c w) (Emptied n words ds js f write d v) =
     absurd (served_or_not ts m n s (inr (named_by ts before inner m a is)) js e f)
@@ -142,12 +142,12 @@ InnerPieces-once ts ps qs (inr p) (inr q) =
 -- ---- groups
 
 IsGroup-once : (ts : List TokenValue) (us vs : List UnitValue) (ms ns : List MailboxValue) → IsGroup ts us ms → IsGroup ts vs ns → SameGroup us vs ms ns
-IsGroup-once ts us vs ms ns p q = group_once p.before p.behind us vs ms ns p.group (group_parts ts p.before p.behind vs ns (group_name ts us ms p) q)
+IsGroup-once ts us vs ms ns p q = group_once p.before p.following us vs ms ns p.group (group_parts ts p.before p.following vs ns (group_name ts us ms p) q)
 
 groups_same : (ts : List TokenValue) (us vs : List UnitValue) (ms ns : List MailboxValue) (p : IsGroup ts us ms) (q : IsGroup ts vs ns)
     → SameAngles p.before q.before p.group.inner q.group.inner p.group.after q.group.after
 groups_same ts us vs ms ns p q =
-    let name = cut_once 58 p.before q.before p.colon q.colon p.behind q.behind (phrase_lacks 58 p.before (λ e. omega (arith, e)) p.group.is_phrase) (phrase_lacks 58 q.before (λ e. omega (arith, e)) q.group.is_phrase)
+    let name = cut_once 58 p.before q.before p.colon q.colon p.following q.following (phrase_lacks 58 p.before (λ e. omega (arith, e)) p.group.is_phrase) (phrase_lacks 58 q.before (λ e. omega (arith, e)) q.group.is_phrase)
     p.is_colon q.is_colon (sym p.whole ∙ q.whole) in
     let inner = cut_once 59 p.group.inner q.group.inner p.group.semicolon q.group.semicolon p.group.after q.group.after (members_lack p.group.inner ms p.group.are_members) (members_lack q.group.inner ns q.group.are_members)
     p.group.is_semicolon q.group.is_semicolon (sym p.group.whole ∙ name.rest ∙ q.group.whole) in
@@ -184,8 +184,8 @@ mailbox_pieces ts ps (Named m s before inner core trail first cs a is some has p
 mailbox_pieces ts ps (Emptied m words cs is e write c w) = (m, is)
 
 mailbox_or_group : (ts : List TokenValue) (ps qs : List (List ℕ)) → MailboxPieces ts ps → GroupPieces ts qs → ⊥
-mailbox_or_group ts ps qs p (Kept us ms first inner cs g plain place within c w) = let m = mailbox_pieces ts ps p in mailbox_no_name ts g.before g.behind m.0 (group_name ts us ms g) m.1
-mailbox_or_group ts ps qs p (Emptied us ms words cs g none write c w) = let m = mailbox_pieces ts ps p in mailbox_no_name ts g.before g.behind m.0 (group_name ts us ms g) m.1
+mailbox_or_group ts ps qs p (Kept us ms first inner cs g plain place within c w) = let m = mailbox_pieces ts ps p in mailbox_no_name ts g.before g.following m.0 (group_name ts us ms g) m.1
+mailbox_or_group ts ps qs p (Emptied us ms words cs g none write c w) = let m = mailbox_pieces ts ps p in mailbox_no_name ts g.before g.following m.0 (group_name ts us ms g) m.1
 
 ElementPieces-once : (b : Bool) (ts : List TokenValue) (ps qs : List (List ℕ)) → ElementPieces b ts ps → ElementPieces b ts qs → ps ≡ qs
 ElementPieces-once true ts ps qs p q = p.2 ∙ ap (λ r. octets_of r ∷ []) (HasText-once ts p.0 q.0 p.1 q.1) ∙ sym q.2

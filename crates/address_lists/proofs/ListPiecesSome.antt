@@ -63,7 +63,7 @@ address_utf8 ts a can is =
 
 routed_utf8 : (ts : List TokenValue) (a : Address) → CanServe ts → IsRoutedOrNot ts a → IsUtf8 (address_text a)
 routed_utf8 ts a can (inl is) = address_utf8 ts a can is
-routed_utf8 ts a can (inr is) = address_utf8 is.behind a (serves_both ts is.route is.colon is.behind is.whole can).rest is.is_address
+routed_utf8 ts a can (inr is) = address_utf8 is.following a (serves_both ts is.route is.colon is.following is.whole can).rest is.is_address
 
 says_writable : (ts : List TokenValue) (phrase : Bool) (units : List UnitValue) → CanServe ts → SaysPhrase ts phrase units → AreWritable units
 says_writable ts true units can s = HasPhraseUnits-writable (phrase_items ts) units (sound_items ts can.sound) s.1
@@ -77,13 +77,13 @@ record CanWriteMailbox (m : MailboxValue) : Type 0 where
 record ServesAngled (before inner after : List TokenValue) : Type 0 where
   front : CanServe before
   within : CanServe inner
-  behind : CanServe after
+  following : CanServe after
 
 serves_angled : (ts before inner : List TokenValue) (a : IsAngled ts before inner) → CanServe ts → ServesAngled before inner a.after
 serves_angled ts before inner a can =
     let both = serves_both ts before a.open_mark (inner ++ a.close_mark ∷ a.after) a.whole can in
     let more = serves_both (inner ++ a.close_mark ∷ a.after) inner a.close_mark a.after refl both.rest in
-    record { front = both.front; within = more.front; behind = more.rest }
+    record { front = both.front; within = more.front; following = more.rest }
 
 mailbox_can : (ts : List TokenValue) (m : MailboxValue) → CanServe ts → IsMailbox ts m → CanWriteMailbox m
 mailbox_can ts m can (inl is) = record { display = subst AreWritable (sym is.display) tt; address = address_utf8 ts m.address can is.is_address }
@@ -190,10 +190,10 @@ angled_some ts before inner m served can angled named e = elim (cases_Bool m.phr
       let first = PhrasePieces-some (list_all is_ascii (octets_of c.0)) c.0 (core_utf8 before c.0 c.1 (sound_items before parts.front.sound) has) (core_writable before c.0 c.1 parts.front.comments has) in
       let trail = CommentsPieces-some (comments_of c.1) (trail_writable before c.0 c.1 parts.front.comments has) in
       let within = CommentsPieces-some (comments_of inner) parts.within.comments in
-      let behind = CommentsPieces-some (comments_of angled.after) parts.behind.comments in
+      let following = CommentsPieces-some (comments_of angled.after) parts.following.comments in
       let two = pieces-append c.1 inner trail.0 within.0 trail.1 within.1 in
-      let all = pieces-append (c.1 ++ inner) angled.after (trail.0 ++ within.0) behind.0 two behind.1 in
-      let comments : List (List ℕ) = (trail.0 ++ within.0) ++ behind.0 in
+      let all = pieces-append (c.1 ++ inner) angled.after (trail.0 ++ within.0) following.0 two following.1 in
+      let comments : List (List ℕ) = (trail.0 ++ within.0) ++ following.0 in
       (first.0 ++ in_angles (address_text served) ∷ comments, Named m served before inner c.0 c.1 first.0 comments angled named some has first.1 e all refl)
 ]
 
@@ -266,8 +266,8 @@ members_can ts ms can (inr d) = parts_can d.parts ts ms d.divided d.say can
 GroupPieces-some : (ts : List TokenValue) (name : List UnitValue) (ms : List MailboxValue) → CanServe ts → IsGroup ts name ms → (ps : List (List ℕ)) × GroupPieces ts ps
 GroupPieces-some ts name ms can is =
     let g = is.group in
-    let both = serves_both ts is.before is.colon is.behind is.whole can in
-    let more = serves_both is.behind g.inner g.semicolon g.after g.whole both.rest in
+    let both = serves_both ts is.before is.colon is.following is.whole can in
+    let more = serves_both is.following g.inner g.semicolon g.after g.whole both.rest in
     elim (cases_Bool (list_all has_served_address ms)) [
       | inl plain ↦
           let first = PlacePieces-some is.before g.is_phrase (sound_items is.before both.front.sound) both.front.comments in

@@ -15,14 +15,14 @@ use Rattle.field_tokens.specs.Comments.{CommentsPieces}
 use Rattle.address_grammar.specs.private.Lexemes.{HasMailTokens, is_special_of, is_blank_token, are_blank}
 use Rattle.address_grammar.specs.AddressLists.{Divided, SayParts, AreDivided, ElementValue, One, Group, IsElement, SaysPlace}
 use Rattle.address_grammar.specs.private.ListSteps.{SplitsName}
-use Rattle.address_grammar.specs.private.Walks.{awaited_behind, and_then, walk, SplitsPlace, IsLastPlace}
+use Rattle.address_grammar.specs.private.Walks.{awaited_after, and_then, walk, SplitsPlace, IsLastPlace}
 use Rattle.address_lists.specs.ListPieces.{GroupPieces, with_comma, MemberPieces, ElementPieces, PlaceOfListPieces, comma_followed, PlacesPieces, AddressesPieces}
 use Rattle.address_lists.specs.private.ListWriting.{CanBeWritten, AsciiPieces, is_element_token, IsServedGroupBy, IsServedGroup, GivesMember, GivesElement, GivesPlace, GivesFollowed, GivesPlaces}
 use Rattle.address_grammar.proofs.LexemeLemmas.{no_mark}
 use Rattle.address_grammar.proofs.DividedLemmas.{ReadsParts, parts_start, parts_turn, parts_stuck, parts_stuck_last}
 use Rattle.address_grammar.proofs.ListLemmas.{place_walked, element_not_blank}
-use Rattle.address_lists.proofs.AddedPieces.{adds_comma, some_behind}
-use Rattle.address_lists.proofs.WritableTokens.{behind_can}
+use Rattle.address_lists.proofs.AddedPieces.{adds_comma, some_after}
+use Rattle.address_lists.proofs.WritableTokens.{following_can}
 use Rattle.address_lists.proofs.ServedMailboxes.{mailbox_some}
 use Rattle.address_lists.proofs.KeptGroups.{false_where, group_some}
 
@@ -45,16 +45,16 @@ single_gives ts old new a = adds_as (λ ps g. record { element = One g.member; i
     by false ps p = inl p
 
 -- the group that was read
-pub group_read : (ts before behind : List TokenValue) (served : Bool) → SplitsName ts before behind → IsServedGroupBy before behind served → IsServedGroup ts served
-group_read ts before behind served s g = record {
+pub group_read : (ts before following : List TokenValue) (served : Bool) → SplitsName ts before following → IsServedGroupBy before following served → IsServedGroup ts served
+group_read ts before following served s g = record {
   name = g.name;
   members = g.members;
-  group = record { before = before; colon = s.splits.at; behind = behind; whole = s.splits.whole; is_colon = s.splits.is_at; group = g.group };
+  group = record { before = before; colon = s.splits.at; following = following; whole = s.splits.whole; is_colon = s.splits.is_at; group = g.group };
   served = g.served;
 }
 
 element_some : (b : Bool) (ts : List TokenValue) (ps : List (List ℕ)) → ElementPieces b ts ps → ps ≢ []
-element_some true ts ps is = λ none. some_behind [] [] _ (sym is.2 ∙ none)
+element_some true ts ps is = λ none. some_after [] [] _ (sym is.2 ∙ none)
 element_some false ts ps (inl is) = mailbox_some ts ps is
 element_some false ts ps (inr is) = group_some ts ps is
 
@@ -69,14 +69,14 @@ element_place ts old new h a = adds_as (λ ps g. record { elements = g.element �
 place_some : (ts : List TokenValue) (ps : List (List ℕ)) → are_blank ts ≡ false → PlaceOfListPieces (are_blank ts) ts ps → ps ≢ []
 place_some ts ps h is = element_some (list_all is_ascii (octets_of ts)) ts ps (rw (h) at is)
 
-pub not_followed : (place behind : List TokenValue) (old new : List ℕ) → (not (are_blank place) && list_any is_element_token behind) ≡ false → AddsLines (GivesPlace place) old new
-    → AddsLines (GivesFollowed place behind) old new
-not_followed place behind old new h a = adds_as (λ ps g. record { elements = g.elements; says = g.says; first = ps; gives = g.gives; pieces_are = rw (h) refl }) a
+pub not_followed : (place following : List TokenValue) (old new : List ℕ) → (not (are_blank place) && list_any is_element_token following) ≡ false → AddsLines (GivesPlace place) old new
+    → AddsLines (GivesFollowed place following) old new
+not_followed place following old new h a = adds_as (λ ps g. record { elements = g.elements; says = g.says; first = ps; gives = g.gives; pieces_are = rw (h) refl }) a
 
-pub is_followed : (place behind : List TokenValue) (old mid new : List ℕ) → (not (are_blank place) && list_any is_element_token behind) ≡ true → AddsLines (GivesPlace place) old mid → new ≡ mid ++ 44 ∷ []
-    → AddsLines (GivesFollowed place behind) old new
-is_followed place behind old mid new h a e =
-    let word : are_blank place ≡ false = not-true (are_blank place) (and_parts (not (are_blank place)) (list_any is_element_token behind) h).0 in
+pub is_followed : (place following : List TokenValue) (old mid new : List ℕ) → (not (are_blank place) && list_any is_element_token following) ≡ true → AddsLines (GivesPlace place) old mid → new ≡ mid ++ 44 ∷ []
+    → AddsLines (GivesFollowed place following) old new
+is_followed place following old mid new h a e =
+    let word : are_blank place ≡ false = not-true (are_blank place) (and_parts (not (are_blank place)) (list_any is_element_token following) h).0 in
     adds_comma (λ ps g. place_some place ps word g.gives) (λ ps g. record { elements = g.elements; says = g.says; first = ps; gives = g.gives; pieces_are = rw (h) refl }) a e
 
 -- ---- whether an element follows
@@ -100,7 +100,7 @@ one_part (t ∷ ts) w = elim (cases_Bool (is_blank_token t)) [
       let special = blank_special t.kind t.octets blank in
       rw (blank) (one_part ts (rw (no_mark 44 t special, no_mark 60 t special, no_mark 58 t special) at w))
   | inr word ↦ elim (cases_Bool (is_special_of 44 t)) [
-    | inl comma ↦ absurd (stopped (awaited_behind None t) ts (rw (comma) refl) w)
+    | inl comma ↦ absurd (stopped (awaited_after None t) ts (rw (comma) refl) w)
     | inr other ↦ rw (word, other) refl
   ]
 ]
@@ -123,12 +123,12 @@ later (p ∷ n ∷ parts) ts es d say =
 
 -- ---- whether an element stands behind
 
-pub any_turn : (all rest behind : List TokenValue) (t : TokenValue) → list_any is_element_token all ≡ list_any is_element_token rest → rest ≡ t ∷ behind → is_element_token t ≡ false
-    → list_any is_element_token all ≡ list_any is_element_token behind
-any_turn all rest behind t so e other = so ∙ ap (list_any is_element_token) e ∙ ap (λ r. r || list_any is_element_token behind) other
+pub any_turn : (all rest following : List TokenValue) (t : TokenValue) → list_any is_element_token all ≡ list_any is_element_token rest → rest ≡ t ∷ following → is_element_token t ≡ false
+    → list_any is_element_token all ≡ list_any is_element_token following
+any_turn all rest following t so e other = so ∙ ap (list_any is_element_token) e ∙ ap (λ r. r || list_any is_element_token following) other
 
-pub any_stop : (all rest behind : List TokenValue) (t : TokenValue) → list_any is_element_token all ≡ list_any is_element_token rest → rest ≡ t ∷ behind → is_element_token t ≡ true → true ≡ list_any is_element_token all
-any_stop all rest behind t so e is = sym (so ∙ ap (list_any is_element_token) e ∙ ap (λ r. r || list_any is_element_token behind) is)
+pub any_stop : (all rest following : List TokenValue) (t : TokenValue) → list_any is_element_token all ≡ list_any is_element_token rest → rest ≡ t ∷ following → is_element_token t ≡ true → true ≡ list_any is_element_token all
+any_stop all rest following t so e is = sym (so ∙ ap (list_any is_element_token) e ∙ ap (λ r. r || list_any is_element_token following) is)
 
 pub any_end : (all rest : List TokenValue) → list_any is_element_token all ≡ list_any is_element_token rest → rest ≡ [] → false ≡ list_any is_element_token all
 any_end all rest so e = sym (so ∙ ap (list_any is_element_token) e)
@@ -165,7 +165,7 @@ places_turn ts rest place after mid put s w g = record {
   onward = λ es d more p. subst (GivesPlaces ts) (sym (append_assoc mid put more)) (places_onward ts rest place after mid put w s g d.parts es more d.divided d.say p);
   done = w.done ++ g.elements;
   reads = parts_turn SaysPlace place_walked ts rest place after w.done g.elements (w.done ++ g.elements) w.reads s g.says refl;
-  can = behind_can rest place after s.comma s.whole w.can;
+  can = following_can rest place after s.comma s.whole w.can;
 }
 
 pub places_adds : (ts rest place after : List TokenValue) (old mid new : List ℕ) → SplitsPlace rest place after → AddsLines (WritesPlaces ts rest) old mid → AddsLines (GivesFollowed place after) mid new → AddsLines (WritesPlaces ts after) old new

@@ -14,9 +14,9 @@ use Rattle.field_tokens.specs.declared.TokenKind.TheVariants.{Atom, Quoted, Lite
 use Rattle.field_tokens.specs.TokenOctets.{is_line_octet}
 use Rattle.field_tokens.specs.Groups.{IsEnclosed}
 use Rattle.field_tokens.specs.Tokens.{comment_marks, TokenValue, AreTokens, IsLine}
-use Rattle.field_tokens.specs.Squeezed.{octets_of, is_comment, comments_of, space, apart, IsPart}
+use Rattle.field_tokens.specs.Squeezed.{octets_of, is_comment, comments_of, space, joined_by_spaces, IsPart}
 use Rattle.field_tokens.specs.Comments.{CommentValue, CommentsSay, CommentsPieces, AreWritableComments, AreLineComments, IsLinePiece, AreWritten}
-use Rattle.field_tokens.proofs.Parts.{BeginsNoGap, EndsNoGap, EndsNoGap-append, AreTokens-append, AreTokens-space, apart_begins, apart_some, apart_ends, AreTokens-apart, comments_of-apart, comment_part, comment_parts, comments_are_parts, comment_parts-comments, comment_parts-octets}
+use Rattle.field_tokens.proofs.Parts.{BeginsNoGap, EndsNoGap, EndsNoGap-append, AreTokens-append, AreTokens-space, joined_begins, joined_some, joined_ends, AreTokens-joined_by_spaces, comments_of-joined_by_spaces, comment_part, comment_parts, comments_are_parts, comment_parts-comments, comment_parts-octets}
 use Rattle.field_tokens.proofs.TokenLines.{comments_are_comments, comments_are_lines}
 use Rattle.field_tokens.proofs.LinePieces.{CommentsPieces-line, CommentsPieces-there}
 use Rattle.field_tokens.proofs.WrittenComments.{CommentsPieces-written}
@@ -168,19 +168,19 @@ pub record MadePhrase (units : List UnitValue) (values : List CommentValue) (pie
   pub are_made : AreMade tokens pieces
 
 parts_made : (part : List TokenValue) (parts : List (List TokenValue)) (pieces : List (List ℕ)) → AllByRecursion (IsPart Mail) (part ∷ parts) → join_with_byte 32 (map octets_of (part ∷ parts)) ≡ join_with_byte 32 pieces
-    → 0 < length pieces → AllByRecursion IsLinePiece pieces → AreMade (apart (part ∷ parts)) pieces
+    → 0 < length pieces → AllByRecursion IsLinePiece pieces → AreMade (joined_by_spaces (part ∷ parts)) pieces
 parts_made part parts pieces all joined some each = record {
-  are_tokens = subst (AreTokens Mail (apart (part ∷ parts))) joined (AreTokens-apart Mail (part ∷ parts) all);
-  begins = apart_begins Mail (part ∷ parts) all;
-  ends = apart_ends Mail (part ∷ parts) all;
-  there = apart_some Mail part parts all;
+  are_tokens = subst (AreTokens Mail (joined_by_spaces (part ∷ parts))) joined (AreTokens-joined_by_spaces Mail (part ∷ parts) all);
+  begins = joined_begins Mail (part ∷ parts) all;
+  ends = joined_ends Mail (part ∷ parts) all;
+  there = joined_some Mail part parts all;
   some = some;
   each = each;
 }
 
 pub head_phrase : (us : List UnitValue) (values : List CommentValue) (pieces : List (List ℕ)) → IsHead us values pieces → MadePhrase us values pieces
 head_phrase us values pieces head = record {
-  tokens = apart (head.first ∷ head.others);
+  tokens = joined_by_spaces (head.first ∷ head.others);
   is_phrase = head.phrase;
   has_units = head.has_units;
   say = head.say;
@@ -193,7 +193,7 @@ again_phrase us values pieces is = by is.parts refl
     by : (parts : List (List TokenValue)) → is.parts ≡ parts → MadePhrase us values pieces
     by [] e = absurd (omega (arith, is.some, ap length e))
     by (part ∷ parts) e = record {
-      tokens = apart is.parts;
+      tokens = joined_by_spaces is.parts;
       is_phrase = is.phrase;
       has_units = is.has_units;
       say = is.say;
@@ -225,13 +225,13 @@ line_plain : (cs : List (List ℕ)) → AreCommentsOfLine cs → AreLineComments
 line_plain [] all = tt
 line_plain (c ∷ cs) all = (all.0.is_line.plain, line_plain cs all.1)
 
-blank_comments : (cs : List (List ℕ)) → are_blank (apart (comment_parts cs)) ≡ true
+blank_comments : (cs : List (List ℕ)) → are_blank (joined_by_spaces (comment_parts cs)) ≡ true
 blank_comments [] = refl
 blank_comments (c ∷ []) = refl
 blank_comments (c ∷ d ∷ cs) = blank_comments (d ∷ cs)
 
-comments_apart : (cs : List (List ℕ)) → comments_of (apart (comment_parts cs)) ≡ cs
-comments_apart cs = comments_of-apart (comment_parts cs) ∙ comment_parts-comments cs
+comments_apart : (cs : List (List ℕ)) → comments_of (joined_by_spaces (comment_parts cs)) ≡ cs
+comments_apart cs = comments_of-joined_by_spaces (comment_parts cs) ∙ comment_parts-comments cs
 
 -- comments as they are written
 pub record MadeComments (values : List CommentValue) (pieces : List (List ℕ)) : Type 0 where
@@ -249,7 +249,7 @@ comments_made cs values pieces some all say are = by written.made refl
     by : (made : List (List ℕ)) → written.made ≡ made → MadeComments values pieces
     by [] e = absurd (omega (arith, some, ap length (written.none.0 e)))
     by (c ∷ made) e = record {
-      tokens = apart (comment_parts (c ∷ made));
+      tokens = joined_by_spaces (comment_parts (c ∷ made));
       blank = blank_comments (c ∷ made);
       say = rw (comments_apart (c ∷ made)) (rw (e) at written.say);
       are_made = parts_made (comment_part c) (comment_parts made) pieces (comments_are_parts Mail (c ∷ made) (groups (c ∷ made) (rw (e) at written.are_comments)))
@@ -258,18 +258,18 @@ comments_made cs values pieces some all say are = by written.made refl
     }
 
 -- what may stand behind others: nothing, or comments behind a space
-pub record MadeBehind (values : List CommentValue) (pieces : List (List ℕ)) : Type 0 where
+pub record MadeAfter (values : List CommentValue) (pieces : List (List ℕ)) : Type 0 where
   pub tokens : List TokenValue
   pub blank : are_blank tokens ≡ true
   pub say : CommentsSay (comments_of tokens) values
   pub onto : (front : List TokenValue) (first : List (List ℕ)) → AreMade front first → AreMade (front ++ tokens) (first ++ pieces)
 
-nothing_behind : (front : List TokenValue) (first : List (List ℕ)) → AreMade front first → AreMade (front ++ []) (first ++ [])
-nothing_behind front first made = rw (append-nil front, append-nil first) made
+nothing_following : (front : List TokenValue) (first : List (List ℕ)) → AreMade front first → AreMade (front ++ []) (first ++ [])
+nothing_following front first made = rw (append-nil front, append-nil first) made
 
-pub comments_behind : (cs : List (List ℕ)) (values : List CommentValue) (pieces : List (List ℕ)) → AreCommentsOfLine cs → CommentsSay cs values → CommentsPieces cs pieces → MadeBehind values pieces
-comments_behind [] values pieces all say are = rw (are) (record { tokens = []; blank = refl; say = say; onto = nothing_behind })
-comments_behind (c ∷ cs) values pieces all say are =
+pub comments_after : (cs : List (List ℕ)) (values : List CommentValue) (pieces : List (List ℕ)) → AreCommentsOfLine cs → CommentsSay cs values → CommentsPieces cs pieces → MadeAfter values pieces
+comments_after [] values pieces all say are = rw (are) (record { tokens = []; blank = refl; say = say; onto = nothing_following })
+comments_after (c ∷ cs) values pieces all say are =
     let made = comments_made (c ∷ cs) values pieces (omega arith) all say are in
     record {
       tokens = space ∷ made.tokens;

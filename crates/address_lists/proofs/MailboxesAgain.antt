@@ -31,7 +31,7 @@ use Rattle.address_lists.proofs.PhraseWriting.{phrase_core, core_comments}
 use Rattle.address_lists.proofs.PhrasesAgain.{CommentsSay-append, say_both, phrase_before, units_before, core_units, PlacePieces-read}
 use Rattle.address_grammar.proofs.ListLemmas.{IsMailbox-once}
 use Rattle.address_lists.proofs.ServedLemmas.{WritesAddress, address_served}
-use Rattle.address_lists.proofs.MadeTokens.{AreMade, made_two, made_address, no_blank_comments, again_phrase, AreCommentsOfLine, text_line_comments, comments_behind}
+use Rattle.address_lists.proofs.MadeTokens.{AreMade, made_two, made_address, no_blank_comments, again_phrase, AreCommentsOfLine, text_line_comments, comments_after}
 use Rattle.address_lists.proofs.AmongBlanks.{before_blanks, mailbox_among}
 use Rattle.address_lists.proofs.EmptiedGroups.{mailbox_sound, mailbox_stands, emptied_again}
 use Rattle.address_lists.proofs.PhraseListsAgain.{special_no_comment}
@@ -83,7 +83,7 @@ bare_again : (ts : List TokenValue) (m : MailboxValue) (served : Address) (value
     → CommentsSay (comments_of ts) values → CommentsPieces (comments_of ts) comments → IsMailboxAgain m values (address_text served ∷ comments)
 bare_again ts m served values comments has is e say are =
     let w = address_served ts m.address served (text_sound ts has) is.is_address e in
-    let b = comments_behind (comments_of ts) values comments (text_line_comments (octets_of ts) ts has) say are in
+    let b = comments_after (comments_of ts) values comments (text_line_comments (octets_of ts) ts has) say are in
     let made : MailboxValue = with_address m served in
     let comments_are : comments_of (w.tokens ++ b.tokens) ≡ comments_of b.tokens = comments_of-append w.tokens b.tokens ∙ ap (λ r. r ++ comments_of b.tokens) (no_blank_comments w.tokens w.no_blank) in
     record {
@@ -119,7 +119,7 @@ brackets_no_comments served w = comments_of-append w.tokens (mark 62 ∷ []) ∙
 
 routed_served : (ts : List TokenValue) (a served : Address) → AllByRecursion IsSound ts → IsRoutedOrNot ts a → served_address a ≡ Some served → WritesAddress served
 routed_served ts a served sound (inl is) e = address_served ts a served sound is e
-routed_served ts a served sound (inr is) e = address_served is.behind a served (sound_rest is.route (is.colon ∷ is.behind) (rw (is.whole) at sound)).1 is.is_address e
+routed_served ts a served sound (inr is) e = address_served is.following a served (sound_rest is.route (is.colon ∷ is.following) (rw (is.whole) at sound)).1 is.is_address e
 
 angled_served : (ts before inner : List TokenValue) (m : MailboxValue) (served : Address) → HasMailTokens (octets_of ts) ts → IsAngled ts before inner → IsNamedBy before inner m → served_address m.address ≡ Some served → WritesAddress served
 angled_served ts before inner m served has angled named e =
@@ -127,19 +127,19 @@ angled_served ts before inner m served has angled named e =
     routed_served inner m.address served (sound_front inner (angled.close_mark ∷ angled.after) (sound_rest before (angled.open_mark ∷ (inner ++ angled.close_mark ∷ angled.after)) all).1) named.address e
 
 -- the brackets with this before them, and comments behind them
-brackets_mailbox : (before behind : List TokenValue) (m : MailboxValue) (served : Address) (w : WritesAddress served) → SaysPhrase before m.phrase m.display → m.angle ≡ true → are_blank behind ≡ true
-    → IsMailbox (before ++ (bracketed w.tokens ++ behind)) (with_address m served)
-brackets_mailbox before behind m served w says angle blank = inr (record {
+brackets_mailbox : (before following : List TokenValue) (m : MailboxValue) (served : Address) (w : WritesAddress served) → SaysPhrase before m.phrase m.display → m.angle ≡ true → are_blank following ≡ true
+    → IsMailbox (before ++ (bracketed w.tokens ++ following)) (with_address m served)
+brackets_mailbox before following m served w says angle blank = inr (record {
   before = before;
   inner = w.tokens;
   angled = record {
     open_mark = mark 60;
     close_mark = mark 62;
-    after = behind;
-    whole = ap (λ r. before ++ mark 60 ∷ r) (append_assoc w.tokens (mark 62 ∷ []) behind);
+    after = following;
+    whole = ap (λ r. before ++ mark 60 ∷ r) (append_assoc w.tokens (mark 62 ∷ []) following);
     opens = refl;
     closes = refl;
-    behind = blank;
+    following = blank;
   };
   named = record { says = says; address = inl w.is_address; angle = angle };
 })
@@ -152,7 +152,7 @@ angled_again : (ts before inner : List TokenValue) (m : MailboxValue) (served : 
     → m.phrase ≡ false → served_address m.address ≡ Some served → CommentsSay (comments_of ts) values → CommentsPieces (comments_of ts) comments → IsMailboxAgain m values (in_angles (address_text served) ∷ comments)
 angled_again ts before inner m served values comments has angled named none e say are =
     let w = angled_served ts before inner m served has angled named e in
-    let b = comments_behind (comments_of ts) values comments (text_line_comments (octets_of ts) ts has) say are in
+    let b = comments_after (comments_of ts) values comments (text_line_comments (octets_of ts) ts has) say are in
     let comments_are : comments_of (bracketed w.tokens ++ b.tokens) ≡ comments_of b.tokens
     = comments_of-append (bracketed w.tokens) b.tokens ∙ ap (λ r. r ++ comments_of b.tokens) (brackets_no_comments served w) in
     record {
@@ -193,11 +193,11 @@ angled_comments ts before inner angled =
 -- the comments of the core, and then the others
 named_comments : (ts before inner core trail : List TokenValue) (angled : IsAngled ts before inner) → HasCore before core trail → comments_of ts ≡ comments_of core ++ comments_of ((trail ++ inner) ++ angled.after)
 named_comments ts before inner core trail angled is =
-    let behind : comments_of ((trail ++ inner) ++ angled.after) ≡ (comments_of trail ++ comments_of inner) ++ comments_of angled.after
+    let following : comments_of ((trail ++ inner) ++ angled.after) ≡ (comments_of trail ++ comments_of inner) ++ comments_of angled.after
     = comments_of-append (trail ++ inner) angled.after ∙ ap (λ r. r ++ comments_of angled.after) (comments_of-append trail inner) in
     angled_comments ts before inner angled ∙ ap (λ r. r ++ (comments_of inner ++ comments_of angled.after)) (core_comments before core trail is)
     ∙ append_assoc (comments_of core) (comments_of trail) (comments_of inner ++ comments_of angled.after)
-    ∙ ap (λ r. comments_of core ++ r) (sym (append_assoc (comments_of trail) (comments_of inner) (comments_of angled.after)) ∙ sym behind)
+    ∙ ap (λ r. comments_of core ++ r) (sym (append_assoc (comments_of trail) (comments_of inner) (comments_of angled.after)) ∙ sym following)
 
 core_text : (ts before core trail rest : List TokenValue) → HasMailTokens (octets_of ts) ts → ts ≡ before ++ rest → HasCore before core trail → HasMailTokens (octets_of core) core
 core_text ts before core trail rest has whole is =
@@ -229,7 +229,7 @@ named_again ts before inner core trail m served values first comments has angled
     let core_has = core_text ts before core trail (angled.open_mark ∷ (inner ++ angled.close_mark ∷ angled.after)) has angled.whole is in
     let name = again_phrase m.display both.first first (core_again before core trail m.display both.first first core_has says.0 says.1 is both.first_say pieces) in
     let line = line_rest (comments_of core) others (subst AreCommentsOfLine all (text_line_comments (octets_of ts) ts has)) in
-    let b = comments_behind others both.more comments line both.more_say are in
+    let b = comments_after others both.more comments line both.more_say are in
     let front : List TokenValue = name.tokens ++ space ∷ bracketed w.tokens in
     let whole : front ++ b.tokens ≡ (name.tokens ++ space ∷ []) ++ (bracketed w.tokens ++ b.tokens)
     = append_assoc name.tokens (space ∷ bracketed w.tokens) b.tokens ∙ sym (append_assoc name.tokens (space ∷ []) (bracketed w.tokens ++ b.tokens)) in

@@ -19,7 +19,7 @@ use Rattle.address_grammar.proofs.PathLemmas.{HasTokenValues-once, IsPath-once}
 use Rattle.address_grammar.proofs.SoundLemmas.{IsSound, tokens_sound, sound_front, sound_rest}
 use Rattle.address_grammar.proofs.WritingLemmas.{mark}
 use Rattle.address_lists.proofs.ServedLemmas.{WritesAddress, address_served}
-use Rattle.address_lists.proofs.MadeTokens.{AreMade, text_line_comments, comments_behind}
+use Rattle.address_lists.proofs.MadeTokens.{AreMade, text_line_comments, comments_after}
 use Rattle.address_lists.proofs.MailboxesAgain.{bracketed, made_angles, brackets_no_comments}
 
 -- the tokens of the address as it is served
@@ -27,22 +27,22 @@ path_writes : (text : List ℕ) (ts : List TokenValue) (a served : Address) → 
 path_writes text ts a served has is e =
     let angled = is.angled in
     let sound : AllByRecursion IsSound (is.before ++ angled.open_mark ∷ (is.inner ++ angled.close_mark ∷ angled.after)) = rw (angled.whole) at (tokens_sound ts text has.are_tokens has.is_line) in
-    let behind = (sound_rest is.before (angled.open_mark ∷ (is.inner ++ angled.close_mark ∷ angled.after)) sound).1 in
-    address_served is.inner a served (sound_front is.inner (angled.close_mark ∷ angled.after) behind) is.holds e
+    let following = (sound_rest is.before (angled.open_mark ∷ (is.inner ++ angled.close_mark ∷ angled.after)) sound).1 in
+    address_served is.inner a served (sound_front is.inner (angled.close_mark ∷ angled.after) following) is.holds e
 
 -- brackets, and comments behind them
-brackets_path : (served : Address) (w : WritesAddress served) (behind : List TokenValue) → are_blank behind ≡ true → IsPath (bracketed w.tokens ++ behind) (Some served)
-brackets_path served w behind blank = record {
+brackets_path : (served : Address) (w : WritesAddress served) (following : List TokenValue) → are_blank following ≡ true → IsPath (bracketed w.tokens ++ following) (Some served)
+brackets_path served w following blank = record {
   before = [];
   inner = w.tokens;
   angled = record {
     open_mark = mark 60;
     close_mark = mark 62;
-    after = behind;
-    whole = ap (λ r. mark 60 ∷ r) (append_assoc w.tokens (mark 62 ∷ []) behind);
+    after = following;
+    whole = ap (λ r. mark 60 ∷ r) (append_assoc w.tokens (mark 62 ∷ []) following);
     opens = refl;
     closes = refl;
-    behind = blank;
+    following = blank;
   };
   nothing_before = refl;
   holds = w.is_address;
@@ -73,7 +73,7 @@ tokens_again : (text : List ℕ) (ts : List TokenValue) (a served : Address) (va
     → CommentsSay (comments_of ts) values → CommentsPieces (comments_of ts) comments → IsPathAgain a values (in_angles (address_text served) ∷ comments)
 tokens_again text ts a served values comments has is e say are =
     let w = path_writes text ts a served has is e in
-    let b = comments_behind (comments_of ts) values comments (text_line_comments text ts has) say are in
+    let b = comments_after (comments_of ts) values comments (text_line_comments text ts has) say are in
     let comments_are : comments_of (bracketed w.tokens ++ b.tokens) ≡ comments_of b.tokens
     = comments_of-append (bracketed w.tokens) b.tokens ∙ ap (λ r. r ++ comments_of b.tokens) (brackets_no_comments served w) in
     again a served (bracketed w.tokens ++ b.tokens) values (in_angles (address_text served) ∷ comments) e (brackets_path served w b.tokens b.blank)

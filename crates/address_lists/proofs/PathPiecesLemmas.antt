@@ -17,10 +17,10 @@ use Rattle.address_grammar.specs.Paths.{IsFirstAngled, IsPathOf, IsPath, HasPath
 use Rattle.address_grammar.specs.AddressLists.{MailboxValue}
 use Rattle.address_lists.specs.ListPieces.{served_address}
 use Rattle.address_lists.specs.PathPieces.{SaysPath, PathPieces, ServesPath}
-use Rattle.address_grammar.proofs.PathLemmas.{HasTokenValues-once, HasPath-once, IsPath-once, angled_made, angles_once, no_open, no_close, something_behind, path_angles, path_of_tokens, KnownPath, no_address_path}
+use Rattle.address_grammar.proofs.PathLemmas.{HasTokenValues-once, HasPath-once, IsPath-once, angled_made, angles_once, no_open, no_close, something_after, path_angles, path_of_tokens, KnownPath, no_address_path}
 use Rattle.address_lists.proofs.AddedPieces.{adds_piece}
 use Rattle.address_lists.proofs.SoundPhrases.{text_comments}
-use Rattle.address_lists.proofs.WritableTokens.{text_can, front_can, behind_can, address_parts, mailbox_writable}
+use Rattle.address_lists.proofs.WritableTokens.{text_can, front_can, following_can, address_parts, mailbox_writable}
 use Rattle.address_lists.proofs.DecideAddresses.{Found, splits_or_lacks, decide_address}
 
 -- ---- what a text says
@@ -96,7 +96,7 @@ decide_is_path ts = elim (splits_or_lacks 60 ts) [
   | inl s ↦ elim (splits_or_lacks 62 s.1) [
     | inr l ↦ inr (λ answer is. no_close ts s.0 s.1 is.before is.inner s.2 l (path_angles ts answer is))
     | inl c ↦ elim (cases_Bool (are_blank c.1)) [
-      | inr other ↦ inr (λ answer is. something_behind ts s.0 s.1 c.0 c.1 is.before is.inner s.2 c.2 other (path_angles ts answer is))
+      | inr other ↦ inr (λ answer is. something_after ts s.0 s.1 c.0 c.1 is.before is.inner s.2 c.2 other (path_angles ts answer is))
       | inl blank ↦ decide_angled ts s.0 c.0 (angled_made ts s.0 s.1 c.0 c.1 s.2 c.2 blank)
     ]
   ]
@@ -141,8 +141,8 @@ pub path_parts : (text : List ℕ) (a : Address) → HasPath text (Some a) → I
 path_parts text a path =
     let is = path.is_path in
     let can = text_can text path.tokens path.has_tokens in
-    let behind = behind_can path.tokens is.before (is.inner ++ is.angled.close_mark ∷ is.angled.after) is.angled.open_mark is.angled.whole can in
-    address_parts is.inner a (front_can is.inner (is.angled.close_mark ∷ is.angled.after) behind) is.holds
+    let following = following_can path.tokens is.before (is.inner ++ is.angled.close_mark ∷ is.angled.after) is.angled.open_mark is.angled.whole can in
+    address_parts is.inner a (front_can is.inner (is.angled.close_mark ∷ is.angled.after) following) is.holds
 
 -- a path of a known address is served as that is, or isn't
 pub path_not_served : (text : List ℕ) (a : Address) (found : Option Address) → HasPath text (Some a) → found ≡ served_address a → IfNone found ((served : Address) → ¬ ServesPath text served)

@@ -58,15 +58,15 @@ no_phrase ts none (us ∷ vs ∷ more) is = is
 -- ---- the writer
 
 -- the pieces of phrases, with a comma behind each phrase
-abbrev pub commas_behind : List (List (List ℕ)) → List (List ℕ)
-commas_behind places = flat_map (λ pieces. pieces ++ (44 ∷ []) ∷ []) places
+abbrev pub commas_after : List (List (List ℕ)) → List (List ℕ)
+commas_after places = flat_map (λ pieces. pieces ++ (44 ∷ []) ∷ []) places
 
-pub with_commas-last : (places : List (List (List ℕ))) (last : List (List ℕ)) → with_commas (places ++ last ∷ []) ≡ commas_behind places ++ last
+pub with_commas-last : (places : List (List (List ℕ))) (last : List (List ℕ)) → with_commas (places ++ last ∷ []) ≡ commas_after places ++ last
 with_commas-last [] last = refl
 with_commas-last (p ∷ []) last = sym (append_assoc p ((44 ∷ []) ∷ []) last) ∙ ap (λ r. r ++ last) (sym (append-nil (p ++ (44 ∷ []) ∷ [])))
 with_commas-last (p ∷ q ∷ places) last =
-    ap (λ r. p ++ (44 ∷ []) ∷ r) (with_commas-last (q ∷ places) last) ∙ sym (append_assoc p ((44 ∷ []) ∷ []) (commas_behind (q ∷ places) ++ last))
-    ∙ sym (append_assoc (p ++ (44 ∷ []) ∷ []) (commas_behind (q ∷ places)) last)
+    ap (λ r. p ++ (44 ∷ []) ∷ r) (with_commas-last (q ∷ places) last) ∙ sym (append_assoc p ((44 ∷ []) ∷ []) (commas_after (q ∷ places) ++ last))
+    ∙ sym (append_assoc (p ++ (44 ∷ []) ∷ []) (commas_after (q ∷ places)) last)
 
 -- what can be written
 pub record CanWrite (ts : List TokenValue) : Type 0 where
@@ -91,7 +91,7 @@ pub record WritesPhrases (ts : List TokenValue) (pieces : List (List ℕ)) (rest
   pub phrases : List (List UnitValue)
   pub gives : ReadsParts GivesOnePhrase ts places rest
   pub says : ReadsParts IsOnePhrase ts phrases rest
-  pub pieces_are : pieces ≡ commas_behind places
+  pub pieces_are : pieces ≡ commas_after places
   pub can : CanWrite rest
 
 pub phrases_start : (ts : List TokenValue) → CanWrite ts → WritesPhrases ts [] ts

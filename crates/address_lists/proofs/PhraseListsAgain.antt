@@ -12,9 +12,9 @@ use Rattle.field_tokens.specs.declared.Style.TheVariants.{Mail}
 use Rattle.field_tokens.specs.declared.TokenKind.{TokenKind}
 use Rattle.field_tokens.specs.declared.TokenKind.TheVariants.{Atom, Quoted, Literal, Special, Gap, Comment}
 use Rattle.field_tokens.specs.Tokens.{TokenValue, AreTokens}
-use Rattle.field_tokens.specs.Squeezed.{octets_of, is_comment, comments_of, space, apart, IsPart, is_special_kind}
+use Rattle.field_tokens.specs.Squeezed.{octets_of, is_comment, comments_of, space, joined_by_spaces, IsPart, is_special_kind}
 use Rattle.field_tokens.specs.Comments.{CommentValue, CommentsSay, IsLinePiece}
-use Rattle.field_tokens.proofs.Parts.{tokens_some, AreTokens-begin, AreTokens-end, apart_begins, apart_some, apart_ends, AreTokens-apart, octets_of-tokens, comments_of-append}
+use Rattle.field_tokens.proofs.Parts.{tokens_some, AreTokens-begin, AreTokens-end, joined_begins, joined_some, joined_ends, AreTokens-joined_by_spaces, octets_of-tokens, comments_of-append}
 use Rattle.field_tokens.proofs.TokenLines.{joined_line}
 use Rattle.field_tokens.proofs.PieceLemmas.{join_same, pieces_lines}
 use Rattle.address_grammar.specs.private.Lexemes.{HasMailTokens, is_special_of}
@@ -81,11 +81,11 @@ divided_spaced ts phrases d = by d.parts d.divided d.say
       say = (say.0, say.1, say.2, one_spaced p say.0 say.3, say.4);
     }
 
-apart-append : (a b : List (List TokenValue)) → 0 < length a → 0 < length b → apart (a ++ b) ≡ apart a ++ space ∷ apart b
-apart-append [] b sa sb = absurd (omega (arith, sa))
-apart-append (p ∷ []) [] sa sb = absurd (omega (arith, sb))
-apart-append (p ∷ []) (q ∷ b) sa sb = refl
-apart-append (p ∷ n ∷ a) b sa sb = ap (λ r. p ++ space ∷ r) (apart-append (n ∷ a) b (omega arith) sb) ∙ sym (append_assoc p (space ∷ apart (n ∷ a)) (space ∷ apart b))
+joined_by_spaces-append : (a b : List (List TokenValue)) → 0 < length a → 0 < length b → joined_by_spaces (a ++ b) ≡ joined_by_spaces a ++ space ∷ joined_by_spaces b
+joined_by_spaces-append [] b sa sb = absurd (omega (arith, sa))
+joined_by_spaces-append (p ∷ []) [] sa sb = absurd (omega (arith, sb))
+joined_by_spaces-append (p ∷ []) (q ∷ b) sa sb = refl
+joined_by_spaces-append (p ∷ n ∷ a) b sa sb = ap (λ r. p ++ space ∷ r) (joined_by_spaces-append (n ∷ a) b (omega arith) sb) ∙ sym (append_assoc p (space ∷ joined_by_spaces (n ∷ a)) (space ∷ joined_by_spaces b))
 
 -- a comma by itself
 abbrev pub comma : TokenValue
@@ -94,9 +94,9 @@ comma = record { kind = Special; octets = 44 ∷ [] }
 comma_is_part : IsPart Mail (comma ∷ [])
 comma_is_part = record { are_tokens = ([], refl, (44, refl, refl), refl); begins = (comma, [], refl, refl); ends = ([], comma, refl, refl) }
 
-apart-comma : (a b : List (List TokenValue)) → 0 < length a → 0 < length b → apart (a ++ (comma ∷ []) ∷ b) ≡ (apart a ++ space ∷ []) ++ comma ∷ (space ∷ apart b)
-apart-comma a [] sa sb = absurd (omega (arith, sb))
-apart-comma a (q ∷ b) sa sb = apart-append a ((comma ∷ []) ∷ q ∷ b) sa (omega arith) ∙ sym (append_assoc (apart a) (space ∷ []) (comma ∷ (space ∷ apart (q ∷ b))))
+joined_by_spaces-comma : (a b : List (List TokenValue)) → 0 < length a → 0 < length b → joined_by_spaces (a ++ (comma ∷ []) ∷ b) ≡ (joined_by_spaces a ++ space ∷ []) ++ comma ∷ (space ∷ joined_by_spaces b)
+joined_by_spaces-comma a [] sa sb = absurd (omega (arith, sb))
+joined_by_spaces-comma a (q ∷ b) sa sb = joined_by_spaces-append a ((comma ∷ []) ∷ q ∷ b) sa (omega arith) ∙ sym (append_assoc (joined_by_spaces a) (space ∷ []) (comma ∷ (space ∷ joined_by_spaces (q ∷ b))))
 
 pub special_no_comment : (kind : TokenKind) → is_special_kind kind ≡ true → is_comment kind ≡ false
 special_no_comment Special h = refl
@@ -119,8 +119,8 @@ record PhraseParts (phrases : List (List UnitValue)) (values : List CommentValue
   are_parts : AllByRecursion (IsPart Mail) parts
   some : 0 < length parts
   joined : join_with_byte 32 (map octets_of parts) ≡ join_with_byte 32 pieces
-  divided : AreDivided IsOnePhrase (apart parts) phrases
-  say : CommentsSay (comments_of (apart parts)) values
+  divided : AreDivided IsOnePhrase (joined_by_spaces parts) phrases
+  say : CommentsSay (comments_of (joined_by_spaces parts)) values
   are_pieces : AllByRecursion IsLinePiece pieces
   pieces_some : 0 < length pieces
 
@@ -128,9 +128,9 @@ text_some : (ts : List TokenValue) (text : List ℕ) → 0 < length ts → AreTo
 text_some [] text some are = absurd (omega (arith, some))
 text_some (t ∷ ts) text some are = tokens_some Mail t ts text are
 
-tokens_there : (parts : List (List TokenValue)) → AllByRecursion (IsPart Mail) parts → 0 < length parts → 0 < length (apart parts)
+tokens_there : (parts : List (List TokenValue)) → AllByRecursion (IsPart Mail) parts → 0 < length parts → 0 < length (joined_by_spaces parts)
 tokens_there [] all some = absurd (omega (arith, some))
-tokens_there (part ∷ parts) all some = apart_some Mail part parts all
+tokens_there (part ∷ parts) all some = joined_some Mail part parts all
 
 joined_there : (pieces : List (List ℕ)) → 0 < length (join_with_byte 32 pieces) → 0 < length pieces
 joined_there [] some = absurd (omega (arith, some))
@@ -139,7 +139,7 @@ joined_there (p ∷ pieces) some = omega arith
 pub again_some : (units : List UnitValue) (values : List CommentValue) (pieces : List (List ℕ)) → IsPhraseAgain units values pieces → 0 < length pieces
 again_some units values pieces is =
     let text : List ℕ = join_with_byte 32 (map octets_of is.parts) in
-    let some : 0 < length text = text_some (apart is.parts) text (tokens_there is.parts is.are_parts is.some) (AreTokens-apart Mail is.parts is.are_parts) in
+    let some : 0 < length text = text_some (joined_by_spaces is.parts) text (tokens_there is.parts is.are_parts is.some) (AreTokens-joined_by_spaces Mail is.parts is.are_parts) in
     joined_there pieces (omega (arith, some, ap length is.joined))
 
 last_parts : (units : List UnitValue) (values : List CommentValue) (pieces : List (List ℕ)) → IsPhraseAgain units values pieces → PhraseParts (units ∷ []) values pieces
@@ -148,7 +148,7 @@ last_parts units values pieces is = record {
   are_parts = is.are_parts;
   some = is.some;
   joined = is.joined;
-  divided = divided_one IsOnePhrase (apart is.parts) (units ∷ []) (is.phrase, is.has_units);
+  divided = divided_one IsOnePhrase (joined_by_spaces is.parts) (units ∷ []) (is.phrase, is.has_units);
   say = is.say;
   are_pieces = is.are_pieces;
   pieces_some = again_some units values pieces is;
@@ -165,19 +165,19 @@ joined_comma ps qs ms ns sp sq sm sn a b =
     = join_same ((44 ∷ []) ∷ []) qs ((44 ∷ []) ∷ []) ns (omega arith) (omega arith) (λ e. absurd (not_none qs sq e)) (λ e. absurd (not_none ns sn e)) refl b in
     join_same ps ((44 ∷ []) ∷ qs) ms ((44 ∷ []) ∷ ns) sp sm (λ e. cc e) (λ e. cc e) a more
 
-more_parts : (us : List UnitValue) (phrases : List (List UnitValue)) (front behind : List CommentValue) (first others : List (List ℕ)) → IsPhraseAgain us front first → PhraseParts phrases behind others
-    → PhraseParts (us ∷ phrases) (front ++ behind) (first ++ (44 ∷ []) ∷ others)
-more_parts us phrases front behind first others one more =
-    let place : List TokenValue = apart one.parts ++ space ∷ [] in
-    let rest : List TokenValue = space ∷ apart more.parts in
-    let tokens : apart (one.parts ++ (comma ∷ []) ∷ more.parts) ≡ place ++ comma ∷ rest = apart-comma one.parts more.parts one.some more.some in
-    let phrase : IsPhrase place = phrase_before (apart one.parts) (space ∷ []) one.phrase refl in
-    let units : HasPhraseUnits (phrase_items place) us = units_before (apart one.parts) (space ∷ []) us refl one.has_units in
+more_parts : (us : List UnitValue) (phrases : List (List UnitValue)) (front following : List CommentValue) (first others : List (List ℕ)) → IsPhraseAgain us front first → PhraseParts phrases following others
+    → PhraseParts (us ∷ phrases) (front ++ following) (first ++ (44 ∷ []) ∷ others)
+more_parts us phrases front following first others one more =
+    let place : List TokenValue = joined_by_spaces one.parts ++ space ∷ [] in
+    let rest : List TokenValue = space ∷ joined_by_spaces more.parts in
+    let tokens : joined_by_spaces (one.parts ++ (comma ∷ []) ∷ more.parts) ≡ place ++ comma ∷ rest = joined_by_spaces-comma one.parts more.parts one.some more.some in
+    let phrase : IsPhrase place = phrase_before (joined_by_spaces one.parts) (space ∷ []) one.phrase refl in
+    let units : HasPhraseUnits (phrase_items place) us = units_before (joined_by_spaces one.parts) (space ∷ []) us refl one.has_units in
     let s : SplitsPlace (place ++ comma ∷ rest) place rest = record { comma = comma; whole = refl; is_comma = refl; walked = phrase_walked place phrase } in
     let divided : AreDivided IsOnePhrase (place ++ comma ∷ rest) (us ∷ phrases)
-    = divided_more IsOnePhrase (place ++ comma ∷ rest) place rest (us ∷ []) phrases s (phrase, units) (divided_spaced (apart more.parts) phrases more.divided) in
-    let comments : comments_of (place ++ comma ∷ rest) ≡ comments_of (apart one.parts) ++ comments_of (apart more.parts)
-    = comma_comments place rest comma refl ∙ ap (λ r. r ++ comments_of (apart more.parts)) (comments_of-append (apart one.parts) (space ∷ []) ∙ append-nil (comments_of (apart one.parts))) in
+    = divided_more IsOnePhrase (place ++ comma ∷ rest) place rest (us ∷ []) phrases s (phrase, units) (divided_spaced (joined_by_spaces more.parts) phrases more.divided) in
+    let comments : comments_of (place ++ comma ∷ rest) ≡ comments_of (joined_by_spaces one.parts) ++ comments_of (joined_by_spaces more.parts)
+    = comma_comments place rest comma refl ∙ ap (λ r. r ++ comments_of (joined_by_spaces more.parts)) (comments_of-append (joined_by_spaces one.parts) (space ∷ []) ∙ append-nil (comments_of (joined_by_spaces one.parts))) in
     let octets : map octets_of (one.parts ++ (comma ∷ []) ∷ more.parts) ≡ map octets_of one.parts ++ (44 ∷ []) ∷ map octets_of more.parts = map-append octets_of one.parts ((comma ∷ []) ∷ more.parts) in
     record {
       parts = one.parts ++ (comma ∷ []) ∷ more.parts;
@@ -186,7 +186,7 @@ more_parts us phrases front behind first others one more =
       joined = ap (join_with_byte 32) octets
           ∙ joined_comma (map octets_of one.parts) (map octets_of more.parts) first others (mapped one.parts one.some) (mapped more.parts more.some) (again_some us front first one) more.pieces_some one.joined more.joined;
       divided = rw (tokens) divided;
-      say = rw (tokens, comments) (CommentsSay-append (comments_of (apart one.parts)) (comments_of (apart more.parts)) front behind one.say more.say);
+      say = rw (tokens, comments) (CommentsSay-append (comments_of (joined_by_spaces one.parts)) (comments_of (joined_by_spaces more.parts)) front following one.say more.say);
       are_pieces = all-append IsLinePiece first ((44 ∷ []) ∷ others) one.are_pieces (record { some = omega arith; ascii = refl; line = refl }, more.are_pieces);
       pieces_some = omega (arith, length-append first ((44 ∷ []) ∷ others));
     }
@@ -209,27 +209,27 @@ parts_again (part ∷ next ∷ parts) (us ∷ vs ∷ phrases) (ps ∷ []) ts val
 parts_again (part ∷ next ∷ parts) (us ∷ vs ∷ phrases) (ps ∷ qs ∷ places) ts values d each has say =
     let front : HasMailTokens (octets_of part) part = HasTokenValues-part (octets_of ts) [] part (d.0 ∷ d.1) (subst (HasMailTokens (octets_of ts)) d.2 has) in
     let whole : ts ≡ (part ++ d.0 ∷ []) ++ (d.1 ++ []) = d.2 ∙ sym (append_assoc part (d.0 ∷ []) d.1) ∙ ap (λ r. (part ++ d.0 ∷ []) ++ r) (sym (append-nil d.1)) in
-    let behind : HasMailTokens (octets_of d.1) d.1 = HasTokenValues-part (octets_of ts) (part ++ d.0 ∷ []) d.1 [] (subst (HasMailTokens (octets_of ts)) whole has) in
+    let following : HasMailTokens (octets_of d.1) d.1 = HasTokenValues-part (octets_of ts) (part ++ d.0 ∷ []) d.1 [] (subst (HasMailTokens (octets_of ts)) whole has) in
     let comments : comments_of ts ≡ comments_of part ++ comments_of d.1 = ap comments_of d.2 ∙ comma_comments part d.1 d.0 d.3 in
     let both = say_both (comments_of part) (comments_of d.1) values (subst (λ cs. CommentsSay cs values) comments say) in
     let one = PlacePieces-read part us both.first ps front each.0 each.1 both.first_say each.2 in
-    let more = parts_again (next ∷ parts) (vs ∷ phrases) (qs ∷ places) d.1 both.more d.4 each.3 behind both.more_say in
+    let more = parts_again (next ∷ parts) (vs ∷ phrases) (qs ∷ places) d.1 both.more d.4 each.3 following both.more_say in
     rw (both.whole) (more_parts us (vs ∷ phrases) both.first both.more ps (with_commas (qs ∷ places)) one more)
 
 -- ---- the joined text
 
 parts_read : (phrases : List (List UnitValue)) (values : List CommentValue) (pieces : List (List ℕ)) → PhraseParts phrases values pieces → ArePhrasesAgain phrases values pieces
 parts_read phrases values pieces p =
-    let are : AreTokens Mail (apart p.parts) (join_with_byte 32 pieces) = subst (AreTokens Mail (apart p.parts)) p.joined (AreTokens-apart Mail p.parts p.are_parts) in
+    let are : AreTokens Mail (joined_by_spaces p.parts) (join_with_byte 32 pieces) = subst (AreTokens Mail (joined_by_spaces p.parts)) p.joined (AreTokens-joined_by_spaces Mail p.parts p.are_parts) in
     record {
       says = record {
-        tokens = apart p.parts;
+        tokens = joined_by_spaces p.parts;
         has = record { is_line = joined_line pieces (pieces_lines pieces p.are_pieces); are_tokens = are };
         divided = p.divided;
         comments_say = p.say;
       };
-      begins = AreTokens-begin Mail (apart p.parts) (join_with_byte 32 pieces) are (apart_begins Mail p.parts p.are_parts);
-      ends = AreTokens-end Mail (apart p.parts) (join_with_byte 32 pieces) are (apart_ends Mail p.parts p.are_parts);
+      begins = AreTokens-begin Mail (joined_by_spaces p.parts) (join_with_byte 32 pieces) are (joined_begins Mail p.parts p.are_parts);
+      ends = AreTokens-end Mail (joined_by_spaces p.parts) (join_with_byte 32 pieces) are (joined_ends Mail p.parts p.are_parts);
       some = p.pieces_some;
       are_pieces = p.are_pieces;
     }

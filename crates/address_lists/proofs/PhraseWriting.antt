@@ -32,21 +32,21 @@ pub gaps_start : (ts : List TokenValue) → PassesGaps ts ts
 gaps_start ts = record { lead = []; whole = refl; gaps = refl }
 
 -- tokens with one behind them
-one_behind : (front rest behind : List TokenValue) (t : TokenValue) → rest ≡ t ∷ behind → front ++ rest ≡ (front ++ t ∷ []) ++ behind
-one_behind front rest behind t e = ap (λ r. front ++ r) e ∙ sym (append_assoc front (t ∷ []) behind)
+one_after : (front rest following : List TokenValue) (t : TokenValue) → rest ≡ t ∷ following → front ++ rest ≡ (front ++ t ∷ []) ++ following
+one_after front rest following t e = ap (λ r. front ++ r) e ∙ sym (append_assoc front (t ∷ []) following)
 
 pub all_more : (p : TokenValue → Bool) (front : List TokenValue) (t : TokenValue) → list_all p front ≡ true → p t ≡ true → list_all p (front ++ t ∷ []) ≡ true
 all_more p front t all is = list_all-append p front (t ∷ []) ∙ and_from (list_all p front) (list_all p (t ∷ [])) all (and_from (p t) true is refl)
 
-pub gaps_turn : (all rest behind : List TokenValue) (t : TokenValue) → PassesGaps all rest → rest ≡ t ∷ behind → is_gap t.kind ≡ true → PassesGaps all behind
-gaps_turn all rest behind t p e gap = record {
+pub gaps_turn : (all rest following : List TokenValue) (t : TokenValue) → PassesGaps all rest → rest ≡ t ∷ following → is_gap t.kind ≡ true → PassesGaps all following
+gaps_turn all rest following t p e gap = record {
   lead = p.lead ++ t ∷ [];
-  whole = p.whole ∙ one_behind p.lead rest behind t e;
+  whole = p.whole ∙ one_after p.lead rest following t e;
   gaps = all_more (λ u. is_gap u.kind) p.lead t p.gaps gap;
 }
 
-pub gaps_end : (all rest behind : List TokenValue) (t : TokenValue) → PassesGaps all rest → rest ≡ t ∷ behind → is_gap t.kind ≡ false → SkipsGaps all rest
-gaps_end all rest behind t p e other = record { lead = p.lead; gaps = p.gaps; whole = p.whole; begins = subst BeginsNoGap (sym e) other }
+pub gaps_end : (all rest following : List TokenValue) (t : TokenValue) → PassesGaps all rest → rest ≡ t ∷ following → is_gap t.kind ≡ false → SkipsGaps all rest
+gaps_end all rest following t p e other = record { lead = p.lead; gaps = p.gaps; whole = p.whole; begins = subst BeginsNoGap (sym e) other }
 
 pub gaps_only : (all rest : List TokenValue) → PassesGaps all rest → rest ≡ [] → SkipsGaps all rest
 gaps_only all rest p e = record { lead = p.lead; gaps = p.gaps; whole = p.whole; begins = subst BeginsNoGap (sym e) tt }
@@ -76,23 +76,23 @@ pub record TrailSoFar (p : TokenValue → Bool) (all trail rest : List TokenValu
 pub trail_start : (p : TokenValue → Bool) (ts : List TokenValue) → TrailSoFar p ts ts ts
 trail_start p ts = record { front = []; whole = refl; ends = tt; passed = []; trail_is = refl; pass = refl }
 
-pub trail_anew : (p : TokenValue → Bool) (all trail rest behind : List TokenValue) (t : TokenValue) → TrailSoFar p all trail rest → rest ≡ t ∷ behind → p t ≡ false → TrailSoFar p all behind behind
-trail_anew p all trail rest behind t s e other = record {
+pub trail_anew : (p : TokenValue → Bool) (all trail rest following : List TokenValue) (t : TokenValue) → TrailSoFar p all trail rest → rest ≡ t ∷ following → p t ≡ false → TrailSoFar p all following following
+trail_anew p all trail rest following t s e other = record {
   front = (s.front ++ s.passed) ++ t ∷ [];
-  whole = s.whole ∙ ap (λ r. s.front ++ r) s.trail_is ∙ sym (append_assoc s.front s.passed rest) ∙ one_behind (s.front ++ s.passed) rest behind t e;
+  whole = s.whole ∙ ap (λ r. s.front ++ r) s.trail_is ∙ sym (append_assoc s.front s.passed rest) ∙ one_after (s.front ++ s.passed) rest following t e;
   ends = ends_so p (s.front ++ s.passed) t other;
   passed = [];
   trail_is = refl;
   pass = refl;
 }
 
-pub trail_onward : (p : TokenValue → Bool) (all trail rest behind : List TokenValue) (t : TokenValue) → TrailSoFar p all trail rest → rest ≡ t ∷ behind → p t ≡ true → TrailSoFar p all trail behind
-trail_onward p all trail rest behind t s e is = record {
+pub trail_onward : (p : TokenValue → Bool) (all trail rest following : List TokenValue) (t : TokenValue) → TrailSoFar p all trail rest → rest ≡ t ∷ following → p t ≡ true → TrailSoFar p all trail following
+trail_onward p all trail rest following t s e is = record {
   front = s.front;
   whole = s.whole;
   ends = s.ends;
   passed = s.passed ++ t ∷ [];
-  trail_is = s.trail_is ∙ one_behind s.passed rest behind t e;
+  trail_is = s.trail_is ∙ one_after s.passed rest following t e;
   pass = all_more p s.passed t s.pass is;
 }
 
@@ -238,8 +238,8 @@ no_comment t h = rw h refl
 
 -- ---- octets
 
-pub octets_turn : (all rest behind : List TokenValue) (t : TokenValue) (start old new : List ℕ) → old ++ octets_of rest ≡ start ++ octets_of all → rest ≡ t ∷ behind → new ≡ old ++ t.octets → new ++ octets_of behind ≡ start ++ octets_of all
-octets_turn all rest behind t start old new so e put = ap (λ r. r ++ octets_of behind) put ∙ append_assoc old t.octets (octets_of behind) ∙ ap (λ r. old ++ octets_of r) (sym e) ∙ so
+pub octets_turn : (all rest following : List TokenValue) (t : TokenValue) (start old new : List ℕ) → old ++ octets_of rest ≡ start ++ octets_of all → rest ≡ t ∷ following → new ≡ old ++ t.octets → new ++ octets_of following ≡ start ++ octets_of all
+octets_turn all rest following t start old new so e put = ap (λ r. r ++ octets_of following) put ∙ append_assoc old t.octets (octets_of following) ∙ ap (λ r. old ++ octets_of r) (sym e) ∙ so
 
 pub octets_end : (all rest : List TokenValue) (start made : List ℕ) → made ++ octets_of rest ≡ start ++ octets_of all → rest ≡ [] → made ≡ start ++ octets_of all
 octets_end all rest start made so e = sym (append-nil made) ∙ ap (λ r. made ++ octets_of r) (sym e) ∙ so

@@ -26,9 +26,9 @@ use Rattle.field_tokens.specs.declared.TokenKind.TheVariants.{Atom, Quoted, Lite
 use Rattle.field_tokens.specs.Groups.{End}
 use Rattle.field_tokens.specs.TokenOctets.{is_atom_octet, is_line_octet}
 use Rattle.field_tokens.specs.Tokens.{TokenValue, AreTokens}
-use Rattle.field_tokens.specs.Squeezed.{is_gap, octets_of, comments_of, space, apart, IsPart}
+use Rattle.field_tokens.specs.Squeezed.{is_gap, octets_of, comments_of, space, joined_by_spaces, IsPart}
 use Rattle.field_tokens.specs.Comments.{CommentValue, CommentsPieces, CommentsSay, AreWritableComments, AreLineComments, IsLinePiece, AreWritten}
-use Rattle.field_tokens.proofs.Parts.{tokens_some, comments_of-append, comments_of-apart, comment_part, comment_parts, comments_are_parts, comment_parts-octets}
+use Rattle.field_tokens.proofs.Parts.{tokens_some, comments_of-append, comments_of-joined_by_spaces, comment_part, comment_parts, comments_are_parts, comment_parts-octets}
 use Rattle.field_tokens.proofs.TokenLines.{comments_are_plain}
 use Rattle.field_tokens.proofs.LinePieces.{CommentsPieces-line}
 use Rattle.field_tokens.proofs.WrittenComments.{CommentsPieces-written}
@@ -73,13 +73,13 @@ say_both (c ∷ cs) ds values say =
 
 -- ---- comments behind
 
-apart-comments : (part : List TokenValue) (cs : List (List ℕ)) → apart (part ∷ comment_parts cs) ≡ part ++ spaced cs
-apart-comments part [] = sym (append-nil part)
-apart-comments part (c ∷ cs) = ap (λ r. part ++ space ∷ r) (apart-comments (comment_part c) cs)
+joined_by_spaces-comments : (part : List TokenValue) (cs : List (List ℕ)) → joined_by_spaces (part ∷ comment_parts cs) ≡ part ++ spaced cs
+joined_by_spaces-comments part [] = sym (append-nil part)
+joined_by_spaces-comments part (c ∷ cs) = ap (λ r. part ++ space ∷ r) (joined_by_spaces-comments (comment_part c) cs)
 
-apart-behind : (part : List TokenValue) (parts : List (List TokenValue)) (cs : List (List ℕ)) → apart ((part ∷ parts) ++ comment_parts cs) ≡ apart (part ∷ parts) ++ spaced cs
-apart-behind part [] cs = apart-comments part cs
-apart-behind part (next ∷ parts) cs = ap (λ r. part ++ space ∷ r) (apart-behind next parts cs) ∙ sym (append_assoc part (space ∷ apart (next ∷ parts)) (spaced cs))
+joined_by_spaces-following : (part : List TokenValue) (parts : List (List TokenValue)) (cs : List (List ℕ)) → joined_by_spaces ((part ∷ parts) ++ comment_parts cs) ≡ joined_by_spaces (part ∷ parts) ++ spaced cs
+joined_by_spaces-following part [] cs = joined_by_spaces-comments part cs
+joined_by_spaces-following part (next ∷ parts) cs = ap (λ r. part ++ space ∷ r) (joined_by_spaces-following next parts cs) ∙ sym (append_assoc part (space ∷ joined_by_spaces (next ∷ parts)) (spaced cs))
 
 spaced_blank : (cs : List (List ℕ)) → are_blank (spaced cs) ≡ true
 spaced_blank [] = refl
@@ -113,20 +113,20 @@ pub record IsHead (units : List UnitValue) (values : List CommentValue) (pieces 
   pub are_parts : AllByRecursion (IsPart Mail) (first ∷ others)
   pub joined : join_with_byte 32 (map octets_of (first ∷ others)) ≡ join_with_byte 32 pieces
   pub some : 0 < length pieces
-  pub phrase : IsPhrase (apart (first ∷ others))
-  pub has_units : HasPhraseUnits (phrase_items (apart (first ∷ others))) units
-  pub say : CommentsSay (comments_of (apart (first ∷ others))) values
+  pub phrase : IsPhrase (joined_by_spaces (first ∷ others))
+  pub has_units : HasPhraseUnits (phrase_items (joined_by_spaces (first ∷ others))) units
+  pub say : CommentsSay (comments_of (joined_by_spaces (first ∷ others))) values
   pub are_pieces : AllByRecursion IsLinePiece pieces
 
-again : (us : List UnitValue) (front behind : List CommentValue) (first more cs : List (List ℕ)) → IsHead us front first → AreWritten cs behind more → CommentsPieces cs more → AllByRecursion IsLinePiece more
-    → IsPhraseAgain us (front ++ behind) (first ++ more)
-again us front behind first more cs head written are line =
+again : (us : List UnitValue) (front following : List CommentValue) (first more cs : List (List ℕ)) → IsHead us front first → AreWritten cs following more → CommentsPieces cs more → AllByRecursion IsLinePiece more
+    → IsPhraseAgain us (front ++ following) (first ++ more)
+again us front following first more cs head written are line =
     let heads : List (List TokenValue) = head.first ∷ head.others in
     let made : List (List ℕ) = written.made in
-    let tokens : apart (heads ++ comment_parts made) ≡ apart heads ++ spaced made = apart-behind head.first head.others made in
+    let tokens : joined_by_spaces (heads ++ comment_parts made) ≡ joined_by_spaces heads ++ spaced made = joined_by_spaces-following head.first head.others made in
     let octets : map octets_of (heads ++ comment_parts made) ≡ map octets_of heads ++ made = map-append octets_of heads (comment_parts made) ∙ ap (λ r. map octets_of heads ++ r) (comment_parts-octets made) in
-    let comments : comments_of (apart heads ++ spaced made) ≡ comments_of (apart heads) ++ made = comments_of-append (apart heads) (spaced made) ∙ ap (λ r. comments_of (apart heads) ++ r) (spaced_comments made) in
-    let phrase : IsPhrase (apart heads ++ spaced made) = phrase_before (apart heads) (spaced made) head.phrase (spaced_blank made) in
+    let comments : comments_of (joined_by_spaces heads ++ spaced made) ≡ comments_of (joined_by_spaces heads) ++ made = comments_of-append (joined_by_spaces heads) (spaced made) ∙ ap (λ r. comments_of (joined_by_spaces heads) ++ r) (spaced_comments made) in
+    let phrase : IsPhrase (joined_by_spaces heads ++ spaced made) = phrase_before (joined_by_spaces heads) (spaced made) head.phrase (spaced_blank made) in
     record {
       parts = heads ++ comment_parts made;
       are_parts = all-append (IsPart Mail) heads (comment_parts made) head.are_parts (comments_are_parts Mail made (comments_groups made written.are_comments));
@@ -134,9 +134,9 @@ again us front behind first more cs head written are line =
       joined = ap (join_with_byte 32) octets
           ∙ join_same (map octets_of heads) made first more (omega arith) head.some (λ e. no_pieces cs more are (written.none.0 e)) (λ e. written.none.1 (no_comments cs more are e)) head.joined written.joined;
       phrase = rw (tokens) phrase;
-      no_comma = rw (tokens) (phrase_lacks 44 (apart heads ++ spaced made) (omega arith) phrase);
-      has_units = rw (tokens) (units_before (apart heads) (spaced made) us (spaced_blank made) head.has_units);
-      say = rw (tokens, comments) (CommentsSay-append (comments_of (apart heads)) made front behind head.say written.say);
+      no_comma = rw (tokens) (phrase_lacks 44 (joined_by_spaces heads ++ spaced made) (omega arith) phrase);
+      has_units = rw (tokens) (units_before (joined_by_spaces heads) (spaced made) us (spaced_blank made) head.has_units);
+      say = rw (tokens, comments) (CommentsSay-append (comments_of (joined_by_spaces heads)) made front following head.say written.say);
       are_pieces = all-append IsLinePiece first more head.are_pieces line;
     }
 
@@ -217,7 +217,7 @@ word_parts-octets : (ws : List (List ℕ)) → map octets_of (word_parts ws) ≡
 word_parts-octets [] = refl
 word_parts-octets (w ∷ ws) = ap (λ r. r ∷ map octets_of (word_parts ws)) (append-nil w) ∙ ap (λ r. w ∷ r) (word_parts-octets ws)
 
-word_parts-items : (ws : List (List ℕ)) → phrase_items (apart (word_parts ws)) ≡ separated ws
+word_parts-items : (ws : List (List ℕ)) → phrase_items (joined_by_spaces (word_parts ws)) ≡ separated ws
 word_parts-items [] = refl
 word_parts-items (w ∷ []) = refl
 word_parts-items (w ∷ v ∷ ws) = rw (word_parts-items (v ∷ ws)) refl
@@ -226,12 +226,12 @@ no_comments_in : (ws : List (List ℕ)) → flat_map comments_of (word_parts ws)
 no_comments_in [] = refl
 no_comments_in (w ∷ ws) = no_comments_in ws
 
-words_stand : (ws : List (List ℕ)) → list_all may_stand_in_phrase (apart (word_parts ws)) ≡ true
+words_stand : (ws : List (List ℕ)) → list_all may_stand_in_phrase (joined_by_spaces (word_parts ws)) ≡ true
 words_stand [] = refl
 words_stand (w ∷ []) = refl
 words_stand (w ∷ v ∷ ws) = words_stand (v ∷ ws)
 
-words_there : (w : List ℕ) (ws : List (List ℕ)) → are_blank (apart (word_parts (w ∷ ws))) ≡ false
+words_there : (w : List ℕ) (ws : List (List ℕ)) → are_blank (joined_by_spaces (word_parts (w ∷ ws))) ≡ false
 words_there w [] = refl
 words_there w (v ∷ ws) = refl
 
@@ -257,7 +257,7 @@ words_head us w ws all has = record {
   some = omega arith;
   phrase = record { some = words_there w ws; each = words_stand (w ∷ ws) };
   has_units = subst (λ items. HasPhraseUnits items us) (sym (word_parts-items (w ∷ ws))) has;
-  say = subst (λ cs. CommentsSay cs []) (sym (comments_of-apart (word_parts (w ∷ ws)) ∙ no_comments_in (w ∷ ws))) refl;
+  say = subst (λ cs. CommentsSay cs []) (sym (comments_of-joined_by_spaces (word_parts (w ∷ ws)) ∙ no_comments_in (w ∷ ws))) refl;
   are_pieces = word_lines (w ∷ ws) all;
 }
 

@@ -28,8 +28,8 @@ use Rattle.address_grammar.proofs.WritingLemmas.{mark_is}
 use Rattle.address_lists.proofs.PhraseWriting.{CommentsPieces-append}
 use Rattle.address_lists.proofs.PhrasesAgain.{CommentsSay-append, say_both}
 use Rattle.address_lists.proofs.PhraseListsAgain.{comma}
-use Rattle.address_lists.proofs.MadeTokens.{AreMade, made_two, made_divided, AreCommentsOfLine, text_line_comments, comments_made, comments_behind}
-use Rattle.address_lists.proofs.AmongBlanks.{before_blanks, blank_more, element_among, divided_put, places_behind}
+use Rattle.address_lists.proofs.MadeTokens.{AreMade, made_two, made_divided, AreCommentsOfLine, text_line_comments, comments_made, comments_after}
+use Rattle.address_lists.proofs.AmongBlanks.{before_blanks, blank_more, element_among, divided_put, places_after}
 use Rattle.address_lists.proofs.MailboxesAgain.{IsElementAgain, mark_comments, MailboxPieces-read}
 use Rattle.address_lists.proofs.AsciiElements.{IsElementIn, ascii_element_again}
 use Rattle.address_lists.proofs.GroupsAgain.{cut_text, GroupPieces-read}
@@ -38,7 +38,7 @@ use Rattle.address_lists.proofs.ListPiecesOnce.{mailbox_pieces}
 -- ---- elements
 
 group_of : (ts : List TokenValue) (pieces : List (List ℕ)) → GroupPieces ts pieces → (name : List UnitValue) × (ms : List MailboxValue) × IsGroup ts name ms
-group_of ts pieces (Kept name ms first inner comments g plain place members behind whole) = (name, ms, g)
+group_of ts pieces (Kept name ms first inner comments g plain place members following whole) = (name, ms, g)
 group_of ts pieces (EmptiedGroup name ms words comments g other writes are whole) = (name, ms, g)
 
 no_group : (ts : List TokenValue) (m : MailboxValue) (name : List UnitValue) (ms : List MailboxValue) → IsElement ts (One m) → IsElement ts (Group name ms) → ⊥
@@ -67,38 +67,38 @@ one_place : (ts : List TokenValue) (es : List ElementValue) → SaysPlace ts es 
 one_place ts es says = record { parts = ts ∷ []; divided = refl; say = (es, [], sym (append-nil es), says, refl) }
 
 -- an element, and comments behind it
-last_place : (e : ElementValue) (front behind : List CommentValue) (first comments cs : List (List ℕ)) → IsElementAgain e front first → AreCommentsOfLine cs → CommentsSay cs behind → CommentsPieces cs comments
-    → ArePlacesAgain (e ∷ []) (front ++ behind) (first ++ comments)
-last_place e front behind first comments cs one all say are =
-    let b = comments_behind cs behind comments all say are in
+last_place : (e : ElementValue) (front following : List CommentValue) (first comments cs : List (List ℕ)) → IsElementAgain e front first → AreCommentsOfLine cs → CommentsSay cs following → CommentsPieces cs comments
+    → ArePlacesAgain (e ∷ []) (front ++ following) (first ++ comments)
+last_place e front following first comments cs one all say are =
+    let b = comments_after cs following comments all say are in
     record {
       made = one.made ∷ [];
       each = (one.stands, tt);
       tokens = one.tokens ++ b.tokens;
       divided = one_place (one.tokens ++ b.tokens) (one.made ∷ []) (before_blanks (λ r. IsElement r one.made) (element_among one.made) one.tokens b.tokens b.blank one.is_element);
-      say = subst (λ r. CommentsSay r (front ++ behind)) (sym (comments_of-append one.tokens b.tokens)) (CommentsSay-append (comments_of one.tokens) (comments_of b.tokens) front behind one.say b.say);
+      say = subst (λ r. CommentsSay r (front ++ following)) (sym (comments_of-append one.tokens b.tokens)) (CommentsSay-append (comments_of one.tokens) (comments_of b.tokens) front following one.say b.say);
       are_made = b.onto one.tokens first one.are_made;
     }
 
 -- an element, a comma, and other places
-next_place : (e : ElementValue) (es : List ElementValue) (front behind : List CommentValue) (first others : List (List ℕ)) → IsElementAgain e front first → ArePlacesAgain es behind others
-    → ArePlacesAgain (e ∷ es) (front ++ behind) (with_comma first ++ others)
-next_place e es front behind first others one more = record {
+next_place : (e : ElementValue) (es : List ElementValue) (front following : List CommentValue) (first others : List (List ℕ)) → IsElementAgain e front first → ArePlacesAgain es following others
+    → ArePlacesAgain (e ∷ es) (front ++ following) (with_comma first ++ others)
+next_place e es front following first others one more = record {
   made = one.made ∷ more.made;
   each = (one.stands, more.each);
   tokens = one.tokens ++ comma ∷ space ∷ more.tokens;
   divided = divided_put SaysPlace one.tokens (one.tokens ++ comma ∷ space ∷ more.tokens) (space ∷ more.tokens) comma (one.made ∷ []) more.made refl refl one.is_element
-      (places_behind (space ∷ []) more.tokens more.made refl more.divided);
-  say = subst (λ r. CommentsSay r (front ++ behind)) (sym (mark_comments 44 one.tokens (space ∷ more.tokens) comma refl))
-      (CommentsSay-append (comments_of one.tokens) (comments_of more.tokens) front behind one.say more.say);
+      (places_after (space ∷ []) more.tokens more.made refl more.divided);
+  say = subst (λ r. CommentsSay r (front ++ following)) (sym (mark_comments 44 one.tokens (space ∷ more.tokens) comma refl))
+      (CommentsSay-append (comments_of one.tokens) (comments_of more.tokens) front following one.say more.say);
   are_made = made_divided one.tokens more.tokens first others one.are_made more.are_made;
 }
 
 -- comments, and other places
-comments_place : (es : List ElementValue) (front behind : List CommentValue) (first others cs : List (List ℕ)) → AreCommentsOfLine cs → CommentsSay cs front → CommentsPieces cs first → ArePlacesAgain es behind others
-    → ArePlacesAgain es (front ++ behind) (first ++ others)
-comments_place es front behind first others [] all say are more = rw (are, say) more
-comments_place es front behind first others (c ∷ cs) all say are more =
+comments_place : (es : List ElementValue) (front following : List CommentValue) (first others cs : List (List ℕ)) → AreCommentsOfLine cs → CommentsSay cs front → CommentsPieces cs first → ArePlacesAgain es following others
+    → ArePlacesAgain es (front ++ following) (first ++ others)
+comments_place es front following first others [] all say are more = rw (are, say) more
+comments_place es front following first others (c ∷ cs) all say are more =
     let b = comments_made (c ∷ cs) front first (omega arith) all say are in
     let whole : (b.tokens ++ space ∷ []) ++ more.tokens ≡ b.tokens ++ space ∷ more.tokens = append_assoc b.tokens (space ∷ []) more.tokens in
     let blank : are_blank (b.tokens ++ space ∷ []) ≡ true = blank_more b.tokens space b.blank refl in
@@ -106,8 +106,8 @@ comments_place es front behind first others (c ∷ cs) all say are more =
       made = more.made;
       each = more.each;
       tokens = b.tokens ++ space ∷ more.tokens;
-      divided = subst (λ r. AreDivided SaysPlace r more.made) whole (places_behind (b.tokens ++ space ∷ []) more.tokens more.made blank more.divided);
-      say = subst (λ r. CommentsSay r (front ++ behind)) (sym (comments_of-append b.tokens (space ∷ more.tokens))) (CommentsSay-append (comments_of b.tokens) (comments_of more.tokens) front behind b.say more.say);
+      divided = subst (λ r. AreDivided SaysPlace r more.made) whole (places_after (b.tokens ++ space ∷ []) more.tokens more.made blank more.divided);
+      say = subst (λ r. CommentsSay r (front ++ following)) (sym (comments_of-append b.tokens (space ∷ more.tokens))) (CommentsSay-append (comments_of b.tokens) (comments_of more.tokens) front following b.say more.say);
       are_made = made_two b.tokens more.tokens first others b.are_made more.are_made;
     }
 
@@ -163,19 +163,19 @@ place_element ts e values first has filled is say given =
     ElementPieces-read (list_all is_ascii (octets_of ts)) ts e values first refl (record { text = has; is_element = is; say = say }) (subst (λ b. PlaceOfListPieces b ts first) filled given)
 
 -- a place that isn't blank, and only comments behind it
-filled_last : (ts : List TokenValue) (es : List ElementValue) (front behind : List CommentValue) (first comments cs : List (List ℕ)) → HasMailTokens (octets_of ts) ts → are_blank ts ≡ false → SaysPlace ts es
-    → CommentsSay (comments_of ts) front → PlaceOfListPieces (are_blank ts) ts first → AreCommentsOfLine cs → CommentsSay cs behind → CommentsPieces cs comments → ArePlacesAgain es (front ++ behind) (first ++ comments)
-filled_last ts [] front behind first comments cs has filled says say given all rest are = absurd (both_ways (are_blank ts) filled says)
-filled_last ts (e ∷ []) front behind first comments cs has filled says say given all rest are =
-    last_place e front behind first comments cs (place_element ts e front first has filled says say given) all rest are
-filled_last ts (e ∷ f ∷ es) front behind first comments cs has filled says say given all rest are = absurd says
+filled_last : (ts : List TokenValue) (es : List ElementValue) (front following : List CommentValue) (first comments cs : List (List ℕ)) → HasMailTokens (octets_of ts) ts → are_blank ts ≡ false → SaysPlace ts es
+    → CommentsSay (comments_of ts) front → PlaceOfListPieces (are_blank ts) ts first → AreCommentsOfLine cs → CommentsSay cs following → CommentsPieces cs comments → ArePlacesAgain es (front ++ following) (first ++ comments)
+filled_last ts [] front following first comments cs has filled says say given all rest are = absurd (both_ways (are_blank ts) filled says)
+filled_last ts (e ∷ []) front following first comments cs has filled says say given all rest are =
+    last_place e front following first comments cs (place_element ts e front first has filled says say given) all rest are
+filled_last ts (e ∷ f ∷ es) front following first comments cs has filled says say given all rest are = absurd says
 
 -- and other places behind it
-filled_next : (ts : List TokenValue) (es fs : List ElementValue) (front behind : List CommentValue) (first others : List (List ℕ)) → HasMailTokens (octets_of ts) ts → are_blank ts ≡ false → SaysPlace ts es
-    → CommentsSay (comments_of ts) front → PlaceOfListPieces (are_blank ts) ts first → ArePlacesAgain fs behind others → ArePlacesAgain (es ++ fs) (front ++ behind) (with_comma first ++ others)
-filled_next ts [] fs front behind first others has filled says say given more = absurd (both_ways (are_blank ts) filled says)
-filled_next ts (e ∷ []) fs front behind first others has filled says say given more = next_place e fs front behind first others (place_element ts e front first has filled says say given) more
-filled_next ts (e ∷ d ∷ es) fs front behind first others has filled says say given more = absurd says
+filled_next : (ts : List TokenValue) (es fs : List ElementValue) (front following : List CommentValue) (first others : List (List ℕ)) → HasMailTokens (octets_of ts) ts → are_blank ts ≡ false → SaysPlace ts es
+    → CommentsSay (comments_of ts) front → PlaceOfListPieces (are_blank ts) ts first → ArePlacesAgain fs following others → ArePlacesAgain (es ++ fs) (front ++ following) (with_comma first ++ others)
+filled_next ts [] fs front following first others has filled says say given more = absurd (both_ways (are_blank ts) filled says)
+filled_next ts (e ∷ []) fs front following first others has filled says say given more = next_place e fs front following first others (place_element ts e front first has filled says say given) more
+filled_next ts (e ∷ d ∷ es) fs front following first others has filled says say given more = absurd says
 
 -- the last place is followed by none
 last_followed : (ts : List TokenValue) (first : List (List ℕ)) → comma_followed ts [] first ≡ first
@@ -242,9 +242,9 @@ no_comment_gap Quoted octets b cs h e = cc h
 no_comment_gap Literal octets b cs h e = cc h
 no_comment_gap Special octets b cs h e = cc h
 
-nothing_behind : (a b : List (List ℕ)) → a ++ b ≡ [] → b ≡ []
-nothing_behind [] b e = e
-nothing_behind (c ∷ a) b e = cc e
+nothing_following : (a b : List (List ℕ)) → a ++ b ≡ [] → b ≡ []
+nothing_following [] b e = e
+nothing_following (c ∷ a) b e = cc e
 
 nothing_before : (a b : List (List ℕ)) → a ++ b ≡ [] → a ≡ []
 nothing_before [] b e = refl
@@ -255,7 +255,7 @@ blank_gaps [] blank none = refl
 blank_gaps (t ∷ ts) blank none =
     let parts = and_parts (is_blank_token t) (are_blank ts) blank in
     let both : comments_of (t ∷ []) ++ comments_of ts ≡ [] = sym (comments_of-append (t ∷ []) ts) ∙ none in
-    and_from (gap_or_comma t) (list_all gap_or_comma ts) (no_comment_gap t.kind t.octets (is_special_of 44 t) (comments_of ts) parts.0 both) (blank_gaps ts parts.1 (nothing_behind (comments_of (t ∷ [])) (comments_of ts) both))
+    and_from (gap_or_comma t) (list_all gap_or_comma ts) (no_comment_gap t.kind t.octets (is_special_of 44 t) (comments_of ts) parts.0 both) (blank_gaps ts parts.1 (nothing_following (comments_of (t ∷ [])) (comments_of ts) both))
 
 or_right : (a b : Bool) → b ≡ true → (a || b) ≡ true
 or_right true b h = refl
@@ -269,7 +269,7 @@ places_gaps (p ∷ q ∷ places) ts d none nothing =
     let both : comments_of p ++ comments_of d.1 ≡ [] = sym (mark_comments 44 p d.1 d.0 d.3) ∙ sym (ap comments_of d.2) ∙ nothing in
     rw (d.2) (list_all-append gap_or_comma p (d.0 ∷ d.1)
     ∙ and_from (list_all gap_or_comma p) (list_all gap_or_comma (d.0 ∷ d.1)) (blank_gaps p (not-false (are_blank p) parts.0) (nothing_before (comments_of p) (comments_of d.1) both))
-    (and_from (gap_or_comma d.0) (list_all gap_or_comma d.1) (or_right (is_gap d.0.kind) (is_special_of 44 d.0) d.3) (places_gaps (q ∷ places) d.1 d.4 parts.1 (nothing_behind (comments_of p) (comments_of d.1) both))))
+    (and_from (gap_or_comma d.0) (list_all gap_or_comma d.1) (or_right (is_gap d.0.kind) (is_special_of 44 d.0) d.3) (places_gaps (q ∷ places) d.1 d.4 parts.1 (nothing_following (comments_of p) (comments_of d.1) both))))
 
 pub white_ascii : (x : ℕ) → is_white x ≡ true → is_ascii x ≡ true
 white_ascii x h = grind (arith, nat_tests)

@@ -16,7 +16,7 @@ use Rattle.address_grammar.proofs.DividedLemmas.{ReadsParts, parts_start, parts_
 use Rattle.address_grammar.proofs.ListLemmas.{one_walked}
 use Rattle.address_lists.specs.ListPieces.{served_domain, with_domain, served_address, has_served_address}
 use Rattle.address_lists.specs.private.ListWriting.{CanBeWritten, TellsServed, AreServed, AreServedMembers, IsServedGroupBy}
-use Rattle.address_lists.proofs.WritableTokens.{behind_can}
+use Rattle.address_lists.proofs.WritableTokens.{following_can}
 
 -- the first members were read, and rest is left
 pub record ServedSoFar (ts : List TokenValue) (are : Bool) (rest : List TokenValue) : Type 0 where
@@ -36,7 +36,7 @@ served_turn ts rest part after are is s p served = record {
   done = s.done ++ served.0 ∷ [];
   reads = parts_turn IsOneMailbox one_walked ts rest part after s.done (served.0 ∷ []) (s.done ++ served.0 ∷ []) s.reads p served.1 refl;
   served = one_more s.done served.0 are is s.served served.2;
-  can = behind_can rest part after p.comma p.whole s.can;
+  can = following_can rest part after p.comma p.whole s.can;
 }
 
 pub served_end : (ts rest : List TokenValue) (are is : Bool) → ServedSoFar ts are rest → TellsServed rest is → AreServed ts (are && is)
@@ -59,8 +59,8 @@ no_members_served ts blank = record { members = []; are_members = inl (blank, re
 pub members_served : (ts : List TokenValue) (is : Bool) → AreServed ts is → AreServedMembers ts is
 members_served ts is s = record { members = s.members; are_members = inr s.are_members; served = s.served }
 
-pub group_served : (before behind inner after : List TokenValue) (is : Bool) → SplitsAt 59 behind inner after → are_blank after ≡ true → IsPhrase before → AreServedMembers inner is → IsServedGroupBy before behind is
-group_served before behind inner after is s blank phrase m =
+pub group_served : (before following inner after : List TokenValue) (is : Bool) → SplitsAt 59 following inner after → are_blank after ≡ true → IsPhrase before → AreServedMembers inner is → IsServedGroupBy before following is
+group_served before following inner after is s blank phrase m =
     let units = HasPhraseUnits-some (phrase_items before) in
     record {
       name = units.0;
@@ -70,9 +70,9 @@ group_served before behind inner after is s blank phrase m =
     }
 
 -- a name that is no phrase names no group
-pub group_unnamed : (before behind : List TokenValue) → (IsPhrase before → ⊥) → (e : ElementValue) → SaysGroup before behind e → ⊥
-group_unnamed before behind none (One m) is = is
-group_unnamed before behind none (Group name ms) is = none is.is_phrase
+pub group_unnamed : (before following : List TokenValue) → (IsPhrase before → ⊥) → (e : ElementValue) → SaysGroup before following e → ⊥
+group_unnamed before following none (One m) is = is
+group_unnamed before following none (Group name ms) is = none is.is_phrase
 
 -- ---- one address
 

@@ -13,16 +13,16 @@ use Rattle.address_lists.specs.private.ListWriting.{EndsNoGap, SplitsGaps}
 use Rattle.address_lists.proofs.PhraseWriting.{gaps_blank, blank-append, EndsNo, CutsTrail}
 
 -- tokens are ASCII where the first one is and the others are
-first_ascii : (rest behind : List TokenValue) (t : TokenValue) → rest ≡ t ∷ behind → list_all is_ascii (octets_of rest) ≡ (list_all is_ascii t.octets && list_all is_ascii (octets_of behind))
-first_ascii rest behind t e = ap (λ r. list_all is_ascii (octets_of r)) e ∙ list_all-append is_ascii t.octets (octets_of behind)
+first_ascii : (rest following : List TokenValue) (t : TokenValue) → rest ≡ t ∷ following → list_all is_ascii (octets_of rest) ≡ (list_all is_ascii t.octets && list_all is_ascii (octets_of following))
+first_ascii rest following t e = ap (λ r. list_all is_ascii (octets_of r)) e ∙ list_all-append is_ascii t.octets (octets_of following)
 
-pub ascii_turn : (all rest behind : List TokenValue) (t : TokenValue) → list_all is_ascii (octets_of all) ≡ list_all is_ascii (octets_of rest) → rest ≡ t ∷ behind → list_all is_ascii t.octets ≡ true
-    → list_all is_ascii (octets_of all) ≡ list_all is_ascii (octets_of behind)
-ascii_turn all rest behind t so e is = so ∙ first_ascii rest behind t e ∙ ap (λ r. r && list_all is_ascii (octets_of behind)) is
+pub ascii_turn : (all rest following : List TokenValue) (t : TokenValue) → list_all is_ascii (octets_of all) ≡ list_all is_ascii (octets_of rest) → rest ≡ t ∷ following → list_all is_ascii t.octets ≡ true
+    → list_all is_ascii (octets_of all) ≡ list_all is_ascii (octets_of following)
+ascii_turn all rest following t so e is = so ∙ first_ascii rest following t e ∙ ap (λ r. r && list_all is_ascii (octets_of following)) is
 
-pub ascii_stop : (all rest behind : List TokenValue) (t : TokenValue) → list_all is_ascii (octets_of all) ≡ list_all is_ascii (octets_of rest) → rest ≡ t ∷ behind → list_all is_ascii t.octets ≡ false
+pub ascii_stop : (all rest following : List TokenValue) (t : TokenValue) → list_all is_ascii (octets_of all) ≡ list_all is_ascii (octets_of rest) → rest ≡ t ∷ following → list_all is_ascii t.octets ≡ false
     → false ≡ list_all is_ascii (octets_of all)
-ascii_stop all rest behind t so e other = sym (so ∙ first_ascii rest behind t e ∙ ap (λ r. r && list_all is_ascii (octets_of behind)) other)
+ascii_stop all rest following t so e other = sym (so ∙ first_ascii rest following t e ∙ ap (λ r. r && list_all is_ascii (octets_of following)) other)
 
 pub ascii_end : (all rest : List TokenValue) → list_all is_ascii (octets_of all) ≡ list_all is_ascii (octets_of rest) → rest ≡ [] → true ≡ list_all is_ascii (octets_of all)
 ascii_end all rest so e = sym (so ∙ ap (λ r. list_all is_ascii (octets_of r)) e)

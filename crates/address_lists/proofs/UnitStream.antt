@@ -33,11 +33,11 @@ pub record Streams (all : List TokenValue) (r : PhraseReader) (rest : List Token
 pub stream_start : (ts : List TokenValue) (r : PhraseReader) → IsPhrase ts → IsFreshReader r → Streams ts r ts []
 stream_start ts r is fresh = record { stands = is.each; reads = fresh_reads (phrase_items ts) r fresh }
 
-pub stream_turn : (all rest behind : List TokenValue) (t : TokenValue) (old new : PhraseReader) (given said : List UnitValue) → Streams all old rest given → rest ≡ t ∷ behind → ReadsToken old new t behind said
-    → Streams all new behind (given ++ said)
-stream_turn all rest behind t old new given said s e read = record {
-  stands = rest_stands rest behind t e s.stands;
-  reads = read (phrase_items all) given (token_reads (phrase_items all) given old rest behind t e s.reads);
+pub stream_turn : (all rest following : List TokenValue) (t : TokenValue) (old new : PhraseReader) (given said : List UnitValue) → Streams all old rest given → rest ≡ t ∷ following → ReadsToken old new t following said
+    → Streams all new following (given ++ said)
+stream_turn all rest following t old new given said s e read = record {
+  stands = rest_stands rest following t e s.stands;
+  reads = read (phrase_items all) given (token_reads (phrase_items all) given old rest following t e s.reads);
 }
 
 -- what is given next can be written
@@ -71,15 +71,15 @@ pub record WritesStream (all : List TokenValue) (old new : List ℕ) (r : Phrase
 pub writes_start : (ts : List TokenValue) (made : List ℕ) (r : PhraseReader) → IsPhrase ts → IsFreshReader r → WritesStream ts made made r false ts
 writes_start ts made r is fresh = record { given = []; streams = stream_start ts r is fresh; lines = adds_none made refl; there = refl }
 
-pub writes_can : (all : List TokenValue) (old mid : List ℕ) (r n : PhraseReader) (is_said : Bool) (rest behind : List TokenValue) (t : TokenValue) (said : List UnitValue) → AllByRecursion IsUtf8Item (phrase_items all)
-    → WritesStream all old mid r is_said rest → rest ≡ t ∷ behind → ReadsToken r n t behind said → AreWritable said
-writes_can all old mid r n is_said rest behind t said utf8 w e read = said_writable all behind n w.given said utf8 (stream_turn all rest behind t r n w.given said w.streams e read)
+pub writes_can : (all : List TokenValue) (old mid : List ℕ) (r n : PhraseReader) (is_said : Bool) (rest following : List TokenValue) (t : TokenValue) (said : List UnitValue) → AllByRecursion IsUtf8Item (phrase_items all)
+    → WritesStream all old mid r is_said rest → rest ≡ t ∷ following → ReadsToken r n t following said → AreWritable said
+writes_can all old mid r n is_said rest following t said utf8 w e read = said_writable all following n w.given said utf8 (stream_turn all rest following t r n w.given said w.streams e read)
 
-pub writes_turn : (all : List TokenValue) (old mid new : List ℕ) (r n : PhraseReader) (is_said next : Bool) (rest behind : List TokenValue) (t : TokenValue) (said : List UnitValue)
-    → WritesStream all old mid r is_said rest → rest ≡ t ∷ behind → ReadsToken r n t behind said → next ≡ (is_there said || is_said) → AddsLines (WriteAll said) mid new → WritesStream all old new n next behind
-writes_turn all old mid new r n is_said next rest behind t said w e read is a = record {
+pub writes_turn : (all : List TokenValue) (old mid new : List ℕ) (r n : PhraseReader) (is_said next : Bool) (rest following : List TokenValue) (t : TokenValue) (said : List UnitValue)
+    → WritesStream all old mid r is_said rest → rest ≡ t ∷ following → ReadsToken r n t following said → next ≡ (is_there said || is_said) → AddsLines (WriteAll said) mid new → WritesStream all old new n next following
+writes_turn all old mid new r n is_said next rest following t said w e read is a = record {
   given = w.given ++ said;
-  streams = stream_turn all rest behind t r n w.given said w.streams e read;
+  streams = stream_turn all rest following t r n w.given said w.streams e read;
   lines = adds_both (λ xs ys p q. WriteAll-append w.given said xs ys p q) w.lines a;
   there = is ∙ there_more w.given said is_said w.there;
 }

@@ -36,7 +36,7 @@ use Rattle.address_lists.specs.private.ListWriting.{CanBeWritten, IsWritableMail
 use Rattle.address_lists.specs.private.Emptied.{all_onto, TakesUnits, TakesOut, CanEnd, display_units, TakesPhrase, TakesDisplay, TakesNotServed, TakesMember, TakesMembers, GivesMailboxUnits, GivesGroupUnits}
 use Rattle.address_lists.proofs.KeptGroups.{members_left}
 use Rattle.address_lists.proofs.UnitStream.{WriteAll-append, Streams, stream_start, stream_turn, said_writable, stream_end, last_writable}
-use Rattle.address_lists.proofs.WritableTokens.{before_can, behind_can, mailbox_writable, members_writable}
+use Rattle.address_lists.proofs.WritableTokens.{before_can, following_can, mailbox_writable, members_writable}
 
 pub takes_opaque : (old new : Merging) (charset octets source : List ℕ) (encoded : Bool) → IsEncodedWord source (Opaque charset octets source) → TakesWord old new [] false source encoded → TakesUnits old new (Opaque charset octets source ∷ [])
 takes_opaque old new charset octets source encoded is t = record { units = λ us. rw (says_once source t.says (Some (Opaque charset octets source)) t.says_is is) at (t.units us) }
@@ -155,17 +155,17 @@ pub record TakesStream (all : List TokenValue) (old new : Merging) (a b : List �
 pub takes_start : (ts : List TokenValue) (m : Merging) (made : List ℕ) (r : PhraseReader) → IsPhrase ts → IsFreshReader r → CanEnd m → TakesStream ts m m made made r ts
 takes_start ts m made r is fresh can = record { given = []; streams = stream_start ts r is fresh; takes = out_of m m made [] (takes_none m); ends = can }
 
-pub takes_can : (all : List TokenValue) (old mid : Merging) (a b : List ℕ) (r n : PhraseReader) (rest behind : List TokenValue) (t : TokenValue) (said : List UnitValue) → AllByRecursion IsUtf8Item (phrase_items all)
-    → TakesStream all old mid a b r rest → rest ≡ t ∷ behind → ReadsToken r n t behind said → AreWritable said
-takes_can all old mid a b r n rest behind t said utf8 s e read = said_writable all behind n s.given said utf8 (stream_turn all rest behind t r n s.given said s.streams e read)
+pub takes_can : (all : List TokenValue) (old mid : Merging) (a b : List ℕ) (r n : PhraseReader) (rest following : List TokenValue) (t : TokenValue) (said : List UnitValue) → AllByRecursion IsUtf8Item (phrase_items all)
+    → TakesStream all old mid a b r rest → rest ≡ t ∷ following → ReadsToken r n t following said → AreWritable said
+takes_can all old mid a b r n rest following t said utf8 s e read = said_writable all following n s.given said utf8 (stream_turn all rest following t r n s.given said s.streams e read)
 
-pub takes_turn : (all : List TokenValue) (old mid new : Merging) (a b c : List ℕ) (r n : PhraseReader) (rest behind : List TokenValue) (t : TokenValue) (said : List UnitValue) → AllByRecursion IsUtf8Item (phrase_items all)
-    → TakesStream all old mid a b r rest → rest ≡ t ∷ behind → ReadsToken r n t behind said → TakesOut mid new b c said → TakesStream all old new a c n behind
-takes_turn all old mid new a b c r n rest behind t said utf8 s e read o = record {
+pub takes_turn : (all : List TokenValue) (old mid new : Merging) (a b c : List ℕ) (r n : PhraseReader) (rest following : List TokenValue) (t : TokenValue) (said : List UnitValue) → AllByRecursion IsUtf8Item (phrase_items all)
+    → TakesStream all old mid a b r rest → rest ≡ t ∷ following → ReadsToken r n t following said → TakesOut mid new b c said → TakesStream all old new a c n following
+takes_turn all old mid new a b c r n rest following t said utf8 s e read o = record {
   given = s.given ++ said;
-  streams = stream_turn all rest behind t r n s.given said s.streams e read;
+  streams = stream_turn all rest following t r n s.given said s.streams e read;
   takes = out_append old mid new a b c s.given said s.takes o;
-  ends = end_after mid new b c said o (takes_can all old mid a b r n rest behind t said utf8 s e read) s.ends;
+  ends = end_after mid new b c said o (takes_can all old mid a b r n rest following t said utf8 s e read) s.ends;
 }
 
 pub takes_last : (all : List TokenValue) (old mid : Merging) (a b : List ℕ) (r : PhraseReader) (rest : List TokenValue) (last : List UnitValue) → AllByRecursion IsUtf8Item (phrase_items all) → TakesStream all old mid a b r rest
@@ -180,10 +180,10 @@ takes_end all old mid new a b c r rest last s e is o =
 -- ---- what functions take
 
 -- the units of a mailbox's phrase
-pub display_taken : (ts before behind : List TokenValue) (m : FoundMailbox) (display : List UnitValue) (old new : Merging) (a b : List ℕ) → SplitsAt 60 ts before behind → m.phrase ≡ true → IsMailbox ts (found_value m display)
+pub display_taken : (ts before following : List TokenValue) (m : FoundMailbox) (display : List UnitValue) (old new : Merging) (a b : List ℕ) → SplitsAt 60 ts before following → m.phrase ≡ true → IsMailbox ts (found_value m display)
     → TakesPhrase old new a b before → TakesDisplay old new a b ts m
-display_taken ts before behind m display old new a b s phrase is t =
-    record { display = t.said; is_mailbox = display_read ts before behind m display t.said s phrase is t.has_units; takes = t.takes }
+display_taken ts before following m display old new a b s phrase is t =
+    record { display = t.said; is_mailbox = display_read ts before following m display t.said s phrase is t.has_units; takes = t.takes }
 
 pub bare_not_served : (ts : List TokenValue) (m : FoundMailbox) (display : List UnitValue) (old new : Merging) (a : List ℕ) → m.phrase ≡ false → IsMailbox ts (found_value m display)
     → TakesUnits old new (Text (address_text m.address) ∷ []) → TakesNotServed old new a a ts m
@@ -242,7 +242,7 @@ members_more ts rest part after old mid more new a b c s p t u =
       done = s.done ++ t.member ∷ [];
       reads = parts_turn IsOneMailbox one_walked ts rest part after s.done (t.member ∷ []) (s.done ++ t.member ∷ []) s.reads p t.is_mailbox refl;
       takes = subst (TakesOut old new a c) (sym (units_before-more s.done t.member)) (out_append old mid new a b c (units_before s.done) (member_units t.member ++ Text (codes ", ") ∷ []) s.takes taken);
-      can = behind_can rest part after p.comma p.whole s.can;
+      can = following_can rest part after p.comma p.whole s.can;
       left = members_left rest part after s.left p;
       ends = end_after mid new b c (member_units t.member ++ Text (codes ", ") ∷ []) taken w s.ends;
     }
@@ -276,6 +276,6 @@ group_end inner more new b c can ends t = end_after more new b c (members_units 
 pub group_written : (name inner : List TokenValue) (fresh mid more new : Merging) (a b c d : List ℕ) → IsMerging fresh [] [] → TakesPhrase fresh mid a b name → TakesUnits mid more (Text (32 ∷ []) ∷ []) → TakesMembers more new b c inner
     → AddsLines (WriteAll (all_units_then new [])) c d → AddsLines (GivesGroupUnits name inner) a d
 group_written name inner fresh mid more new a b c d is p s t rest =
-    let behind : TakesOut mid new b c (Text (32 ∷ []) ∷ members_units t.members) = out_append mid more new b b c (Text (32 ∷ []) ∷ []) (members_units t.members) (out_of mid more b (Text (32 ∷ []) ∷ []) s) t.takes in
+    let following : TakesOut mid new b c (Text (32 ∷ []) ∷ members_units t.members) = out_append mid more new b b c (Text (32 ∷ []) ∷ []) (members_units t.members) (out_of mid more b (Text (32 ∷ []) ∷ []) s) t.takes in
     adds_as (λ xs q. record { said = p.said; has_units = p.has_units; members = t.members; are_members = t.are_members; write = q })
-    (all_written fresh new a c d (p.said ++ Text (32 ∷ []) ∷ members_units t.members) is (out_append fresh mid new a b c p.said (Text (32 ∷ []) ∷ members_units t.members) p.takes behind) rest)
+    (all_written fresh new a c d (p.said ++ Text (32 ∷ []) ∷ members_units t.members) is (out_append fresh mid new a b c p.said (Text (32 ∷ []) ∷ members_units t.members) p.takes following) rest)

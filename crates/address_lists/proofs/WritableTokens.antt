@@ -49,8 +49,8 @@ rest_can a b can = record {
 pub before_can : (ts a b : List TokenValue) (t : TokenValue) → ts ≡ a ++ t ∷ b → CanBeWritten ts → CanBeWritten a
 before_can ts a b t whole can = front_can a (t ∷ b) (subst CanBeWritten whole can)
 
-pub behind_can : (ts a b : List TokenValue) (t : TokenValue) → ts ≡ a ++ t ∷ b → CanBeWritten ts → CanBeWritten b
-behind_can ts a b t whole can = rest_can (t ∷ []) b (rest_can a (t ∷ b) (subst CanBeWritten whole can))
+pub following_can : (ts a b : List TokenValue) (t : TokenValue) → ts ≡ a ++ t ∷ b → CanBeWritten ts → CanBeWritten b
+following_can ts a b t whole can = rest_can (t ∷ []) b (rest_can a (t ∷ b) (subst CanBeWritten whole can))
 
 -- ---- addresses
 
@@ -74,12 +74,12 @@ record IsUtf8Address (a : Address) : Type 0 where
 pub address_parts : (ts : List TokenValue) (a : Address) → CanBeWritten ts → IsAddress ts a → IsUtf8 a.local × IsUtf8 a.domain
 address_parts ts a can is = (
   rw (is.local_says) (contents_says is.local (before_can ts is.local is.domain is.at is.whole can).says),
-  rw (is.domain_says) (contents_says is.domain (behind_can ts is.local is.domain is.at is.whole can).says),
+  rw (is.domain_says) (contents_says is.domain (following_can ts is.local is.domain is.at is.whole can).says),
 )
 
 address_utf8 : (ts : List TokenValue) (a : Address) → CanBeWritten ts → IsAddress ts a → IsUtf8Address a
 address_utf8 ts a can is =
-    let domain : IsUtf8 a.domain = rw (is.domain_says) (contents_says is.domain (behind_can ts is.local is.domain is.at is.whole can).says) in
+    let domain : IsUtf8 a.domain = rw (is.domain_says) (contents_says is.domain (following_can ts is.local is.domain is.at is.whole can).says) in
     let local : IsUtf8 a.local = rw (is.local_says) (contents_says is.local (before_can ts is.local is.domain is.at is.whole can).says) in
     record {
       text = IsUtf8-append (local_text a.local) (64 ∷ a.domain) (local_utf8 a.local local) (IsUtf8-append (64 ∷ []) a.domain (one_ascii 64 (omega arith)) domain);
@@ -88,7 +88,7 @@ address_utf8 ts a can is =
 
 routed_utf8 : (ts : List TokenValue) (a : Address) → CanBeWritten ts → IsRoutedOrNot ts a → IsUtf8Address a
 routed_utf8 ts a can (inl is) = address_utf8 ts a can is
-routed_utf8 ts a can (inr is) = address_utf8 is.behind a (behind_can ts is.route is.behind is.colon is.whole can) is.is_address
+routed_utf8 ts a can (inr is) = address_utf8 is.following a (following_can ts is.route is.following is.colon is.whole can) is.is_address
 
 -- ---- mailboxes
 
@@ -102,8 +102,8 @@ mailbox_writable ts m can (inl is) =
     record { display = rw (is.display) tt; text = address.text; domain = address.domain }
 mailbox_writable ts m can (inr is) =
     let a = is.angled in
-    let behind = behind_can ts is.before (is.inner ++ a.close_mark ∷ a.after) a.open_mark a.whole can in
-    let address = routed_utf8 is.inner m.address (front_can is.inner (a.close_mark ∷ a.after) behind) is.named.address in
+    let following = following_can ts is.before (is.inner ++ a.close_mark ∷ a.after) a.open_mark a.whole can in
+    let address = routed_utf8 is.inner m.address (front_can is.inner (a.close_mark ∷ a.after) following) is.named.address in
     record {
       display = display_writable is.before m.phrase m.display is.named.says (before_can ts is.before (is.inner ++ a.close_mark ∷ a.after) a.open_mark a.whole can);
       text = address.text;
@@ -124,7 +124,7 @@ parts_writable [] ts ms can d say = absurd d
 parts_writable (p ∷ []) ts ms can d say =
     rw (say.2, say.4) (all_append say.0 [] (one_writable p say.0 (subst CanBeWritten d can) say.3) tt)
 parts_writable (p ∷ n ∷ parts) ts ms can d say =
-    rw (say.2) (all_append say.0 say.1 (one_writable p say.0 (before_can ts p d.1 d.0 d.2 can) say.3) (parts_writable (n ∷ parts) d.1 say.1 (behind_can ts p d.1 d.0 d.2 can) d.4 say.4))
+    rw (say.2) (all_append say.0 say.1 (one_writable p say.0 (before_can ts p d.1 d.0 d.2 can) say.3) (parts_writable (n ∷ parts) d.1 say.1 (following_can ts p d.1 d.0 d.2 can) d.4 say.4))
 
 pub members_writable : (ts : List TokenValue) (ms : List MailboxValue) → CanBeWritten ts → AreMembers ts ms → AreWritableMailboxes ms
 members_writable ts ms can (inl none) = rw (none.1) tt
@@ -139,6 +139,6 @@ pub record IsWritableGroup (us : List UnitValue) (ms : List MailboxValue) : Type
 pub group_writable : (ts : List TokenValue) (name : List UnitValue) (ms : List MailboxValue) → CanBeWritten ts → IsGroup ts name ms → IsWritableGroup name ms
 group_writable ts us ms can is =
     let g = is.group in record {
-      name = HasPhraseUnits-writable (phrase_items is.before) us (before_can ts is.before is.behind is.colon is.whole can).items g.says;
-      members = members_writable g.inner ms (before_can is.behind g.inner g.after g.semicolon g.whole (behind_can ts is.before is.behind is.colon is.whole can)) g.are_members;
+      name = HasPhraseUnits-writable (phrase_items is.before) us (before_can ts is.before is.following is.colon is.whole can).items g.says;
+      members = members_writable g.inner ms (before_can is.following g.inner g.after g.semicolon g.whole (following_can ts is.before is.following is.colon is.whole can)) g.are_members;
     }

@@ -74,12 +74,12 @@ trail_once p (u ∷ a) (v ∷ b) s t x y ws wt bx by e =
 core_begins : (tokens core trail : List TokenValue) → HasCore tokens core trail → BeginsNoGap (core ++ trail)
 core_begins tokens core trail has = rw (has.begins.2) (has.begins.3)
 
-pub core_once : (tokens core trail other behind : List TokenValue) → HasCore tokens core trail → HasCore tokens other behind → SameEnds core other trail behind
-core_once tokens core trail other behind p q =
-    let lead = gaps_once p.lead q.lead (core ++ trail) (other ++ behind) p.gaps q.gaps (core_begins tokens core trail p) (core_begins tokens other behind q) (sym p.whole ∙ q.whole) in
-    let same : (p.ends.0 ++ p.ends.1 ∷ []) ++ trail ≡ (q.ends.0 ++ q.ends.1 ∷ []) ++ behind
-    = ap (λ r. r ++ trail) (sym p.ends.2) ∙ lead.rest ∙ ap (λ r. r ++ behind) q.ends.2 in
-    let r = trail_once is_blank_token p.ends.0 q.ends.0 p.ends.1 q.ends.1 trail behind p.ends.3 q.ends.3 p.blank q.blank same in
+pub core_once : (tokens core trail other following : List TokenValue) → HasCore tokens core trail → HasCore tokens other following → SameEnds core other trail following
+core_once tokens core trail other following p q =
+    let lead = gaps_once p.lead q.lead (core ++ trail) (other ++ following) p.gaps q.gaps (core_begins tokens core trail p) (core_begins tokens other following q) (sym p.whole ∙ q.whole) in
+    let same : (p.ends.0 ++ p.ends.1 ∷ []) ++ trail ≡ (q.ends.0 ++ q.ends.1 ∷ []) ++ following
+    = ap (λ r. r ++ trail) (sym p.ends.2) ∙ lead.rest ∙ ap (λ r. r ++ following) q.ends.2 in
+    let r = trail_once is_blank_token p.ends.0 q.ends.0 p.ends.1 q.ends.1 trail following p.ends.3 q.ends.3 p.blank q.blank same in
     record { front = p.ends.2 ∙ r.front ∙ sym q.ends.2; rest = r.rest }
 
 -- ---- the pieces are one

@@ -1,6 +1,7 @@
 -- How lists of addresses are written in ASCII (RFC 6857, 3.2; RFC 5891).
 use Rattle.std.specs.Prelude.{◌≡◌, ◌⊎◌, ℕ, Bool, true, false, not, ◌&&◌, if◌then◌else◌, List, [], ◌∷◌, ◌++◌, Option, Some, None, is_some, codes}
 use Rattle.std.specs.List.{list_all, list_any}
+use Rattle.mail_wire.specs.Characters.{space, comma, colon, semicolon}
 use Rattle.mail_wire.specs.Octets.{is_ascii}
 use Rattle.encoded_words.specs.Words.{UnitValue, Text}
 use Rattle.encoded_words.specs.Units.{merged}
@@ -39,7 +40,7 @@ has_served_address m = is_some (served_address m.address)
 
 -- what stands for a mailbox whose address can't be served: the units of its phrase, a space, and the text of its address
 abbrev pub mailbox_units : MailboxValue → List UnitValue
-mailbox_units m = merged (m.display ++ (if m.phrase then Text (32 ∷ []) ∷ [] else []) ++ Text (address_text m.address) ∷ [])
+mailbox_units m = merged (m.display ++ (if m.phrase then Text (space ∷ []) ∷ [] else []) ++ Text (address_text m.address) ∷ [])
 
 -- A group's member as units of text: its display name, and its address in angle brackets; without a phrase its address alone.
 abbrev pub member_units : MailboxValue → List UnitValue
@@ -53,7 +54,7 @@ members_units (m ∷ n ∷ ms) = member_units m ++ Text (codes ", ") ∷ members
 
 -- what stands for a group with such a mailbox: the units of its name, a space, and its members
 abbrev pub group_units : List UnitValue → List MailboxValue → List UnitValue
-group_units name members = merged (name ++ Text (32 ∷ []) ∷ members_units members)
+group_units name members = merged (name ++ Text (space ∷ []) ∷ members_units members)
 
 -- a group without members
 abbrev pub no_members : List ℕ
@@ -93,7 +94,7 @@ MemberPieces false tokens pieces = MailboxPieces tokens pieces
 -- a comma behind the last piece
 abbrev pub with_comma : List (List ℕ) → List (List ℕ)
 with_comma [] = []
-with_comma (p ∷ []) = (p ++ 44 ∷ []) ∷ []
+with_comma (p ∷ []) = (p ++ comma ∷ []) ∷ []
 with_comma (p ∷ q ∷ ps) = p ∷ with_comma (q ∷ ps)
 
 -- The pieces of a group's members, a comma behind each but the last.
@@ -112,7 +113,7 @@ pub data GroupPieces (tokens : List TokenValue) (pieces : List (List ℕ)) : Typ
   -- its name and the comments beside it, its members, and then the comments behind it
   Kept : (name : List UnitValue) (members : List MailboxValue) (first inner comments : List (List ℕ)) → (g : IsGroup tokens name members) → list_all has_served_address members ≡ true
       → PlacePieces g.before first → InnerPieces g.group.inner inner → CommentsPieces (comments_of g.group.after) comments
-      → pieces ≡ first ++ (58 ∷ []) ∷ (inner ++ (59 ∷ []) ∷ comments) → GroupPieces tokens pieces
+      → pieces ≡ first ++ (colon ∷ []) ∷ (inner ++ (semicolon ∷ []) ∷ comments) → GroupPieces tokens pieces
   -- a group without members where an address of it can't be served, and then all comments
   Emptied : (name : List UnitValue) (members : List MailboxValue) (words comments : List (List ℕ)) → IsGroup tokens name members → list_all has_served_address members ≡ false
       → WriteAll (group_units name members) words → CommentsPieces (comments_of tokens) comments → pieces ≡ words ++ no_members ∷ comments → GroupPieces tokens pieces

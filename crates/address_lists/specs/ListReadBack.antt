@@ -1,8 +1,9 @@
 -- What the pieces of a list of addresses read as (RFC 6857, 3.2).
 use Rattle.std.specs.Prelude.{◌≡◌, ℕ, ◌<◌, Bool, true, false, List, [], length, Some}
 use Rattle.std.specs.List.{AllByRecursion, AllZip, list_all, join_with_byte}
+use Rattle.mail_wire.specs.Characters.{space}
 use Rattle.mail_wire.specs.Octets.{is_white}
-use Rattle.mail_wire.specs.Spans.{Stops, StopsBehind}
+use Rattle.mail_wire.specs.Spans.{Stops, StopsAfter}
 use Rattle.encoded_words.specs.Words.{UnitValue}
 use Rattle.field_tokens.specs.Comments.{CommentValue, IsLinePiece}
 use Rattle.address_grammar.specs.AddressLists.{MailboxValue, ElementValue, One, Group}
@@ -40,8 +41,8 @@ StandsForElement (Group name members) made = StandsForGroupIf (list_all has_serv
 pub record AreAddressesAgain (elements : List ElementValue) (comments : List CommentValue) (pieces : List (List ℕ)) : Type 0 where
   pub made : List ElementValue
   pub each : AllZip StandsForElement elements made
-  pub says : SaysAddresses (join_with_byte 32 pieces) made comments
-  pub begins : Stops is_white (join_with_byte 32 pieces)
-  pub ends : StopsBehind is_white (join_with_byte 32 pieces)
+  pub says : SaysAddresses (join_with_byte space pieces) made comments
+  pub begins : Stops is_white (join_with_byte space pieces)
+  pub ends : StopsAfter is_white (join_with_byte space pieces)
   pub some : 0 < length pieces
   pub are_pieces : AllByRecursion IsLinePiece pieces

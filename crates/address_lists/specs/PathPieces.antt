@@ -1,8 +1,9 @@
 -- What a path says, and how it is written in ASCII (RFC 5321, 4.1.2; RFC 6857, 3.2).
 use Rattle.std.specs.Prelude.{◌≡◌, ℕ, ◌<◌, List, ◌∷◌, length, Option, Some}
 use Rattle.std.specs.List.{AllByRecursion, join_with_byte}
+use Rattle.mail_wire.specs.Characters.{space}
 use Rattle.mail_wire.specs.Octets.{is_white}
-use Rattle.mail_wire.specs.Spans.{Stops, StopsBehind}
+use Rattle.mail_wire.specs.Spans.{Stops, StopsAfter}
 use Rattle.field_tokens.specs.Tokens.{TokenValue}
 use Rattle.field_tokens.specs.Squeezed.{comments_of}
 use Rattle.field_tokens.specs.Comments.{CommentValue, CommentsSay, CommentsPieces, IsLinePiece}
@@ -35,9 +36,9 @@ pub record PathPieces (text : List ℕ) (pieces : List (List ℕ)) : Type 0 wher
 pub record IsPathAgain (address : Address) (comments : List CommentValue) (pieces : List (List ℕ)) : Type 0 where
   pub served : Address
   pub is_served : served_address address ≡ Some served
-  pub says : SaysPath (join_with_byte 32 pieces) (Some served) comments
-  pub begins : Stops is_white (join_with_byte 32 pieces)
-  pub ends : StopsBehind is_white (join_with_byte 32 pieces)
+  pub says : SaysPath (join_with_byte space pieces) (Some served) comments
+  pub begins : Stops is_white (join_with_byte space pieces)
+  pub ends : StopsAfter is_white (join_with_byte space pieces)
   pub are_pieces : AllByRecursion IsLinePiece pieces
   pub some : 0 < length pieces
 

@@ -1,5 +1,6 @@
 -- Phrases divided by commas, as in Keywords (RFC 5322, 3.6.5), and how they are written in ASCII.
 use Rattle.std.specs.Prelude.{◌≡◌, ℕ, List, [], ◌∷◌, ◌++◌}
+use Rattle.mail_wire.specs.Characters.{comma}
 use Rattle.encoded_words.specs.Words.{UnitValue}
 use Rattle.encoded_words.specs.PhraseUnits.{HasPhraseUnits}
 use Rattle.field_tokens.specs.Tokens.{TokenValue}
@@ -33,7 +34,7 @@ GivesOnePhrase tokens (pieces ∷ next ∷ more) = ⊥
 abbrev pub with_commas : List (List (List ℕ)) → List (List ℕ)
 with_commas [] = []
 with_commas (pieces ∷ []) = pieces
-with_commas (pieces ∷ next ∷ more) = pieces ++ (44 ∷ []) ∷ with_commas (next ∷ more)
+with_commas (pieces ∷ next ∷ more) = pieces ++ (comma ∷ []) ∷ with_commas (next ∷ more)
 
 -- the text is phrases, with these pieces
 pub record PhrasesPieces (text : List ℕ) (pieces : List (List ℕ)) : Type 0 where

@@ -1,6 +1,7 @@
 -- How a phrase is written in ASCII (RFC 5322, 3.2.5; RFC 2047, 5, rule 3).
 use Rattle.std.specs.Prelude.{◌≡◌, ℕ, Bool, true, false, List, [], ◌∷◌, ◌++◌}
 use Rattle.std.specs.List.{list_all}
+use Rattle.mail_wire.specs.Characters.{quote}
 use Rattle.mail_wire.specs.Octets.{is_ascii}
 use Rattle.encoded_words.specs.Words.{UnitValue}
 use Rattle.encoded_words.specs.PhraseUnits.{HasPhraseUnits}
@@ -13,7 +14,7 @@ use Rattle.address_grammar.specs.Phrases.{phrase_items}
 
 -- A phrase is never empty, so no units are written as an empty quoted string.
 abbrev pub UnitsPieces : List UnitValue → List (List ℕ) → Type 0
-UnitsPieces [] pieces = pieces ≡ (34 ∷ 34 ∷ []) ∷ []
+UnitsPieces [] pieces = pieces ≡ (quote ∷ quote ∷ []) ∷ []
 UnitsPieces (u ∷ us) pieces = WriteAll (u ∷ us) pieces
 
 -- A phrase with the comments in it is one piece where it is ASCII. Else its units are written, and then its comments.

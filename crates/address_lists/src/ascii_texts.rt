@@ -9,7 +9,7 @@ ghost use Rattle.address_grammar.specs.private.Lexemes.{are_blank};
 ghost use Rattle.address_lists.specs.ListPieces.{HasText};
 ghost use Rattle.address_lists.specs.private.ListWriting.{SplitsGaps, AsciiPieces};
 
-use crate::writing::{behind_gaps, is_gap, push_joined};
+use crate::writing::{after_gaps, is_gap, push_joined};
 use address_grammar::front_before;
 use field_tokens::Lexemes;
 use mail_wire::{Memory, Octets, is_ascii};
@@ -18,11 +18,11 @@ pub fn are_ascii(lexemes: Lexemes<'_, '_>) -> bool
     ensures { result ≡ list_all is_ascii_octet (octets_of (values_of lexemes.entry)) }
 {
     let mut rest = lexemes;
-    while let Some((lexeme, behind)) = rest.split_first() {
+    while let Some((lexeme, following)) = rest.split_first() {
         if !is_ascii(lexeme.octets) {
             return false;
         }
-        rest = behind;
+        rest = following;
     }
     true
 }
@@ -33,11 +33,11 @@ fn before_gaps<'a, 'b>(lexemes: Lexemes<'a, 'b>) -> Lexemes<'a, 'b>
 {
     let mut trail = lexemes;
     let mut rest = lexemes;
-    while let Some((lexeme, behind)) = rest.split_first() {
+    while let Some((lexeme, following)) = rest.split_first() {
         if !is_gap(lexeme) {
-            trail = behind;
+            trail = following;
         }
-        rest = behind;
+        rest = following;
     }
     front_before(lexemes, trail)
 }
@@ -47,7 +47,7 @@ fn inner_text<'a, 'b>(lexemes: Lexemes<'a, 'b>) -> Lexemes<'a, 'b>
     requires { are_blank (values_of lexemes) ≡ false }
     ensures { HasText (values_of lexemes.entry) (values_of result) }
 {
-    before_gaps(behind_gaps(lexemes))
+    before_gaps(after_gaps(lexemes))
 }
 
 /// Puts the tokens without the gaps at both ends last, as one piece.

@@ -101,10 +101,10 @@ fn push_phrase(
 {
     let mut reader = PhraseReader::new(alloc);
     let mut rest = lexemes;
-    while let Some((lexeme, behind)) = rest.split_first() {
-        let said = reader.read(alloc, lexeme, behind)?;
+    while let Some((lexeme, following)) = rest.split_first() {
+        let said = reader.read(alloc, lexeme, following)?;
         push_said(alloc, units, &said, made)?;
-        rest = behind;
+        rest = following;
     }
     let said = reader.finish(alloc)?;
     push_said(alloc, units, &said, made)
@@ -202,10 +202,10 @@ fn push_members(
     ensures { OnOk result (TakesMembers units.old units.new made.old made.new (values_of lexemes.entry)) }
 {
     let mut rest = lexemes;
-    while let Some((member, behind)) = split_place(rest) {
+    while let Some((member, following)) = split_place(rest) {
         push_member(alloc, units, member, made)?;
         push_text(units, b", ")?;
-        rest = behind;
+        rest = following;
     }
     push_member(alloc, units, rest, made)
 }
@@ -295,10 +295,10 @@ pub fn write_not_kept(
     requires group { IsServedGroup (values_of lexemes) false }
     ensures { OnOk result (AddsLines (GroupPieces (values_of lexemes.entry)) made.old made.new) }
 {
-    let Some((name, behind)) = split_at_mark(lexemes, b':') else {
+    let Some((name, following)) = split_at_mark(lexemes, b':') else {
         unreachable!();
     };
-    let Some((members, _)) = split_at_mark(behind, b';') else {
+    let Some((members, _)) = split_at_mark(following, b';') else {
         unreachable!();
     };
     write_group_units(alloc, name, members, made)?;

@@ -53,10 +53,10 @@ fn are_served(alloc: Global, lexemes: Lexemes<'_, '_>) -> Result<bool, AddressFa
 {
     let mut are = true;
     let mut rest = lexemes;
-    while let Some((member, behind)) = split_place(rest) {
+    while let Some((member, following)) = split_place(rest) {
         let is = is_served(alloc, member)?;
         are = both(are, is);
-        rest = behind;
+        rest = following;
     }
     let is = is_served(alloc, rest)?;
     let all = both(are, is);
@@ -79,13 +79,13 @@ fn are_served_members(alloc: Global, lexemes: Lexemes<'_, '_>) -> Result<bool, A
 pub fn is_served_group(
     alloc: Global,
     name: Lexemes<'_, '_>,
-    behind: Lexemes<'_, '_>,
+    following: Lexemes<'_, '_>,
 ) -> Result<bool, AddressFault>
-    requires { CanBeWritten (values_of behind) }
-    ensures ok { IfOk result (IsServedGroupBy (values_of name.entry) (values_of behind.entry)) }
-    ensures malformed { result ≡ Err AddressFault.Malformed → (e : ElementValue) → ¬ SaysGroup (values_of name.entry) (values_of behind.entry) e }
+    requires { CanBeWritten (values_of following) }
+    ensures ok { IfOk result (IsServedGroupBy (values_of name.entry) (values_of following.entry)) }
+    ensures malformed { result ≡ Err AddressFault.Malformed → (e : ElementValue) → ¬ SaysGroup (values_of name.entry) (values_of following.entry) e }
 {
-    let Some((inner, after)) = split_at_mark(behind, b';') else {
+    let Some((inner, after)) = split_at_mark(following, b';') else {
         return Err(AddressFault::Malformed);
     };
     if !are_blank(after) {

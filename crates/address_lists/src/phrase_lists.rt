@@ -53,12 +53,12 @@ fn write_phrases(
     ensures more { result ≡ Err AddressFault.Malformed → (more : List ℕ) × (made.new ≡ made.old ++ more) }
 {
     let mut rest = lexemes;
-    while let Some((place, behind)) = split_place(rest) {
+    while let Some((place, following)) = split_place(rest) {
         push_phrase(alloc, place, made)?;
         let Ok(()) = push_line(made, b",") else {
             return Err(AddressFault::Memory);
         };
-        rest = behind;
+        rest = following;
     }
     push_phrase(alloc, rest, made)
 }

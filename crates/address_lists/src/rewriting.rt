@@ -26,7 +26,7 @@ fn write_unnamed(
     made: &mut Octets,
 ) -> Result<(), AddressFault>
     requires writable { CanBeWritten (values_of lexemes) }
-    requires unnamed { (before behind : List TokenValue) → ¬ SplitsName (values_of lexemes) before behind }
+    requires unnamed { (before following : List TokenValue) → ¬ SplitsName (values_of lexemes) before following }
     ensures ok { OnOk result (AddsLines (GivesElement (values_of lexemes.entry)) made.old made.new) }
     ensures malformed { result ≡ Err AddressFault.Malformed → (e : ElementValue) → ¬ IsElement (values_of lexemes.entry) e }
     ensures unchanged { result ≡ Err AddressFault.Malformed → made.new ≡ made.old }
@@ -50,7 +50,7 @@ fn write_element(
     ensures unchanged { result ≡ Err AddressFault.Malformed → made.new ≡ made.old }
 {
     match split_name(lexemes) {
-        Some((name, behind)) => write_group(alloc, lexemes, name, behind, made),
+        Some((name, following)) => write_group(alloc, lexemes, name, following, made),
         None => write_unnamed(alloc, lexemes, made),
     }
 }
@@ -94,37 +94,37 @@ fn has_element(lexemes: Lexemes<'_, '_>) -> bool
     ensures { result ≡ list_any is_element_token (values_of lexemes.entry) }
 {
     let mut rest = lexemes;
-    while let Some((lexeme, behind)) = rest.split_first() {
+    while let Some((lexeme, following)) = rest.split_first() {
         if !(is_blank(lexeme) || is_mark(lexeme, b',')) {
             return true;
         }
-        rest = behind;
+        rest = following;
     }
     false
 }
 
 // Whether an element stands in a place, and another one behind it. The time over a whole list is linear: no token is looked
 // at for two elements.
-fn is_followed(place: Lexemes<'_, '_>, behind: Lexemes<'_, '_>) -> bool
-    ensures { result ≡ (not (are_blank_of (values_of place.entry)) && list_any is_element_token (values_of behind.entry)) }
+fn is_followed(place: Lexemes<'_, '_>, following: Lexemes<'_, '_>) -> bool
+    ensures { result ≡ (not (are_blank_of (values_of place.entry)) && list_any is_element_token (values_of following.entry)) }
 {
-    !are_blank(place) && has_element(behind)
+    !are_blank(place) && has_element(following)
 }
 
 // Puts the pieces of a place last that a comma ends, and puts a comma behind an element that another follows.
 fn write_followed(
     alloc: Global,
     place: Lexemes<'_, '_>,
-    behind: Lexemes<'_, '_>,
+    following: Lexemes<'_, '_>,
     made: &mut Octets,
 ) -> Result<(), AddressFault>
     requires { CanBeWritten (values_of place) }
-    ensures ok { OnOk result (AddsLines (GivesFollowed (values_of place.entry) (values_of behind.entry)) made.old made.new) }
+    ensures ok { OnOk result (AddsLines (GivesFollowed (values_of place.entry) (values_of following.entry)) made.old made.new) }
     ensures malformed { result ≡ Err AddressFault.Malformed → (es : List ElementValue) → ¬ SaysPlace (values_of place.entry) es }
     ensures unchanged { result ≡ Err AddressFault.Malformed → made.new ≡ made.old }
 {
     write_place(alloc, place, made)?;
-    if !is_followed(place, behind) {
+    if !is_followed(place, following) {
         return Ok(());
     }
     let Ok(()) = made.push(b',') else {
@@ -145,9 +145,9 @@ fn write_places(
     ensures more { result ≡ Err AddressFault.Malformed → (more : List ℕ) × (made.new ≡ made.old ++ more) }
 {
     let mut rest = lexemes;
-    while let Some((place, behind)) = split_place(rest) {
-        write_followed(alloc, place, behind, made)?;
-        rest = behind;
+    while let Some((place, following)) = split_place(rest) {
+        write_followed(alloc, place, following, made)?;
+        rest = following;
     }
     write_place(alloc, rest, made)
 }

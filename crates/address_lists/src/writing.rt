@@ -27,15 +27,15 @@ pub(crate) fn is_gap(lexeme: Lexeme<'_>) -> bool
 }
 
 // What stands behind the gaps in front.
-pub(crate) fn behind_gaps<'a, 'b>(lexemes: Lexemes<'a, 'b>) -> Lexemes<'a, 'b>
+pub(crate) fn after_gaps<'a, 'b>(lexemes: Lexemes<'a, 'b>) -> Lexemes<'a, 'b>
     ensures { SkipsGaps (values_of lexemes.entry) (values_of result) }
 {
     let mut rest = lexemes;
-    while let Some((lexeme, behind)) = rest.split_first() {
+    while let Some((lexeme, following)) = rest.split_first() {
         if !is_gap(lexeme) {
             return rest;
         }
-        rest = behind;
+        rest = following;
     }
     rest
 }
@@ -46,11 +46,11 @@ fn split_trail<'a, 'b>(lexemes: Lexemes<'a, 'b>) -> (Lexemes<'a, 'b>, Lexemes<'a
 {
     let mut trail = lexemes;
     let mut rest = lexemes;
-    while let Some((lexeme, behind)) = rest.split_first() {
+    while let Some((lexeme, following)) = rest.split_first() {
         if !is_blank(lexeme) {
-            trail = behind;
+            trail = following;
         }
-        rest = behind;
+        rest = following;
     }
     (front_before(lexemes, trail), trail)
 }
@@ -60,7 +60,7 @@ pub(crate) fn split_core<'a, 'b>(lexemes: Lexemes<'a, 'b>) -> (Lexemes<'a, 'b>, 
     requires { IsPhrase (values_of lexemes) }
     ensures { HasCore (values_of lexemes.entry) (values_of result.0) (values_of result.1) }
 {
-    split_trail(behind_gaps(lexemes))
+    split_trail(after_gaps(lexemes))
 }
 
 // Puts the octets of tokens last.
@@ -68,9 +68,9 @@ fn push_octets(lexemes: Lexemes<'_, '_>, made: &mut Octets) -> Result<(), Memory
     ensures { OnOk result (made.new ≡ made.old ++ octets_of (values_of lexemes.entry)) }
 {
     let mut rest = lexemes;
-    while let Some((lexeme, behind)) = rest.split_first() {
+    while let Some((lexeme, following)) = rest.split_first() {
         made.push_slice(lexeme.octets)?;
-        rest = behind;
+        rest = following;
     }
     Ok(())
 }
@@ -103,11 +103,11 @@ fn write_said(alloc: Global, lexemes: Lexemes<'_, '_>, made: &mut Octets) -> Res
     let mut reader = PhraseReader::new(alloc);
     let mut is_said = false;
     let mut rest = lexemes;
-    while let Some((lexeme, behind)) = rest.split_first() {
-        let said = reader.read(alloc, lexeme, behind)?;
+    while let Some((lexeme, following)) = rest.split_first() {
+        let said = reader.read(alloc, lexeme, following)?;
         is_said = has_units(is_said, &said);
         write_units(&said, made)?;
-        rest = behind;
+        rest = following;
     }
     let said = reader.finish(alloc)?;
     write_units(&said, made)?;

@@ -56,10 +56,10 @@ fn write_members(alloc: Global, lexemes: Lexemes<'_, '_>, made: &mut Octets) -> 
     ensures { OnOk result (AddsLines (GivesMembers (values_of lexemes.entry)) made.old made.new) }
 {
     let mut rest = lexemes;
-    while let Some((member, behind)) = split_place(rest) {
+    while let Some((member, following)) = split_place(rest) {
         write_member(alloc, member, made)?;
         made.push(b',')?;
-        rest = behind;
+        rest = following;
     }
     write_member(alloc, rest, made)
 }
@@ -82,10 +82,10 @@ fn write_kept(alloc: Global, lexemes: Lexemes<'_, '_>, made: &mut Octets) -> Res
     requires group { IsServedGroup (values_of lexemes) true }
     ensures { OnOk result (AddsLines (GroupPieces (values_of lexemes.entry)) made.old made.new) }
 {
-    let Some((name, behind)) = split_at_mark(lexemes, b':') else {
+    let Some((name, following)) = split_at_mark(lexemes, b':') else {
         unreachable!();
     };
-    let Some((inner, after)) = split_at_mark(behind, b';') else {
+    let Some((inner, after)) = split_at_mark(following, b';') else {
         unreachable!();
     };
     write_phrase(alloc, name, made)?;
@@ -120,16 +120,16 @@ pub fn write_group(
     alloc: Global,
     lexemes: Lexemes<'_, '_>,
     name: Lexemes<'_, '_>,
-    behind: Lexemes<'_, '_>,
+    following: Lexemes<'_, '_>,
     made: &mut Octets,
 ) -> Result<(), AddressFault>
     requires writable { CanBeWritten (values_of lexemes) }
-    requires splits { SplitsName (values_of lexemes) (values_of name) (values_of behind) }
+    requires splits { SplitsName (values_of lexemes) (values_of name) (values_of following) }
     ensures ok { OnOk result (AddsLines (GivesElement (values_of lexemes.entry)) made.old made.new) }
     ensures malformed { result ≡ Err AddressFault.Malformed → (e : ElementValue) → ¬ IsElement (values_of lexemes.entry) e }
     ensures unchanged { result ≡ Err AddressFault.Malformed → made.new ≡ made.old }
 {
-    let is_served = is_served_group(alloc, name, behind)?;
+    let is_served = is_served_group(alloc, name, following)?;
     let Ok(()) = write_known_group(alloc, lexemes, is_served, made) else {
         return Err(AddressFault::Memory);
     };

@@ -38,20 +38,20 @@ pub(crate) fn push_angled(address: &Address, made: &mut Octets) -> Result<(), Me
 fn write_named(
     alloc: Global,
     before: Lexemes<'_, '_>,
-    behind: Lexemes<'_, '_>,
+    following: Lexemes<'_, '_>,
     address: &Address,
     made: &mut Octets,
 ) -> Result<(), Memory>
     requires phrase { IsPhrase (values_of before) }
     requires before { CanBeWritten (values_of before) }
-    requires behind { CanBeWritten (values_of behind) }
-    ensures { OnOk result (AddsLines (NamedPieces (values_of before.entry) (values_of behind.entry) (address_text address.now)) made.old made.new) }
+    requires following { CanBeWritten (values_of following) }
+    ensures { OnOk result (AddsLines (NamedPieces (values_of before.entry) (values_of following.entry) (address_text address.now)) made.old made.new) }
 {
     let (core, trail) = split_core(before);
     push_core(alloc, core, made)?;
     push_angled(address, made)?;
     write_comments(alloc, trail, made)?;
-    write_comments(alloc, behind, made)
+    write_comments(alloc, following, made)
 }
 
 // Puts the pieces of a mailbox in angle brackets last.
@@ -68,11 +68,11 @@ fn write_angled(
     requires served { served_address mailbox.now.address ≡ Some address.now }
     ensures { OnOk result (AddsLines (MailboxPieces (values_of lexemes.entry)) made.old made.new) }
 {
-    let Some((before, behind)) = split_at_mark(lexemes, b'<') else {
+    let Some((before, following)) = split_at_mark(lexemes, b'<') else {
         unreachable!();
     };
     if mailbox.phrase {
-        return write_named(alloc, before, behind, address, made);
+        return write_named(alloc, before, following, address, made);
     }
     push_angled(address, made)?;
     write_comments(alloc, lexemes, made)

@@ -1,7 +1,7 @@
 -- Chains of blocks that belong to one owner: their ends, parts and what changes them.
 use Rattle.std.proofs.Common.{◌≡◌, ◌≢◌, ℕ, zero, suc, ◌+◌, ◌-◌, ◌<◌, ◌≤◌, List, ◌++◌, length, arith, refl, ap, subst, ◌∙◌, slice_index, set, Option}
 use Rattle.std.proofs.lemmas.List.{length-set, get_or-set_same, get_or-set_other}
-use Rattle.block_pool.specs.private.Chains.{IsChain, block_behind, block_at, along}
+use Rattle.block_pool.specs.private.Chains.{IsChain, block_after, block_at, along}
 
 module _ (owner : ℕ → Option ℕ) (rank : ℕ → ℕ) (whose : Option ℕ) where
   -- the first block of a chain
@@ -11,7 +11,7 @@ module _ (owner : ℕ → Option ℕ) (rank : ℕ → ℕ) (whose : Option ℕ) 
 
   -- the last block of a chain
   pub chain_last : (next : List ℕ) (block count : ℕ) → IsChain owner rank whose next block (suc count)
-      → (block_behind next block count < length next) × (owner (block_behind next block count) ≡ whose) × (rank (block_behind next block count) ≡ 0)
+      → (block_after next block count < length next) × (owner (block_after next block count) ≡ whose) × (rank (block_after next block count) ≡ 0)
   chain_last next block zero chain = (chain.0, chain.1, chain.2)
   chain_last next block (suc count) chain = chain_last next (slice_index next block) count chain.3
 
@@ -63,7 +63,7 @@ module _ (owner : ℕ → Option ℕ) (rank : ℕ → ℕ) (whose : Option ℕ) 
 
   -- the blocks behind them are a chain
   pub chain_rest : (next : List ℕ) (rest block count total : ℕ) → total ≡ count + rest → IsChain owner rank whose next block total
-      → IsChain owner rank whose next (block_behind next block count) rest
+      → IsChain owner rank whose next (block_after next block count) rest
   chain_rest next rest block zero total sum chain =
       let e : total ≡ rest = omega arith in
       subst (λ (n : ℕ). IsChain owner rank whose next block n) e chain
@@ -75,9 +75,9 @@ module _ (owner : ℕ → Option ℕ) (rank : ℕ → ℕ) (whose : Option ℕ) 
   pub chain_joined : (owner' : ℕ → Option ℕ) (rank' : ℕ → ℕ) (whose' : Option ℕ) (next : List ℕ) (last first rest : ℕ) → last < length next → rank last ≡ 0
       → ((at : ℕ) → owner at ≡ whose → (owner' at ≡ whose') × (rank' at ≡ rank at + rest))
       → IsChain owner' rank' whose' (set next last first) first rest
-      → (block count total : ℕ) → total ≡ count + rest → IsChain owner rank whose next block (suc count) → block_behind next block count ≡ last
+      → (block count total : ℕ) → total ≡ count + rest → IsChain owner rank whose next block (suc count) → block_after next block count ≡ last
       → IsChain owner' rank' whose' (set next last first) block (suc total)
-  chain_joined owner' rank' whose' next last first rest inside ends joined behind block zero total sum chain at =
+  chain_joined owner' rank' whose' next last first rest inside ends joined following block zero total sum chain at =
       let here = joined block chain.1 in
       let rank_is : rank block ≡ 0 = chain.2 in
       let new_rank : rank' block ≡ rank block + rest = here.1 in
@@ -88,10 +88,10 @@ module _ (owner : ℕ → Option ℕ) (rank : ℕ → ℕ) (whose : Option ℕ) 
         omega (arith, len),
         here.0,
         omega arith,
-        rw (goes, ← e) behind,
+        rw (goes, ← e) following,
       )
-  chain_joined owner' rank' whose' next last first rest inside ends joined behind block (suc count) zero sum chain at = absurd (omega arith)
-  chain_joined owner' rank' whose' next last first rest inside ends joined behind block (suc count) (suc total) sum chain at =
+  chain_joined owner' rank' whose' next last first rest inside ends joined following block (suc count) zero sum chain at = absurd (omega arith)
+  chain_joined owner' rank' whose' next last first rest inside ends joined following block (suc count) (suc total) sum chain at =
       let here = joined block chain.1 in
       let rank_is : rank block ≡ suc count = chain.2 in
       let new_rank : rank' block ≡ rank block + rest = here.1 in
@@ -103,7 +103,7 @@ module _ (owner : ℕ → Option ℕ) (rank : ℕ → ℕ) (whose : Option ℕ) 
         here.0,
         omega arith,
         rw goes (
-            chain_joined owner' rank' whose' next last first rest inside ends joined behind (slice_index next block) count total (omega arith) chain.3 at
+            chain_joined owner' rank' whose' next last first rest inside ends joined following (slice_index next block) count total (omega arith) chain.3 at
             ),
       )
 

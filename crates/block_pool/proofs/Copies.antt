@@ -5,7 +5,7 @@ use Rattle.std.proofs.lemmas.Bool.{cases_lt}
 use Rattle.std.proofs.lemmas.Slice.{take-put_mid}
 use Rattle.std.proofs.Math.Seq.{take-append-add}
 use borrow.Rule.Slice.PartMut.{put_mid}
-use Rattle.block_pool.specs.private.Chains.{StaysInside, block_behind, block_at, along}
+use Rattle.block_pool.specs.private.Chains.{StaysInside, block_after, block_at, along}
 use Rattle.block_pool.proofs.Blocks.{length-block_at}
 
 pub stays : (next : List ℕ) (block : ℕ) → StaysInside next block → StaysInside next (slice_index next block)
@@ -26,7 +26,7 @@ drop_past size n xs ys is = sym (drop-drop n size (xs ++ ys)) ∙ ap (drop n) (d
 
 -- what stands behind so many whole blocks and some octets more
 pub drop-along : (region next : List ℕ) (block steps count more : ℕ) → length region ≡ 4096 * length next → StaysInside next block
-    → drop (4096 * steps + more) (along region next block (steps + count)) ≡ drop more (along region next (block_behind next block steps) count)
+    → drop (4096 * steps + more) (along region next block (steps + count)) ≡ drop more (along region next (block_after next block steps) count)
 drop-along region next block zero count more whole inside =
     let a : 4096 * 0 + more ≡ more = omega arith in
     let b : 0 + count ≡ count = omega arith in

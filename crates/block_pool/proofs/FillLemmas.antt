@@ -4,7 +4,7 @@ use Rattle.std.proofs.lemmas.Bool.{cases_lt}
 use Rattle.std.proofs.lemmas.List.{nil_from_length, take-append-drop, drop_all, drop-drop, take_min}
 use Rattle.std.proofs.Math.Seq.{take-append-add}
 use Rattle.block_pool.specs.Pool.{needed_blocks}
-use Rattle.block_pool.specs.private.Chains.{StaysInside, IsChain, block_behind, block_at, written, along, filled}
+use Rattle.block_pool.specs.private.Chains.{StaysInside, IsChain, block_after, block_at, written, along, filled}
 use Rattle.block_pool.proofs.Blocks.{length-block_at, length-written, block_at-written, block_at-written_other}
 use Rattle.block_pool.proofs.Copies.{stays}
 
@@ -46,18 +46,18 @@ module _ (owner : ℕ → Option ℕ) (rank : ℕ → ℕ) (whose : Option ℕ) 
   pub block_at-filled : (region : List ℕ) (block : ℕ) (octets : List ℕ) (count : ℕ) → IsChain owner rank whose next block count → length region ≡ 4096 * length next
       → (other : ℕ) → (owner other ≡ whose → count ≤ rank other)
       → block_at (filled region next block octets count) other ≡ block_at region other
-  block_at-filled region block octets zero chain whole other apart = refl
-  block_at-filled region block octets (suc count) chain whole other apart =
+  block_at-filled region block octets zero chain whole other distinct = refl
+  block_at-filled region block octets (suc count) chain whole other distinct =
       let inside : block < length next = chain.0 in
       let rank_is : rank block ≡ count = chain.2 in
       let fits = piece_fits octets in
       let same : length (written region block (take 4096 octets)) ≡ length region = length-written region block (take 4096 octets) (omega arith) in
       let differ : other ≢ block =
-      λ e. let above : suc count ≤ rank other = apart (ap owner e ∙ chain.1) in
+      λ e. let above : suc count ≤ rank other = distinct (ap owner e ∙ chain.1) in
       let ranks : rank other ≡ rank block = ap rank e in
       omega arith in
       block_at-filled (written region block (take 4096 octets)) (slice_index next block) (drop 4096 octets) count chain.3 (same ∙ whole) other
-      (λ is. let above : suc count ≤ rank other = apart is in omega arith)
+      (λ is. let above : suc count ≤ rank other = distinct is in omega arith)
       ∙ block_at-written_other region block other (take 4096 octets) fits (omega arith) differ
 
   -- the octets stand along the chain
@@ -92,12 +92,12 @@ pub record IsFilling (old next : List ℕ) (first : ℕ) (octets region : List �
   pub inside : StaysInside next block
   pub filled_is : filled region next block (drop (4096 * place) octets) (needed_blocks (length octets) - place)
       ≡ filled old next first octets (needed_blocks (length octets))
-  pub behind_is : block_behind next block (needed_blocks (length octets) - place) ≡ block_behind next first (needed_blocks (length octets))
+  pub following_is : block_after next block (needed_blocks (length octets) - place) ≡ block_after next first (needed_blocks (length octets))
 
 pub filling_begins : (old next : List ℕ) (first : ℕ) (octets : List ℕ) → StaysInside next first → IsFilling old next first octets old first 0
 filling_begins old next first octets inside =
     let e : needed_blocks (length octets) - 0 ≡ needed_blocks (length octets) = omega arith in
-    record { inside = inside; filled_is = rw e refl; behind_is = rw e refl }
+    record { inside = inside; filled_is = rw e refl; following_is = rw e refl }
 
 pub filling_goes_on : (old next : List ℕ) (first : ℕ) (octets region : List ℕ) (block place : ℕ) (now piece : List ℕ) → IsFilling old next first octets region block place
     → place < needed_blocks (length octets) → now ≡ written region block piece → piece ≡ take 4096 (drop (4096 * place) octets)
@@ -111,16 +111,16 @@ filling_goes_on old next first octets region block place now piece was below now
           rw (now_is, piece_is, at, ← drop-drop 4096 (4096 * place) octets) (
           sym (ap (filled region next block (drop (4096 * place) octets)) more) ∙ was.filled_is
           );
-      behind_is = sym (ap (block_behind next block) more) ∙ was.behind_is;
+      following_is = sym (ap (block_after next block) more) ∙ was.following_is;
     }
 
 pub filling_ends : (old next : List ℕ) (first : ℕ) (octets region : List ℕ) (block place : ℕ) → IsFilling old next first octets region block place
     → needed_blocks (length octets) ≤ place
-    → (region ≡ filled old next first octets (needed_blocks (length octets))) × (block ≡ block_behind next first (needed_blocks (length octets)))
+    → (region ≡ filled old next first octets (needed_blocks (length octets))) × (block ≡ block_after next first (needed_blocks (length octets)))
 filling_ends old next first octets region block place was all =
     let none : needed_blocks (length octets) - place ≡ 0 = omega arith in (
       sym (ap (filled region next block (drop (4096 * place) octets)) none) ∙ was.filled_is,
-      sym (ap (block_behind next block) none) ∙ was.behind_is,
+      sym (ap (block_after next block) none) ∙ was.following_is,
     )
 
 -- at most a block of what is left of the octets

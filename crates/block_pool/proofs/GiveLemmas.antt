@@ -5,7 +5,7 @@ use Rattle.std.proofs.lemmas.Bool.{cases_eq}
 use Rattle.std.proofs.lemmas.Bool.Decides.{eqb_tells}
 use Rattle.std.proofs.lemmas.List.{length-set, length-take-le, get_or-set_same, get_or-set_other, set-get_or}
 use Rattle.block_pool.specs.Pool.{needed_blocks, Puts}
-use Rattle.block_pool.specs.private.Chains.{StaysInside, IsChain, block_behind, along}
+use Rattle.block_pool.specs.private.Chains.{StaysInside, IsChain, block_after, along}
 use Rattle.block_pool.specs.private.Kept.{IsPool, octets_at, held_from, held_by, len_at}
 use Rattle.block_pool.proofs.Sizes.{needed_blocks-some, needed_blocks-room}
 use Rattle.block_pool.proofs.Copies.{length-along}
@@ -51,10 +51,10 @@ length-octets_at region next id len whole inside =
 
 module _ (region next : List ℕ) (lens : List (Option ℕ)) (first free : ℕ) (pool : IsPool region next lens first free) (id len : ℕ) (is : len_at lens id ≡ Some len) where
   abbrev last : ℕ
-  last = block_behind next id (needed_blocks len - 1)
+  last = block_after next id (needed_blocks len - 1)
 
   abbrev after : List ℕ
-  after = set next (block_behind next id (needed_blocks len - 1)) first
+  after = set next (block_after next id (needed_blocks len - 1)) first
 
   abbrev owner' : ℕ → Option ℕ
   owner' at = freed (pool.owner at) id None (pool.owner at)

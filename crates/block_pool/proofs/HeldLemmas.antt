@@ -84,11 +84,11 @@ held_from-ids octets_of first low (Some len ∷ lens) above =
     All-cons (λ (one : Held). low ≤ one.id) _ _ above (held_from-ids octets_of (suc first) low lens (omega arith))
 
 -- no two things have one id
-pub held_from-apart : (octets_of : ℕ → ℕ → List ℕ) (first : ℕ) (lens : List (Option ℕ)) → AllPairs (λ (one other : Held). one.id ≢ other.id) (held_from octets_of first lens)
-held_from-apart octets_of first [] = λ i j d below within. absurd (omega arith)
-held_from-apart octets_of first (None ∷ lens) = held_from-apart octets_of (suc first) lens
-held_from-apart octets_of first (Some len ∷ lens) =
+pub held_from-distinct : (octets_of : ℕ → ℕ → List ℕ) (first : ℕ) (lens : List (Option ℕ)) → AllPairs (λ (one other : Held). one.id ≢ other.id) (held_from octets_of first lens)
+held_from-distinct octets_of first [] = λ i j d below within. absurd (omega arith)
+held_from-distinct octets_of first (None ∷ lens) = held_from-distinct octets_of (suc first) lens
+held_from-distinct octets_of first (Some len ∷ lens) =
     let above = held_from-ids octets_of (suc first) (suc first) lens (omega arith) in
     AllPairs-cons (λ (one other : Held). one.id ≢ other.id) _ _
     (All-weaker (λ (other : Held). suc first ≤ other.id) (λ (other : Held). first ≢ other.id) (λ other later same. omega arith) _ above)
-    (held_from-apart octets_of (suc first) lens)
+    (held_from-distinct octets_of (suc first) lens)

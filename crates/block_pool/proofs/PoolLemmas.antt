@@ -22,7 +22,7 @@ put_keeps old new id octets puts other held holds =
     rw puts.becomes (
     elim (Contains-append_cases puts.front puts.back _ (rw puts.was at holds)) [
       | inl before ↦ Contains-append_left puts.front _ _ before
-      | inr behind ↦ Contains-append_right puts.front _ _ (Contains_tail (record { id = id; octets = octets }) puts.back _ behind)
+      | inr following ↦ Contains-append_right puts.front _ _ (Contains_tail (record { id = id; octets = octets }) puts.back _ following)
     ]
     )
 
@@ -31,7 +31,7 @@ give_keeps old new id (octets, puts) other differ held holds =
     rw puts.was (
     elim (Contains-append_cases puts.front _ _ (rw puts.becomes at holds)) [
       | inl before ↦ Contains-append_left puts.front puts.back _ before
-      | inr behind ↦ elim (Contains_cases (record { id = id; octets = octets }) puts.back _ behind) [
+      | inr following ↦ elim (Contains_cases (record { id = id; octets = octets }) puts.back _ following) [
         | inl same ↦ absurd (differ (sym (ap (λ (one : Held). one.id) same)))
         | inr further ↦ Contains-append_right puts.front puts.back _ further
       ]

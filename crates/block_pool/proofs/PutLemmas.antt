@@ -6,7 +6,7 @@ use Rattle.std.proofs.lemmas.Bool.Decides.{leb_tells}
 use Rattle.std.proofs.lemmas.List.{length-set, get_or-set_same, get_or-set_other, set-get_or}
 use Rattle.std.proofs.lemmas.List.Sums.{sum_by-append, sum_by-cons}
 use Rattle.block_pool.specs.Pool.{Held, PoolState, needed_blocks, blocks_of, blocks_in_use, IsHeldUnder, Puts}
-use Rattle.block_pool.specs.private.Chains.{StaysInside, IsChain, block_behind, filled}
+use Rattle.block_pool.specs.private.Chains.{StaysInside, IsChain, block_after, filled}
 use Rattle.block_pool.specs.private.Kept.{IsPool, octets_at, held_from, held_by, len_at}
 use Rattle.block_pool.proofs.Sizes.{needed_blocks-some, needed_blocks-room}
 use Rattle.block_pool.proofs.Copies.{stays}
@@ -14,9 +14,9 @@ use Rattle.block_pool.proofs.ChainLemmas.{chain_first, chain_stays, along_stays,
 use Rattle.block_pool.proofs.FillLemmas.{length-filled, block_at-filled, along_filled}
 use Rattle.block_pool.proofs.HeldLemmas.{found, held_from-set, held_from-same}
 
-pub stays_behind : (next : List ℕ) (block steps : ℕ) → StaysInside next block → StaysInside next (block_behind next block steps)
-stays_behind next block zero inside = inside
-stays_behind next block (suc steps) inside = stays_behind next (slice_index next block) steps (stays next block inside)
+pub stays_after : (next : List ℕ) (block steps : ℕ) → StaysInside next block → StaysInside next (block_after next block steps)
+stays_after next block zero inside = inside
+stays_after next block (suc steps) inside = stays_after next (slice_index next block) steps (stays next block inside)
 
 -- a thing more takes its blocks
 pub puts_blocks : (old new : PoolState) (id : ℕ) (octets : List ℕ) → Puts old new id octets → blocks_in_use new.held ≡ blocks_in_use old.held + needed_blocks (length octets)
@@ -90,9 +90,9 @@ module _ (region next : List ℕ) (lens : List (Option ℕ)) (first free : ℕ) 
       (omega arith) pool.free_chain
       (λ at is above. (taken-yes (pool.owner at) _ (pool.rank at) _ _ is above, taken-yes (pool.owner at) _ (pool.rank at) _ _ is above))
 
-  left : needed_blocks (length octets) ≤ free → IsChain owner' rank' None next (block_behind next first (needed_blocks (length octets))) (free - needed_blocks (length octets))
+  left : needed_blocks (length octets) ≤ free → IsChain owner' rank' None next (block_after next first (needed_blocks (length octets))) (free - needed_blocks (length octets))
   left room =
-      chain_stays pool.owner pool.rank None owner' rank' None next next refl (block_behind next first (needed_blocks (length octets))) (free - needed_blocks (length octets))
+      chain_stays pool.owner pool.rank None owner' rank' None next next refl (block_after next first (needed_blocks (length octets))) (free - needed_blocks (length octets))
       (chain_rest pool.owner pool.rank None next (free - needed_blocks (length octets)) first (needed_blocks (length octets)) free (omega arith) pool.free_chain)
       (λ at is below. (taken-low (pool.owner at) _ (pool.rank at) _ _ below ∙ is, taken-low (pool.owner at) _ (pool.rank at) _ _ below, refl))
 
@@ -148,7 +148,7 @@ module _ (region next : List ℕ) (lens : List (Option ℕ)) (first free : ℕ) 
 
   pub pool_after_put : needed_blocks (length octets) ≤ free
       → IsPool (filled region next first octets (needed_blocks (length octets))) next (set lens first (Some (length octets)))
-      (block_behind next first (needed_blocks (length octets))) (free - needed_blocks (length octets))
+      (block_after next first (needed_blocks (length octets))) (free - needed_blocks (length octets))
   pool_after_put room =
       let inside : first < length lens = omega (arith, pool.links, (begins room).0) in
       let len_is = length-set lens first (Some (length octets)) in
@@ -158,7 +158,7 @@ module _ (region next : List ℕ) (lens : List (Option ℕ)) (first free : ℕ) 
         few = omega (arith, pool.few);
         links = omega (arith, pool.links);
         octets = omega (arith, pool.octets);
-        inside = stays_behind next first (needed_blocks (length octets)) pool.inside;
+        inside = stays_after next first (needed_blocks (length octets)) pool.inside;
         owner = owner';
         rank = rank';
         things = λ id len is. elim (cases_eq id first) [
@@ -175,19 +175,19 @@ module _ (region next : List ℕ) (lens : List (Option ℕ)) (first free : ℕ) 
       }
 
 -- what a call of `put` that answers an id did
-pub record HasPut (state : PoolState) (region next : List ℕ) (lens : List (Option ℕ)) (first behind free : ℕ) (octets : List ℕ) : Type 0 where
-  pub sound : IsPool region next (set lens first (Some (length octets))) behind free
+pub record HasPut (state : PoolState) (region next : List ℕ) (lens : List (Option ℕ)) (first following free : ℕ) (octets : List ℕ) : Type 0 where
+  pub sound : IsPool region next (set lens first (Some (length octets))) following free
   pub puts : Puts state (seen region next (set lens first (Some (length octets)))) first octets
   pub fresh : ¬ IsHeldUnder state first
 
 pub put_done : (region next : List ℕ) (lens : List (Option ℕ)) (first free : ℕ) → IsPool region next lens first free
     → (state : PoolState) → seen region next lens ≡ state → (octets : List ℕ) (count : ℕ) → count ≡ needed_blocks (length octets) → count ≤ free
     → (now : List ℕ) → now ≡ filled region next first octets (needed_blocks (length octets))
-    → (behind : ℕ) → behind ≡ block_behind next first (needed_blocks (length octets))
-    → HasPut state now next lens first behind (free - count) octets
-put_done region next lens first free pool state is octets count count_is room now now_is behind behind_is =
+    → (following : ℕ) → following ≡ block_after next first (needed_blocks (length octets))
+    → HasPut state now next lens first following (free - count) octets
+put_done region next lens first free pool state is octets count count_is room now now_is following following_is =
     let fits : needed_blocks (length octets) ≤ free = omega arith in
-    rw (← is, now_is, behind_is, count_is) (record {
+    rw (← is, now_is, following_is, count_is) (record {
       sound = pool_after_put region next lens first free pool octets fits;
       puts = put_tells region next lens first free pool octets fits;
       fresh = put_fresh region next lens first free pool octets fits;

@@ -49,5 +49,5 @@ TakesBack old new id = (octets : List ℕ) × Puts new old id octets
 
 -- no two things have one id, and no more blocks are in use than there are
 pub record IsAccounted (state : PoolState) : Type 0 where
-  pub apart : AllPairs (λ one other. one.id ≢ other.id) state.held
+  pub distinct : AllPairs (λ one other. one.id ≢ other.id) state.held
   pub within : blocks_in_use state.held ≤ state.blocks

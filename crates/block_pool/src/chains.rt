@@ -1,7 +1,7 @@
 //! Chains of blocks in one region: each block has the number of the one behind it.
 ghost use Rattle.std.specs.Prelude.{◌≡◌, ℕ, ◌+◌, ◌*◌, ◌<◌, ◌≤◌, length, take, drop, IfOk};
 ghost use Rattle.block_pool.specs.Pool.{needed_blocks};
-ghost use Rattle.block_pool.specs.private.Chains.{StaysInside, GoesInOrder, block_behind, along, written, filled};
+ghost use Rattle.block_pool.specs.private.Chains.{StaysInside, GoesInOrder, block_after, along, written, filled};
 
 use mail_wire::Memory;
 use std::alloc::Global;
@@ -32,9 +32,9 @@ pub(crate) fn in_order(alloc: Global, blocks: u32) -> Result<Vec<u32>, Memory>
 }
 
 // The block so many steps behind a block.
-pub(crate) fn behind(next: &[u32], first: u32, steps: usize) -> u32
+pub(crate) fn following(next: &[u32], first: u32, steps: usize) -> u32
     requires { StaysInside next.now first }
-    ensures value { result ≡ block_behind next.now first steps }
+    ensures value { result ≡ block_after next.now first steps }
     ensures inside { result < length next.now }
 {
     let mut block = first;
@@ -59,7 +59,7 @@ pub(crate) fn fill(region: &mut [u8], next: &[u32], first: u32, octets: &[u8]) -
     requires inside { StaysInside next.now first }
     requires region { length region.old ≡ 4096 * length next.now }
     ensures filled { region.new ≡ filled region.old next.now first octets.now (needed_blocks (length octets.now)) }
-    ensures behind { result ≡ block_behind next.now first (needed_blocks (length octets.now)) }
+    ensures following { result ≡ block_after next.now first (needed_blocks (length octets.now)) }
 {
     let mut block = first;
     for place in 0..needed(octets.len()) {

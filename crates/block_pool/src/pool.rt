@@ -2,7 +2,7 @@
 ghost use Rattle.std.specs.Prelude.{◌≡◌, ℕ, ◌-◌, ◌<◌, ◌≤◌, ◌↔◌, min, List, [], ◌++◌, length, take, drop, IfOk, IfSome, IfNone, IsNone};
 ghost use Rattle.block_pool.specs.Pool.{PoolState, needed_blocks, free_blocks, HoldsUnder, IsHeldUnder, Puts, TakesBack, IsAccounted};
 
-use crate::chains::{BLOCK, behind, copy_out, fill, in_order, needed};
+use crate::chains::{BLOCK, copy_out, fill, following, in_order, needed};
 use mail_wire::Memory;
 use std::alloc::Global;
 use std::marker::Model;
@@ -98,7 +98,7 @@ impl Pool {
             return 0;
         }
         let count = into.len().min(len - at);
-        let first = behind(&self.next, id, at / BLOCK);
+        let first = following(&self.next, id, at / BLOCK);
         copy_out(
             &self.region,
             &self.next,
@@ -115,7 +115,7 @@ impl Pool {
         ensures { TakesBack self.old self.new id }
     {
         let blocks = needed(self.len(id));
-        let last = behind(&self.next, id, blocks - 1);
+        let last = following(&self.next, id, blocks - 1);
         self.next[last as usize] = self.first_free;
         self.first_free = id;
         self.free += blocks as u32;

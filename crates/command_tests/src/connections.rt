@@ -34,7 +34,7 @@ pub fn connect(
     keeper: &mut MemKeeper,
 ) -> Result<(Result<Served, OpenFault>, Octets, Option<Desk>), Fail>
     requires { IfSome kept (WorksWithin LIMITS) }
-    ensures { IfOk result (λ came. IfSome came.2 (WorksWithin LIMITS)) }
+    ensures { IfOk result (λ advance. IfSome advance.2 (WorksWithin LIMITS)) }
 {
     let mut wire = wire_of(alloc, input, &[], None)?;
     let mut clock = FixedClock::new(0);

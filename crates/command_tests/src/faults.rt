@@ -59,7 +59,7 @@ const FIELD: usize = 39;
 
 // The call that fails where so many octets are given. The input is taken by one call, and its end is seen by another one; the field that
 // is made anew is given by the next, and what is kept behind it by the last.
-fn failure_behind(kept: usize) -> Failure {
+fn failure_after(kept: usize) -> Failure {
     if kept < FIELD {
         return Failure { call: 2, kept };
     }
@@ -78,7 +78,7 @@ fn a_surrogate_is_given_as_far_as_the_wire_goes(rt: HostRuntime) -> Result<(), F
         journal: b"",
     };
     for kept in 0..CAFE_SURROGATE.len() {
-        let cut = run_command(rt.alloc(), &command, Failing::Wire(failure_behind(kept)))?;
+        let cut = run_command(rt.alloc(), &command, Failing::Wire(failure_after(kept)))?;
         assert_eq!(rt; cut.status, 1, "at {kept}");
         assert!(rt;
             cut.given.as_slice() == first(CAFE_SURROGATE, kept),

@@ -56,7 +56,7 @@ fn was_asked_once(dial: &MemDial, host: &str) -> bool {
 }
 
 // Whether a relay ended so, and left this journal.
-fn came_to(relayed: &Outcome, status: u8, line: &[u8], journal: &[u8]) -> bool {
+fn ended_as(relayed: &Outcome, status: u8, line: &[u8], journal: &[u8]) -> bool {
     relayed.status == status
         && relayed.given.as_slice() == line
         && relayed.journal.as_slice() == journal
@@ -67,7 +67,7 @@ fn where_nobody_waits_nobody_is_dialled(rt: HostRuntime) -> Result<(), Fail> {
     let alloc = rt.alloc();
     let mut dial = dial_of(alloc, SERVER, &[0])?;
     let none = relayed(alloc, "x", JOURNAL, Failing::Nothing, &mut dial)?;
-    assert!(rt; came_to(&none, 0, NONE_SENT, JOURNAL));
+    assert!(rt; ended_as(&none, 0, NONE_SENT, JOURNAL));
     assert!(rt; is_untouched(&dial));
     Ok(())
 }
@@ -79,7 +79,7 @@ fn a_server_that_is_not_reached_leaves_all(rt: HostRuntime) -> Result<(), Fail> 
     let mut dial = dial_of(alloc, SERVER, &[0])?;
     let host = "mail.example.net:2525";
     let left = relayed(alloc, host, journal.as_slice(), Failing::Nothing, &mut dial)?;
-    assert!(rt; came_to(&left, 8, ONE_LEFT, journal.as_slice()));
+    assert!(rt; ended_as(&left, 8, ONE_LEFT, journal.as_slice()));
     assert!(rt; was_asked_once(&dial, host));
     assert!(rt; dial.entries().is_empty());
     Ok(())
@@ -92,13 +92,13 @@ fn a_message_is_sent_once(rt: HostRuntime) -> Result<(), Fail> {
     let settled = joined(alloc, &[BEGUN, WAITING, SETTLED])?;
     let mut dial = dial_of(alloc, SERVER, &[])?;
     let one = relayed(alloc, "x", journal.as_slice(), Failing::Nothing, &mut dial)?;
-    assert!(rt; came_to(&one, 0, ONE_SENT, settled.as_slice()));
+    assert!(rt; ended_as(&one, 0, ONE_SENT, settled.as_slice()));
     assert!(rt; was_asked_once(&dial, "x"));
     assert!(rt; given(alloc, dial.entries())?.as_slice() == SENT);
     // The queue of this journal is empty.
     let mut other = dial_of(alloc, SERVER, &[0])?;
     let none = relayed(alloc, "x", settled.as_slice(), Failing::Nothing, &mut other)?;
-    assert!(rt; came_to(&none, 0, NONE_SENT, settled.as_slice()));
+    assert!(rt; ended_as(&none, 0, NONE_SENT, settled.as_slice()));
     assert!(rt; is_untouched(&other));
     Ok(())
 }

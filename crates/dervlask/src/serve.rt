@@ -66,7 +66,7 @@ where
     };
     let mut clock = SystemClock::new(rt);
     let (served, kept) = match serve_next(rt.alloc(), role, kept, &mut wire, keeper, &mut clock) {
-        Ok(came) => came,
+        Ok(advance) => advance,
         // Opened anew, a desk may do with less, and what was read of the journal is read once more.
         Err(_) => serve_next(rt.alloc(), role, None, &mut wire, keeper, &mut clock)?,
     };

@@ -6,10 +6,10 @@ use Rattle.std.proofs.lemmas.List.{append_assoc, append-nil}
 use Rattle.std.specs.List.{AllByRecursion, list_all, flat_map, concat, join_with_byte}
 use Rattle.std.specs.Str.{IsUtf8}
 use Rattle.std.specs.Char.{to_ascii_uppercase}
-use Rattle.mail_wire.specs.Octets.{is_ascii, is_black, is_white, is_line_end, is_field_name_octet}
+use Rattle.mail_wire.specs.Octets.{is_ascii, is_nonwhite, is_white, is_line_end, is_field_name_octet}
 use Rattle.mail_wire.specs.Lines.{crlf}
 use Rattle.mail_wire.specs.Folds.{unfolded}
-use Rattle.mail_wire.specs.Spans.{Stops, StopsBehind, IsTrimmed}
+use Rattle.mail_wire.specs.Spans.{Stops, StopsAfter, IsTrimmed}
 use Rattle.mail_wire.proofs.Unfolded.{unfolded-fold, unfolded-other, unfolded-nil}
 use Rattle.mail_wire.proofs.AllLemmas.{pass-weaker, pass-append}
 use Rattle.mail_wire.proofs.OctetLemmas.{no_fold}
@@ -20,7 +20,7 @@ use Rattle.encoded_words.specs.Folding.{Piece, made_body, word_pieces, AddsWordL
 use Rattle.encoded_words.specs.Written.{WriteAll}
 use Rattle.encoded_words.proofs.BWords.{b_word-says, chunk_utf8}
 use Rattle.encoded_words.proofs.Chunks.{AreBWords-once}
-use Rattle.encoded_words.proofs.EncodedOctets.{encoded_all, encoded_ascii, encoded_black, encoded_some}
+use Rattle.encoded_words.proofs.EncodedOctets.{encoded_all, encoded_ascii, encoded_nonwhite, encoded_some}
 use Rattle.encoded_words.proofs.WrittenUnits.{HasUnits-written}
 use Rattle.encapsulated_fields.specs.Encapsulated.{IsFieldName, downgraded_name, field_of, Encapsulates, FieldSays}
 
@@ -31,7 +31,7 @@ in_line x = not (is_line_end x)
 -- what is known of the octets of an encoded word
 record IsWord (w : List ℕ) : Type 0 where
   some : 0 < length w
-  black : list_all is_black w ≡ true
+  nonwhite : list_all is_nonwhite w ≡ true
   line : list_all in_line w ≡ true
   ascii : list_all is_ascii w ≡ true
 
@@ -48,7 +48,7 @@ line_letter x (inr h) = grind (arith, nat_tests)
 IsWord-encoded : (w : List ℕ) (u : UnitValue) → IsEncodedWord w u → IsWord w
 IsWord-encoded w u is = record {
   some = encoded_some w u is;
-  black = encoded_black w u is;
+  nonwhite = encoded_nonwhite w u is;
   line = encoded_all in_line (record { name = line_charset; text = line_text; letter = line_letter; marks = refl }) w u is;
   ascii = encoded_ascii w u is;
 }
@@ -69,8 +69,8 @@ b_words_are_words text words u are =
 abbrev line_of : Piece → List ℕ
 line_of p = crlf ++ p.white ∷ p.octets
 
-abbrev behind_space : List ℕ → Piece
-behind_space w = record { white = 32; octets = w }
+abbrev after_space : List ℕ → Piece
+after_space w = record { white = 32; octets = w }
 
 abbrev spaced : List (List ℕ) → List ℕ
 spaced words = flat_map (λ w. 32 ∷ w) words
@@ -84,12 +84,12 @@ unfolded-in_line (x ∷ xs) rest h =
 unfolded-line : (w rest : List ℕ) → list_all in_line w ≡ true → unfolded (13 ∷ 10 ∷ 32 ∷ (w ++ rest)) ≡ 32 ∷ (w ++ unfolded rest)
 unfolded-line w rest h = unfolded-fold (13 ∷ 10 ∷ 32 ∷ (w ++ rest)) refl ∙ unfolded-in_line (32 ∷ w) rest h
 
-unfolded-lines : (words : List (List ℕ)) → AllByRecursion IsWord words → unfolded (flat_map line_of (map behind_space words)) ≡ spaced words
+unfolded-lines : (words : List (List ℕ)) → AllByRecursion IsWord words → unfolded (flat_map line_of (map after_space words)) ≡ spaced words
 unfolded-lines [] are = unfolded-nil
 unfolded-lines (w ∷ ws) are =
-    unfolded-line w (flat_map line_of (map behind_space ws)) are.0.line ∙ ap (λ zs. 32 ∷ (w ++ zs)) (unfolded-lines ws are.1)
+    unfolded-line w (flat_map line_of (map after_space ws)) are.0.line ∙ ap (λ zs. 32 ∷ (w ++ zs)) (unfolded-lines ws are.1)
 
-body_is : (words : List (List ℕ)) → made_body (word_pieces 32 words) ≡ flat_map line_of (map behind_space words)
+body_is : (words : List (List ℕ)) → made_body (word_pieces 32 words) ≡ flat_map line_of (map after_space words)
 body_is [] = refl
 body_is (w ∷ ws) = refl
 
@@ -100,18 +100,18 @@ spaced_is w (v ∷ ws) = ap (λ zs. 32 ∷ (w ++ zs)) (spaced_is v ws)
 -- Words with a space between two have no white at their ends.
 Stops-word : (w rest : List ℕ) → IsWord w → Stops is_white (w ++ rest)
 Stops-word [] rest is = let some = is.some in absurd (omega arith)
-Stops-word (x ∷ xs) rest is = not-true (is_white x) (and_parts (is_black x) (list_all is_black xs) is.black).0
+Stops-word (x ∷ xs) rest is = not-true (is_white x) (and_parts (is_nonwhite x) (list_all is_nonwhite xs) is.nonwhite).0
 
-StopsBehind-black : (xs : List ℕ) → list_all is_black xs ≡ true → StopsBehind is_white xs
-StopsBehind-black [] h = tt
-StopsBehind-black (x ∷ []) h = not-true (is_white x) (and_parts (is_black x) true h).0
-StopsBehind-black (x ∷ y ∷ xs) h = StopsBehind-black (y ∷ xs) (and_parts (is_black x) (list_all is_black (y ∷ xs)) h).1
+StopsAfter-nonwhite : (xs : List ℕ) → list_all is_nonwhite xs ≡ true → StopsAfter is_white xs
+StopsAfter-nonwhite [] h = tt
+StopsAfter-nonwhite (x ∷ []) h = not-true (is_white x) (and_parts (is_nonwhite x) true h).0
+StopsAfter-nonwhite (x ∷ y ∷ xs) h = StopsAfter-nonwhite (y ∷ xs) (and_parts (is_nonwhite x) (list_all is_nonwhite (y ∷ xs)) h).1
 
-StopsBehind-append : (p : ℕ → Bool) (xs ys : List ℕ) → 0 < length ys → StopsBehind p ys → StopsBehind p (xs ++ ys)
-StopsBehind-append p [] ys some h = h
-StopsBehind-append p (x ∷ []) [] some h = absurd (omega arith)
-StopsBehind-append p (x ∷ []) (y ∷ ys) some h = h
-StopsBehind-append p (x ∷ z ∷ xs) ys some h = StopsBehind-append p (z ∷ xs) ys some h
+StopsAfter-append : (p : ℕ → Bool) (xs ys : List ℕ) → 0 < length ys → StopsAfter p ys → StopsAfter p (xs ++ ys)
+StopsAfter-append p [] ys some h = h
+StopsAfter-append p (x ∷ []) [] some h = absurd (omega arith)
+StopsAfter-append p (x ∷ []) (y ∷ ys) some h = h
+StopsAfter-append p (x ∷ z ∷ xs) ys some h = StopsAfter-append p (z ∷ xs) ys some h
 
 join_some : (w : List ℕ) (ws : List (List ℕ)) → IsWord w → 0 < length (join_with_byte 32 (w ∷ ws))
 join_some [] ws is = let some = is.some in absurd (omega arith)
@@ -122,12 +122,12 @@ Stops-joined : (w : List ℕ) (ws : List (List ℕ)) → IsWord w → Stops is_w
 Stops-joined w [] is = rw append-nil at (Stops-word w [] is)
 Stops-joined w (v ∷ ws) is = Stops-word w (32 ∷ join_with_byte 32 (v ∷ ws)) is
 
-StopsBehind-joined : (w : List ℕ) (ws : List (List ℕ)) → IsWord w → AllByRecursion IsWord ws → StopsBehind is_white (join_with_byte 32 (w ∷ ws))
-StopsBehind-joined w [] is are = StopsBehind-black w is.black
-StopsBehind-joined w (v ∷ ws) is are =
+StopsAfter-joined : (w : List ℕ) (ws : List (List ℕ)) → IsWord w → AllByRecursion IsWord ws → StopsAfter is_white (join_with_byte 32 (w ∷ ws))
+StopsAfter-joined w [] is are = StopsAfter-nonwhite w is.nonwhite
+StopsAfter-joined w (v ∷ ws) is are =
     let rest : List ℕ = join_with_byte 32 (v ∷ ws) in
-    StopsBehind-append is_white w (32 ∷ rest) (omega arith)
-    (StopsBehind-append is_white (32 ∷ []) rest (join_some v ws are.0) (StopsBehind-joined v ws are.0 are.1))
+    StopsAfter-append is_white w (32 ∷ rest) (omega arith)
+    (StopsAfter-append is_white (32 ∷ []) rest (join_some v ws are.0) (StopsAfter-joined v ws are.0 are.1))
 
 IsTrimmed-body : (w : List ℕ) (ws : List (List ℕ)) → IsWord w → AllByRecursion IsWord ws
     → IsTrimmed is_white (unfolded (made_body (word_pieces 32 (w ∷ ws)))) (join_with_byte 32 (w ∷ ws))
@@ -137,7 +137,7 @@ IsTrimmed-body w ws is are = record {
   lead_passes = refl;
   trail_passes = refl;
   begins = Stops-joined w ws is;
-  ends = StopsBehind-joined w ws is are;
+  ends = StopsAfter-joined w ws is are;
   whole = ap unfolded (body_is (w ∷ ws)) ∙ unfolded-lines (w ∷ ws) (is, are) ∙ spaced_is w ws ∙ ap (λ zs. 32 ∷ zs) (sym (append-nil (join_with_byte 32 (w ∷ ws))));
 }
 
@@ -182,9 +182,9 @@ FieldSays-encapsulated name value field u some is =
 ascii_name : (x : ℕ) → is_field_name_octet x ≡ true → is_ascii x ≡ true
 ascii_name x h = grind (arith, nat_tests)
 
-ascii_lines : (words : List (List ℕ)) → AllByRecursion IsWord words → list_all is_ascii (flat_map line_of (map behind_space words)) ≡ true
+ascii_lines : (words : List (List ℕ)) → AllByRecursion IsWord words → list_all is_ascii (flat_map line_of (map after_space words)) ≡ true
 ascii_lines [] are = refl
-ascii_lines (w ∷ ws) are = pass-append is_ascii w (flat_map line_of (map behind_space ws)) are.0.ascii (ascii_lines ws are.1)
+ascii_lines (w ∷ ws) are = pass-append is_ascii w (flat_map line_of (map after_space ws)) are.0.ascii (ascii_lines ws are.1)
 
 pub ascii-encapsulated : (name value field : List ℕ) → IsFieldName name → IsUtf8 value → Encapsulates name value field → list_all is_ascii field ≡ true
 ascii-encapsulated name value field is_name u is =

@@ -2,6 +2,7 @@
 -- utf-8-addr-unitext.
 use Rattle.std.specs.Prelude.{ℕ, ◌+◌, ◌/◌, ◌%◌, ◌==◌, nat_lt, Bool, ◌&&◌, ◌||◌, not, if◌then◌else◌, List, [], ◌∷◌, ◌++◌, codes, chars, encode_utf8}
 use Rattle.std.specs.List.{flat_map}
+use Rattle.mail_wire.specs.Characters.{plus, equals_sign, backslash, right_brace}
 
 -- an upper-case hexadecimal digit
 abbrev pub upper_digit : ℕ → ℕ
@@ -22,11 +23,11 @@ hexadecimal number = leading_digit 0x10_0000 number ++ leading_digit 0x1_0000 nu
 
 -- a character by its number: `\x{..}` (RFC 6533, 3, EmbeddedUnicodeChar)
 abbrev pub escape_of : ℕ → List ℕ
-escape_of character = codes "\\x{" ++ (hexadecimal character ++ 125 ∷ [])
+escape_of character = codes "\\x{" ++ (hexadecimal character ++ right_brace ∷ [])
 
 -- a character that stands for itself in both forms: a visible ASCII one but `+`, `=` and the backslash (RFC 6533, 3, QCHAR)
 abbrev pub is_plain : ℕ → Bool
-is_plain c = (nat_lt 32 c && nat_lt c 127) && not (c == 43 || c == 61 || c == 92)
+is_plain c = (nat_lt 32 c && nat_lt c 127) && not (c == plus || c == equals_sign || c == backslash)
 
 -- A character as utf-8-addr-xtext: as it is where it is plain, and else escaped (RFC 6533, 3).
 abbrev pub xtext_char : ℕ → List ℕ

@@ -1,6 +1,7 @@
 -- Fields that keep the value of another field under a `Downgraded-` name (RFC 6857, 3.1).
 use Rattle.std.specs.Prelude.{◌≡◌, ℕ, ◌<◌, true, List, ◌∷◌, ◌++◌, length, codes}
 use Rattle.std.specs.List.{list_all}
+use Rattle.mail_wire.specs.Characters.{space, colon}
 use Rattle.mail_wire.specs.Octets.{is_white, is_field_name_octet}
 use Rattle.mail_wire.specs.Lines.{crlf}
 use Rattle.mail_wire.specs.Folds.{unfolded}
@@ -20,13 +21,13 @@ downgraded_name name = codes "Downgraded-" ++ name
 
 -- a field of this name with this body: the name, a colon, the body, CRLF
 abbrev pub field_of : List ℕ → List ℕ → List ℕ
-field_of name body = name ++ 58 ∷ (body ++ crlf)
+field_of name body = name ++ colon ∷ (body ++ crlf)
 
 -- the field keeps the value of a field of this name as B words, each on a line of its own behind a space
 pub record Encapsulates (name value field : List ℕ) : Type 0 where
   pub words : List (List ℕ)
   pub are_words : AreBWords value words
-  pub spelled : field ≡ field_of (downgraded_name name) (made_body (word_pieces 32 words))
+  pub spelled : field ≡ field_of (downgraded_name name) (made_body (word_pieces space words))
 
 -- a field of this name says these units: they are those of its body, unfolded and without white at its ends
 pub record FieldSays (name field : List ℕ) (units : List UnitValue) : Type 0 where

@@ -3,6 +3,7 @@
 use Rattle.std.specs.Prelude.{◌≡◌, ◌≢◌, ℕ, ◌+◌, ◌*◌, ◌≤◌, nat_lt, Bool, true, List, [], ◌∷◌, ◌++◌, length, map, codes, encode_utf8, encode_utf8_all}
 use Rattle.std.specs.List.{AllByRecursion, flat_map, list_all}
 use Rattle.std.specs.Char.{IsScalar, digit_value}
+use Rattle.mail_wire.specs.Characters.{backslash, right_brace}
 
 -- a hexadecimal digit, in either case
 abbrev pub is_hex_digit : ℕ → Bool
@@ -31,13 +32,13 @@ pub data XtextItem : Type 0 where
 
 -- A character other than the backslash, or an escape whose digits may stand in one (RFC 6533, 3).
 abbrev pub IsXtextItem : XtextItem → Type 0
-IsXtextItem (Plain character) = IsScalar character × (character ≢ 92)
+IsXtextItem (Plain character) = IsScalar character × (character ≢ backslash)
 IsXtextItem (Escape digits) = AreDigits digits
 
 -- The octets of a character: it in UTF-8, or its digits between `\x{` and `}` (RFC 6533, 3).
 abbrev pub item_spelling : XtextItem → List ℕ
 item_spelling (Plain character) = encode_utf8 character
-item_spelling (Escape digits) = codes "\\x{" ++ (digits ++ 125 ∷ [])
+item_spelling (Escape digits) = codes "\\x{" ++ (digits ++ right_brace ∷ [])
 
 -- The character that is meant: it, or the one whose number the digits write.
 abbrev pub item_character : XtextItem → ℕ
@@ -62,5 +63,5 @@ pub record BeginsCharacter (text : List ℕ) (character : ℕ) (rest : List ℕ)
 pub record BeginsEscape (text : List ℕ) (character : ℕ) (rest : List ℕ) : Type 0 where
   pub digits : List ℕ
   pub are_digits : AreDigits digits
-  pub spelled : text ≡ codes "x{" ++ (digits ++ 125 ∷ rest)
+  pub spelled : text ≡ codes "x{" ++ (digits ++ right_brace ∷ rest)
   pub character_is : character ≡ hex_value digits

@@ -65,7 +65,7 @@ fn named(digits: &[u8]) -> Option<char>
 }
 
 // What follows `x{`.
-fn behind_mark(text: &[u8]) -> Option<&[u8]>
+fn after_mark(text: &[u8]) -> Option<&[u8]>
     ensures found { IfSome result (λ rest. text.now ≡ 120 ∷ 123 ∷ rest.now) }
     ensures none { IfNone result ((rest : List ℕ) → text.now ≢ 120 ∷ 123 ∷ rest) }
 {
@@ -76,7 +76,7 @@ fn behind_mark(text: &[u8]) -> Option<&[u8]>
 }
 
 // What follows `}`.
-fn behind_brace(text: &[u8]) -> Option<&[u8]>
+fn after_brace(text: &[u8]) -> Option<&[u8]>
     ensures found { IfSome result (λ rest. text.now ≡ 125 ∷ rest.now) }
     ensures none { IfNone result ((rest : List ℕ) → text.now ≢ 125 ∷ rest) }
 {
@@ -91,11 +91,11 @@ fn first_escape(text: &[u8]) -> Option<(char, &[u8])>
     ensures found { IfSome result (λ x. BeginsEscape text.now x.0 x.1.now) }
     ensures none { IfNone result ((character : ℕ) (rest : List ℕ) → ¬ BeginsEscape text.now character rest) }
 {
-    let Some(after) = behind_mark(text) else {
+    let Some(after) = after_mark(text) else {
         return None;
     };
     let (digits, closing) = split_digits(after);
-    let Some(rest) = behind_brace(closing) else {
+    let Some(rest) = after_brace(closing) else {
         return None;
     };
     match named(digits) {

@@ -2,7 +2,7 @@
 use Rattle.std.proofs.Common.{◌≡◌, ◌==◌, ℕ, true, not, List, [], ◌∷◌, ◌++◌, map, Option, refl, sym, ap, ◌∙◌, arith, inl, inr}
 use Rattle.std.proofs.lemmas.Bool.{and_from, cases_Bool, eqb-true, eq-eqb, true≢false}
 use Rattle.std.specs.List.{list_all, list_any, flat_map}
-use Rattle.mail_wire.specs.Octets.{is_white, is_black}
+use Rattle.mail_wire.specs.Octets.{is_white, is_nonwhite}
 use Rattle.encoded_words.specs.Words.{UnitValue, Text, SaysWhere}
 use Rattle.encoded_words.specs.Units.{Place, Divides, ArePlaces, HasUnits, place_octets, raw_units, merged}
 use Rattle.encoded_words.specs.CommentUnits.{TextItem, Plain, Pair, AreTextItems, item_spelling, item_octet, has_backslash, is_white_item, CommentWord, word_items, ItemsDivide, AreCommentWords, comment_places, HasCommentUnits}
@@ -29,26 +29,26 @@ white_more x text is d = record {
 abbrev with_octet : ℕ → Place → Place
 with_octet x p = record { word = x ∷ p.word; says = (decide_says (x ∷ p.word)).0; run = p.run }
 
-black_more : (x : ℕ) (text lead : List ℕ) (ps : List Place) → is_black x ≡ true → list_all is_white lead ≡ true → ArePlaces ps → text ≡ lead ++ flat_map place_octets ps → Divided (x ∷ text)
-black_more x text [] [] is white are whole = record {
+nonwhite_more : (x : ℕ) (text lead : List ℕ) (ps : List Place) → is_nonwhite x ≡ true → list_all is_white lead ≡ true → ArePlaces ps → text ≡ lead ++ flat_map place_octets ps → Divided (x ∷ text)
+nonwhite_more x text [] [] is white are whole = record {
   lead = [];
   places = record { word = x ∷ []; says = (decide_says (x ∷ [])).0; run = [] } ∷ [];
   white = refl;
-  are = (record { is_word = omega arith; black = rw is refl; white = refl; says = (decide_says (x ∷ [])).1 }, tt, tt);
+  are = (record { is_word = omega arith; nonwhite = rw is refl; white = refl; says = (decide_says (x ∷ [])).1 }, tt, tt);
   whole = ap (λ t. x ∷ t) whole;
 }
-black_more x text [] (p ∷ ps) is white are whole = record {
+nonwhite_more x text [] (p ∷ ps) is white are whole = record {
   lead = [];
   places = with_octet x p ∷ ps;
   white = refl;
-  are = (record { is_word = omega arith; black = and_from (is_black x) (list_all is_black p.word) is are.0.black; white = are.0.white; says = (decide_says (x ∷ p.word)).1 }, are.1, are.2);
+  are = (record { is_word = omega arith; nonwhite = and_from (is_nonwhite x) (list_all is_nonwhite p.word) is are.0.nonwhite; white = are.0.white; says = (decide_says (x ∷ p.word)).1 }, are.1, are.2);
   whole = ap (λ t. x ∷ t) whole;
 }
-black_more x text (w ∷ lead) ps is white are whole = record {
+nonwhite_more x text (w ∷ lead) ps is white are whole = record {
   lead = [];
   places = record { word = x ∷ []; says = (decide_says (x ∷ [])).0; run = w ∷ lead } ∷ ps;
   white = refl;
-  are = (record { is_word = omega arith; black = rw is refl; white = white; says = (decide_says (x ∷ [])).1 }, parts ps, are);
+  are = (record { is_word = omega arith; nonwhite = rw is refl; white = white; says = (decide_says (x ∷ [])).1 }, parts ps, are);
   whole = ap (λ t. x ∷ t) whole;
 }
   where
@@ -62,7 +62,7 @@ divided (x ∷ text) =
     let d = divided text in
     elim (cases_Bool (is_white x)) [
       | inl is ↦ white_more x text is d
-      | inr fails ↦ black_more x text d.lead d.places (ap not fails) d.white d.are d.whole
+      | inr fails ↦ nonwhite_more x text d.lead d.places (ap not fails) d.white d.are d.whole
     ]
 
 pub HasUnits-some : (text : List ℕ) → (units : List UnitValue) × HasUnits text units
@@ -91,27 +91,27 @@ white_item_more i items is d = record {
 said : (items : List TextItem) → (says : Option UnitValue) × SaysWhere (not (list_any has_backslash items)) (map item_octet items) says
 said items = decide_where (not (list_any has_backslash items)) (map item_octet items)
 
-black_item_more : (i : TextItem) (items lead : List TextItem) (ws : List CommentWord) → not (is_white_item i) ≡ true → list_all is_white_item lead ≡ true → AreCommentWords ws
+nonwhite_item_more : (i : TextItem) (items lead : List TextItem) (ws : List CommentWord) → not (is_white_item i) ≡ true → list_all is_white_item lead ≡ true → AreCommentWords ws
     → items ≡ lead ++ flat_map word_items ws → ItemsDivided (i ∷ items)
-black_item_more i items [] [] is white are whole = record {
+nonwhite_item_more i items [] [] is white are whole = record {
   lead = [];
   words = record { items = i ∷ []; says = (said (i ∷ [])).0; run = [] } ∷ [];
   white = refl;
-  are = (record { is_word = omega arith; black = rw is refl; white = refl; says = (said (i ∷ [])).1 }, tt, tt);
+  are = (record { is_word = omega arith; nonwhite = rw is refl; white = refl; says = (said (i ∷ [])).1 }, tt, tt);
   whole = ap (λ t. i ∷ t) whole;
 }
-black_item_more i items [] (w ∷ ws) is white are whole = record {
+nonwhite_item_more i items [] (w ∷ ws) is white are whole = record {
   lead = [];
   words = record { items = i ∷ w.items; says = (said (i ∷ w.items)).0; run = w.run } ∷ ws;
   white = refl;
-  are = (record { is_word = omega arith; black = and_from (not (is_white_item i)) (list_all (λ j. not (is_white_item j)) w.items) is are.0.black; white = are.0.white; says = (said (i ∷ w.items)).1 }, are.1, are.2);
+  are = (record { is_word = omega arith; nonwhite = and_from (not (is_white_item i)) (list_all (λ j. not (is_white_item j)) w.items) is are.0.nonwhite; white = are.0.white; says = (said (i ∷ w.items)).1 }, are.1, are.2);
   whole = ap (λ t. i ∷ t) whole;
 }
-black_item_more i items (j ∷ lead) ws is white are whole = record {
+nonwhite_item_more i items (j ∷ lead) ws is white are whole = record {
   lead = [];
   words = record { items = i ∷ []; says = (said (i ∷ [])).0; run = j ∷ lead } ∷ ws;
   white = refl;
-  are = (record { is_word = omega arith; black = rw is refl; white = white; says = (said (i ∷ [])).1 }, parts ws, are);
+  are = (record { is_word = omega arith; nonwhite = rw is refl; white = white; says = (said (i ∷ [])).1 }, parts ws, are);
   whole = ap (λ t. i ∷ t) whole;
 }
   where
@@ -125,7 +125,7 @@ items_divided (i ∷ items) =
     let d = items_divided items in
     elim (cases_Bool (is_white_item i)) [
       | inl is ↦ white_item_more i items is d
-      | inr fails ↦ black_item_more i items d.lead d.words (ap not fails) d.white d.are d.whole
+      | inr fails ↦ nonwhite_item_more i items d.lead d.words (ap not fails) d.white d.are d.whole
     ]
 
 -- a text is spelled by items

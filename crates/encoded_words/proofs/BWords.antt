@@ -12,11 +12,11 @@ use Rattle.base64.specs.Rfc4648.{encode_symbols, unpadded_len, padding_len}
 use Rattle.base64.proofs.EngineFacts.{IsAscii-encode_of}
 use Rattle.base64.proofs.RoundTrip.{length-encode_symbols}
 use Rattle.encoded_words.specs.Words.{WordParts, IsEncodedWord, Text, unit_of, word_of, is_text_octet}
-use Rattle.mail_wire.specs.Octets.{is_black}
+use Rattle.mail_wire.specs.Octets.{is_nonwhite}
 use Rattle.mail_wire.proofs.AllLemmas.{pass-append}
 use Rattle.encoded_words.specs.Pieces.{b_word, IsChunk, AreChunks, AreShort}
 use Rattle.encoded_words.proofs.Octets.{is_byte, bytes-IsUtf8, IsBytes-from_all, encoded_hold, encoded_passes}
-use Rattle.encoded_words.proofs.EncodedOctets.{black_text}
+use Rattle.encoded_words.proofs.EncodedOctets.{nonwhite_text}
 
 abbrev b_parts : List ℕ → WordParts
 b_parts chunk = record { charset = codes "UTF-8"; language = None; letter = 66; text = encode_of standard chunk }
@@ -77,17 +77,17 @@ b_word-all p holds chunk u =
     pass-append p (codes "=?UTF-8?B?") (encode_of standard chunk ++ codes "?=") holds.marks
     (pass-append p (encode_of standard chunk) (codes "?=") (encoded_hold p holds.symbols first.0 chunk (bytes-IsUtf8 chunk u)) ending)
 
-black_from_visible : (xs : List ℕ) → list_all is_text_octet xs ≡ true → list_all is_black xs ≡ true
-black_from_visible [] h = refl
-black_from_visible (x ∷ xs) h =
+nonwhite_from_visible : (xs : List ℕ) → list_all is_text_octet xs ≡ true → list_all is_nonwhite xs ≡ true
+nonwhite_from_visible [] h = refl
+nonwhite_from_visible (x ∷ xs) h =
     let parts = and_parts (is_text_octet x) (list_all is_text_octet xs) h in
-    and_from (is_black x) (list_all is_black xs) (black_text x parts.0) (black_from_visible xs parts.1)
+    and_from (is_nonwhite x) (list_all is_nonwhite xs) (nonwhite_text x parts.0) (nonwhite_from_visible xs parts.1)
 
-pub b_word-black : (chunk : List ℕ) → list_all is_byte chunk ≡ true → list_all is_black (b_word chunk) ≡ true
+pub b_word-nonwhite : (chunk : List ℕ) → list_all is_byte chunk ≡ true → list_all is_nonwhite (b_word chunk) ≡ true
 unfolding b_word
-b_word-black chunk bytes =
-    pass-append is_black (codes "=?UTF-8?B?") (encode_of standard chunk ++ codes "?=") refl
-    (pass-append is_black (encode_of standard chunk) (codes "?=") (black_from_visible (encode_of standard chunk) (encoded_passes chunk bytes)) refl)
+b_word-nonwhite chunk bytes =
+    pass-append is_nonwhite (codes "=?UTF-8?B?") (encode_of standard chunk ++ codes "?=") refl
+    (pass-append is_nonwhite (encode_of standard chunk) (codes "?=") (nonwhite_from_visible (encode_of standard chunk) (encoded_passes chunk bytes)) refl)
 
 pub b_word_some : (chunk : List ℕ) → 0 < length (b_word chunk)
 unfolding b_word

@@ -62,22 +62,22 @@ front_once p (h ∷ a) (k ∷ b) x y pa pb sx sy e =
     let front : a ≡ b = r.0 in
     (cc, r.1)
 
-abbrev is_black_item : TextItem → Bool
-is_black_item i = not (is_white_item i)
+abbrev is_nonwhite_item : TextItem → Bool
+is_nonwhite_item i = not (is_white_item i)
 
 -- a word begins what is left, and white or the end follows it
 begins_word : (ws : List CommentWord) → AreCommentWords ws → StopsAt is_white_item (flat_map word_items ws)
 begins_word [] are = tt
-begins_word (w ∷ ws) are = first w.items w.run (flat_map word_items ws) are.0.is_word are.0.black
+begins_word (w ∷ ws) are = first w.items w.run (flat_map word_items ws) are.0.is_word are.0.nonwhite
   where
-    first : (items run rest : List TextItem) → 0 < length items → list_all is_black_item items ≡ true → StopsAt is_white_item ((items ++ run) ++ rest)
-    first [] run rest some black = absurd (omega arith)
-    first (x ∷ items) run rest some black = not-true (is_white_item x) (and_parts (is_black_item x) (list_all is_black_item items) black).0
+    first : (items run rest : List TextItem) → 0 < length items → list_all is_nonwhite_item items ≡ true → StopsAt is_white_item ((items ++ run) ++ rest)
+    first [] run rest some nonwhite = absurd (omega arith)
+    first (x ∷ items) run rest some nonwhite = not-true (is_white_item x) (and_parts (is_nonwhite_item x) (list_all is_nonwhite_item items) nonwhite).0
 
-behind_word : (run : List TextItem) (ws : List CommentWord) → list_all is_white_item run ≡ true → ItemsDivide run ws → StopsAt is_black_item (run ++ flat_map word_items ws)
-behind_word [] [] white divides = tt
-behind_word [] (w ∷ ws) white divides = absurd (omega arith)
-behind_word (x ∷ run) ws white divides = not_from_true (is_white_item x) (and_parts (is_white_item x) (list_all is_white_item run) white).0
+after_word : (run : List TextItem) (ws : List CommentWord) → list_all is_white_item run ≡ true → ItemsDivide run ws → StopsAt is_nonwhite_item (run ++ flat_map word_items ws)
+after_word [] [] white divides = tt
+after_word [] (w ∷ ws) white divides = absurd (omega arith)
+after_word (x ∷ run) ws white divides = not_from_true (is_white_item x) (and_parts (is_white_item x) (list_all is_white_item run) white).0
 
 abbrev word : List TextItem → Option UnitValue → List TextItem → CommentWord
 word items says run = record { items = items; says = says; run = run }
@@ -97,8 +97,8 @@ words_once (w ∷ ws) (v ∷ vs) hw hv e =
     let a = flat_map word_items ws in
     let b = flat_map word_items vs in
     let whole : w.items ++ (w.run ++ a) ≡ v.items ++ (v.run ++ b) = sym (append_assoc w.items w.run a) ∙ e ∙ append_assoc v.items v.run b in
-    let fronts = front_once is_black_item w.items v.items (w.run ++ a) (v.run ++ b) hw.0.black hv.0.black
-    (behind_word w.run ws hw.0.white hw.1) (behind_word v.run vs hv.0.white hv.1) whole in
+    let fronts = front_once is_nonwhite_item w.items v.items (w.run ++ a) (v.run ++ b) hw.0.nonwhite hv.0.nonwhite
+    (after_word w.run ws hw.0.white hw.1) (after_word v.run vs hv.0.white hv.1) whole in
     let runs = front_once is_white_item w.run v.run a b hw.0.white hv.0.white (begins_word ws hw.2) (begins_word vs hv.2) fronts.1 in
     let at_v = subst (λ xs. SaysWhere (not (list_any has_backslash xs)) (map item_octet xs) w.says) fronts.0 hw.0.says in
     let says : w.says ≡ v.says = says_where_once (not (list_any has_backslash v.items)) (map item_octet v.items) w.says v.says at_v hv.0.says in

@@ -5,13 +5,13 @@ use Rattle.std.proofs.lemmas.List.Concat.{flat_map-append}
 use Rattle.std.proofs.lemmas.List.Folds.{list_all-append}
 use Rattle.std.specs.List.{list_all, list_any, flat_map}
 use Rattle.encoded_words.specs.declared.units.Merging.{Merging}
-use Rattle.mail_wire.specs.Octets.{is_white, is_black}
+use Rattle.mail_wire.specs.Octets.{is_white, is_nonwhite}
 use Rattle.mail_wire.specs.Spans.{Stops, IsSpan}
 use Rattle.encoded_words.specs.Words.{UnitValue, Text, SaysWhere}
 use Rattle.encoded_words.specs.Units.{raw_units, merged, with_text, word_unit, begins_encoded, run_text}
 use Rattle.encoded_words.specs.CommentUnits.{TextItem, Plain, Pair, AreTextItems, item_spelling, item_octet, has_backslash, is_white_item, CommentWord, IsCommentWord, word_items, ItemsDivide, AreCommentWords, comment_place, comment_places, HasCommentUnits}
 use Rattle.encoded_words.specs.private.Merging.{IsMerging, TakesWord, done_values, all_units_then, onto}
-use Rattle.encoded_words.specs.private.CommentReading.{BeginsItems, BeginsOctetItem, BeginsBlack, SplitsWord, GivesOctets, TakesCommentWord, TakesFirst}
+use Rattle.encoded_words.specs.private.CommentReading.{BeginsItems, BeginsOctetItem, BeginsNonwhite, SplitsWord, GivesOctets, TakesCommentWord, TakesFirst}
 use Rattle.encoded_words.specs.Written.{has_no_backslash}
 use Rattle.encoded_words.proofs.CommentLemmas.{items_once}
 use Rattle.encoded_words.proofs.PlainItems.{plain_octets, plain_spelling, plain_items, plain_before, plain_no_backslash, plain_white, white_no_backslash}
@@ -39,11 +39,11 @@ pub BeginsItem-pair : (text : List ℕ) (x : ℕ) (rest : List ℕ) → text ≡
 BeginsItem-pair text x rest e = record { item = Pair x; begins = record { whole = e; onward = λ more are is. are }; octet_is = refl }
 
 -- an item begins with white where it is white
-pub BeginsBlack-item : (text : List ℕ) (octet : ℕ) (rest : List ℕ) (first : ℕ) (after : List ℕ) → text ≡ first ∷ after → is_white first ≡ false → BeginsOctetItem text octet rest → BeginsBlack text rest
-BeginsBlack-item text octet rest first after e black is = record { item = is.item; begins = is.begins; black = by is.item (sym e ∙ is.begins.whole) }
+pub BeginsNonwhite-item : (text : List ℕ) (octet : ℕ) (rest : List ℕ) (first : ℕ) (after : List ℕ) → text ≡ first ∷ after → is_white first ≡ false → BeginsOctetItem text octet rest → BeginsNonwhite text rest
+BeginsNonwhite-item text octet rest first after e nonwhite is = record { item = is.item; begins = is.begins; nonwhite = by is.item (sym e ∙ is.begins.whole) }
   where
     by : (i : TextItem) → first ∷ after ≡ spelling (i ∷ []) ++ rest → not (is_white_item i) ≡ true
-    by (Plain x) e = let same : first ≡ x = cc e in rw (← same, black) refl
+    by (Plain x) e = let same : first ≡ x = cc e in rw (← same, nonwhite) refl
     by (Pair x) e = refl
 
 item_shorter : (i : TextItem) (rest : List ℕ) → length rest < length (spelling (i ∷ []) ++ rest)
@@ -53,8 +53,8 @@ item_shorter (Pair x) rest = omega arith
 pub BeginsItem-shorter : (text : List ℕ) (octet : ℕ) (rest : List ℕ) → BeginsOctetItem text octet rest → length rest < length text
 BeginsItem-shorter text octet rest is = rw is.begins.whole (item_shorter is.item rest)
 
-pub BeginsBlack-shorter : (text rest : List ℕ) → BeginsBlack text rest → length rest < length text
-BeginsBlack-shorter text rest is = rw is.begins.whole (item_shorter is.item rest)
+pub BeginsNonwhite-shorter : (text rest : List ℕ) → BeginsNonwhite text rest → length rest < length text
+BeginsNonwhite-shorter text rest is = rw is.begins.whole (item_shorter is.item rest)
 
 -- Items are taken one after another.
 BeginsWith-none : (text : List ℕ) → BeginsItems text [] text
@@ -64,39 +64,39 @@ BeginsWith-more : (text rest after : List ℕ) (items : List TextItem) (i : Text
 BeginsWith-more text rest after items i front next = record {
   whole = front.whole ∙ rw (flat_map-append item_spelling items (i ∷ []), append_assoc) (ap (λ r. spelling items ++ r) next.whole);
   onward = λ more are is.
-      let all : rest ≡ spelling (i ∷ more) = next.whole ∙ rw is (behind i more) in
+      let all : rest ≡ spelling (i ∷ more) = next.whole ∙ rw is (following i more) in
       rw append_assoc (front.onward (i ∷ more) (next.onward more are is) all);
 }
   where
-    behind : (i : TextItem) (more : List TextItem) → spelling (i ∷ []) ++ spelling more ≡ spelling (i ∷ more)
-    behind (Plain x) more = refl
-    behind (Pair x) more = refl
+    following : (i : TextItem) (more : List TextItem) → spelling (i ∷ []) ++ spelling more ≡ spelling (i ∷ more)
+    following (Plain x) more = refl
+    following (Pair x) more = refl
 
 -- the items so far are none of them white
-pub record ReadsBlack (text rest : List ℕ) : Type 0 where
+pub record ReadsNonwhite (text rest : List ℕ) : Type 0 where
   pub items : List TextItem
   pub begins : BeginsItems text items rest
-  pub black : list_all (λ i. not (is_white_item i)) items ≡ true
+  pub nonwhite : list_all (λ i. not (is_white_item i)) items ≡ true
 
-pub ReadsBlack-start : (text : List ℕ) → ReadsBlack text text
-ReadsBlack-start text = record { items = []; begins = BeginsWith-none text; black = refl }
+pub ReadsNonwhite-start : (text : List ℕ) → ReadsNonwhite text text
+ReadsNonwhite-start text = record { items = []; begins = BeginsWith-none text; nonwhite = refl }
 
-pub ReadsBlack-step : (text rest after : List ℕ) → ReadsBlack text rest → BeginsBlack rest after → ReadsBlack text after
-ReadsBlack-step text rest after reads next = record {
+pub ReadsNonwhite-step : (text rest after : List ℕ) → ReadsNonwhite text rest → BeginsNonwhite rest after → ReadsNonwhite text after
+ReadsNonwhite-step text rest after reads next = record {
   items = reads.items ++ next.item ∷ [];
   begins = BeginsWith-more text rest after reads.items next.item reads.begins next.begins;
-  black = list_all-append (λ i. not (is_white_item i)) reads.items (next.item ∷ []) ∙ rw (reads.black, next.black) refl;
+  nonwhite = list_all-append (λ i. not (is_white_item i)) reads.items (next.item ∷ []) ∙ rw (reads.nonwhite, next.nonwhite) refl;
 }
 
-pub ReadsBlack-bound : (text rest : List ℕ) → ReadsBlack text rest → length rest ≤ length text
-ReadsBlack-bound text rest reads = omega (arith, ap length reads.begins.whole, length-append (spelling reads.items) rest)
+pub ReadsNonwhite-bound : (text rest : List ℕ) → ReadsNonwhite text rest → length rest ≤ length text
+ReadsNonwhite-bound text rest reads = omega (arith, ap length reads.begins.whole, length-append (spelling reads.items) rest)
 
-pub SplitsWord-end : (text rest word after : List ℕ) → ReadsBlack text rest → Stops is_black rest → word ≡ take (length text - length rest) text → after ≡ drop (length text - length rest) text → SplitsWord text word after
+pub SplitsWord-end : (text rest word after : List ℕ) → ReadsNonwhite text rest → Stops is_nonwhite rest → word ≡ take (length text - length rest) text → after ≡ drop (length text - length rest) text → SplitsWord text word after
 SplitsWord-end text rest word after reads stops front back =
     let at : length text - length rest ≡ length (spelling reads.items) = omega (arith, ap length reads.begins.whole, length-append (spelling reads.items) rest) in
     let word_is : word ≡ spelling reads.items = front ∙ rw (at, reads.begins.whole) (take_at (spelling reads.items) rest _ refl) in
     let after_is : after ≡ rest = back ∙ rw (at, reads.begins.whole) (drop_at (spelling reads.items) rest _ refl) in
-    rw after_is (record { items = reads.items; begins = reads.begins; spelled = word_is; black = reads.black; stops = stops })
+    rw after_is (record { items = reads.items; begins = reads.begins; spelled = word_is; nonwhite = reads.nonwhite; stops = stops })
 
 -- the items so far give these octets
 pub record ReadsItems (text octets rest : List ℕ) : Type 0 where
@@ -162,20 +162,20 @@ TakesCommentWord-quoted old mid new run word octets was some gives run_is word_i
     }
 
 -- what a run of white and the words behind it give: a run at the text's end gives nothing
-abbrev pub behind : List ℕ → Bool → List CommentWord → List UnitValue
-behind run was [] = []
-behind run was (w ∷ ws) = with_text (cond (was && is_some w.says) [] run) (merged (raw_units (comment_places (w ∷ ws))))
+abbrev pub following : List ℕ → Bool → List CommentWord → List UnitValue
+following run was [] = []
+following run was (w ∷ ws) = with_text (cond (was && is_some w.says) [] run) (merged (raw_units (comment_places (w ∷ ws))))
 
 -- The reader has come so far, and these units were taken away: whatever words the rest has, they complete the units of the
 -- text.
 pub record ReadsComment (text : List ℕ) (taken : List UnitValue) (m : Merging) (run : List ℕ) (was : Bool) (rest : List ℕ) : Type 0 where
   pub stops : Stops is_white rest
   pub units : (ws : List CommentWord) → AreCommentWords ws → AreTextItems (flat_map word_items ws) → rest ≡ spelling (flat_map word_items ws)
-      → HasCommentUnits text (taken ++ all_units_then m (behind run was ws))
+      → HasCommentUnits text (taken ++ all_units_then m (following run was ws))
 
-behind_first : (ws : List CommentWord) → behind [] false ws ≡ merged (raw_units (comment_places ws))
-behind_first [] = refl
-behind_first (w ∷ ws) = refl
+after_first : (ws : List CommentWord) → following [] false ws ≡ merged (raw_units (comment_places ws))
+after_first [] = refl
+after_first (w ∷ ws) = refl
 
 pub ReadsComment-start : (text lead rest : List ℕ) (m : Merging) → IsSpan is_white text lead rest → IsMerging m [] [] → ReadsComment text [] m [] false rest
 ReadsComment-start text lead rest m span empty = record {
@@ -187,14 +187,14 @@ ReadsComment-start text lead rest m span empty = record {
     are_words = are;
     are_items = plain_before lead (flat_map word_items ws) (white_no_backslash lead span.passes) items;
     whole = span.whole ∙ rw (flat_map-append item_spelling (map Plain lead) (flat_map word_items ws), plain_spelling lead, e) refl;
-    says = rw (empty.done_is, empty.text_is) (behind_first ws);
+    says = rw (empty.done_is, empty.text_is) (after_first ws);
   };
 }
 
-word_some : (rest after : List ℕ) (items : List TextItem) → Stops is_white rest → 0 < length rest → rest ≡ spelling items ++ after → Stops is_black after → 0 < length items
-word_some rest after [] stops some whole black =
-    let none : length rest ≡ 0 = stops_both rest stops (subst (Stops is_black) (sym whole) black) in absurd (omega (arith, none))
-word_some rest after (i ∷ items) stops some whole black = omega arith
+word_some : (rest after : List ℕ) (items : List TextItem) → Stops is_white rest → 0 < length rest → rest ≡ spelling items ++ after → Stops is_nonwhite after → 0 < length items
+word_some rest after [] stops some whole nonwhite =
+    let none : length rest ≡ 0 = stops_both rest stops (subst (Stops is_nonwhite) (sym whole) nonwhite) in absurd (omega (arith, none))
+word_some rest after (i ∷ items) stops some whole nonwhite = omega arith
 
 item_some : (i : TextItem) (more : List ℕ) → 0 < length (item_spelling i ++ more)
 item_some (Plain x) more = omega arith
@@ -207,11 +207,11 @@ words_some w ws some = by w.items some
     by [] some = absurd (omega (arith, some))
     by (i ∷ items) some = item_some i (spelling ((items ++ w.run) ++ flat_map word_items ws))
 
-divide : (after run rest : List ℕ) (ws : List CommentWord) → Stops is_black after → IsSpan is_white after run rest → AreCommentWords ws → rest ≡ spelling (flat_map word_items ws) → ItemsDivide (map Plain run) ws
+divide : (after run rest : List ℕ) (ws : List CommentWord) → Stops is_nonwhite after → IsSpan is_white after run rest → AreCommentWords ws → rest ≡ spelling (flat_map word_items ws) → ItemsDivide (map Plain run) ws
 divide after run rest [] stops span are e = tt
 divide after [] rest (w ∷ ws) stops span are e =
     let same : after ≡ rest = span.whole in
-    let none : length rest ≡ 0 = stops_both rest span.stops (subst (Stops is_black) same stops) in
+    let none : length rest ≡ 0 = stops_both rest span.stops (subst (Stops is_nonwhite) same stops) in
     absurd (omega (arith, none, ap length e, words_some w ws are.0.is_word))
 divide after (x ∷ run) rest (w ∷ ws) stops span are e = omega arith
 
@@ -225,9 +225,9 @@ front_items (Plain x ∷ items) more are = ((λ e. front items (are.0 e)), front
 front_items (Pair x ∷ items) more are = front_items items more are
 
 -- a word before words
-behind_step : (w : CommentWord) (run next : List ℕ) (was : Bool) (ws : List CommentWord) → w.run ≡ map Plain next
-    → behind run was (w ∷ ws) ≡ with_text (cond (was && is_some w.says) [] run) (onto (word_unit w.says (map item_octet w.items)) (behind next (is_some w.says) ws))
-behind_step w run next was [] e = ap (with_text (cond (was && is_some w.says) [] run)) (
+following_step : (w : CommentWord) (run next : List ℕ) (was : Bool) (ws : List CommentWord) → w.run ≡ map Plain next
+    → following run was (w ∷ ws) ≡ with_text (cond (was && is_some w.says) [] run) (onto (word_unit w.says (map item_octet w.items)) (following next (is_some w.says) ws))
+following_step w run next was [] e = ap (with_text (cond (was && is_some w.says) [] run)) (
     merged-onto (word_unit w.says (map item_octet w.items)) (Text (run_text (comment_place w []) false) ∷ [])
     ∙ rw (no_run (is_some w.says && false)) refl
     )
@@ -235,7 +235,7 @@ behind_step w run next was [] e = ap (with_text (cond (was && is_some w.says) []
     no_run : (b : Bool) → cond b (map item_octet []) (map item_octet []) ≡ []
     no_run true = refl
     no_run false = refl
-behind_step w run next was (v ∷ ws) e = ap (with_text (cond (was && is_some w.says) [] run)) (
+following_step w run next was (v ∷ ws) e = ap (with_text (cond (was && is_some w.says) [] run)) (
     merged-onto (word_unit w.says (map item_octet w.items)) (Text (run_text (comment_place w w.run) (begins_encoded (comment_places (v ∷ ws)))) ∷ raw_units (comment_places (v ∷ ws)))
     ∙ rw (e, plain_octets next, first_encoded v ws) refl
     )
@@ -262,15 +262,15 @@ ReadsComment-step text run rest next_run next_rest taken old new was encoded rea
       let same : takes.items ≡ first.items = items_once takes.items first.items takes.are (front_items first.items more all) (sym takes.spelled ∙ first.spelled) in
       let is : IsCommentWord w = record {
         is_word = word_some rest after first.items reads.stops some first.begins.whole first.stops;
-        black = first.black;
+        nonwhite = first.nonwhite;
         white = plain_white next_run second.passes;
         says = subst (λ items. SaysWhere (not (list_any has_backslash items)) (map item_octet items) takes.says) same takes.says_is;
       } in
       let whole : rest ≡ spelling (flat_map word_items (w ∷ ws))
       = first.begins.whole ∙ rw (append_assoc first.items (map Plain next_run) (flat_map word_items ws), flat_map-append item_spelling first.items more, after_is) refl in
       let has = reads.units (w ∷ ws) (is, divide after next_run next_rest ws first.stops second are e, are) (rw append_assoc all) whole in
-      let units = takes.units (behind next_run encoded ws) in
-      rw (units, takes.encoded_is, same, ← behind_step w run next_run was ws refl) has;
+      let units = takes.units (following next_run encoded ws) in
+      rw (units, takes.encoded_is, same, ← following_step w run next_run was ws refl) has;
 }
 
 pub ReadsComment-end : (text run rest : List ℕ) (taken : List UnitValue) (m end : Merging) (was : Bool) → ReadsComment text taken m run was rest → length rest ≡ 0
@@ -283,7 +283,7 @@ pub ReadsComment-taken : (text run rest : List ℕ) (taken : List UnitValue) (ol
 ReadsComment-taken text run rest taken old new was reads left = record {
   stops = reads.stops;
   units = λ ws are items e.
-      let us : List UnitValue = behind run was ws in
+      let us : List UnitValue = following run was ws in
       let same : (taken ++ done_values old) ++ all_units_then new us ≡ taken ++ all_units_then old us
       = ap (λ r. (taken ++ done_values old) ++ r) (rw (left.done_is, left.text_is) refl) ∙ append_assoc taken (done_values old) (with_text old.text.items us) in
       rw same (reads.units ws are items e);

@@ -17,7 +17,7 @@ use Rattle.encoded_words.specs.Folding.{AddsLines}
 use Rattle.encoded_words.specs.Written.{WriteAll, IsWritable, AreWritable, WritesCommentText}
 use Rattle.encoded_words.proofs.AddedUnits.{write_append}
 use Rattle.encoded_words.proofs.AllUnits.{HasCommentUnits-some}
-use Rattle.encoded_words.proofs.CommentReading.{behind, ReadsComment, ReadsComment-start, ReadsComment-step, ReadsComment-taken, ReadsComment-end}
+use Rattle.encoded_words.proofs.CommentReading.{following, ReadsComment, ReadsComment-start, ReadsComment-step, ReadsComment-taken, ReadsComment-end}
 use Rattle.encoded_words.proofs.LineLemmas.{adds_none, adds_both, adds_as}
 use Rattle.encoded_words.proofs.WritableUnits.{HasCommentUnits-writable}
 
@@ -46,8 +46,8 @@ words_there text stops = let has = (HasCommentUnits-some text).1 in by has.lead 
 pub done_writable : (text run rest : List ℕ) (taken : List UnitValue) (m : Merging) (was : Bool) → IsUtf8 text → ReadsComment text taken m run was rest → AreWritable (done_values m)
 done_writable text run rest taken m was utf8 reads =
     let has = words_there rest reads.stops in
-    let all = HasCommentUnits-writable text (taken ++ all_units_then m (behind run was has.words)) utf8 (reads.units has.words has.are has.items has.whole) in
-    (writable_parts (done_values m) (with_text m.text.items (behind run was has.words)) (writable_parts taken (all_units_then m (behind run was has.words)) all).1).0
+    let all = HasCommentUnits-writable text (taken ++ all_units_then m (following run was has.words)) utf8 (reads.units has.words has.are has.items has.whole) in
+    (writable_parts (done_values m) (with_text m.text.items (following run was has.words)) (writable_parts taken (all_units_then m (following run was has.words)) all).1).0
 
 -- the units that were taken away were written
 pub record WritesSoFar (text : List ℕ) (m : Merging) (run : List ℕ) (was : Bool) (rest old new : List ℕ) : Type 0 where

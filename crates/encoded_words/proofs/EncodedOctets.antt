@@ -4,7 +4,7 @@ use Rattle.std.proofs.lemmas.Bool.{and_parts, and_from}
 use Rattle.std.proofs.lemmas.Bool.Decides.{nat_tests}
 use Rattle.std.specs.List.{list_all}
 use Rattle.std.specs.Char.{to_ascii_uppercase}
-use Rattle.mail_wire.specs.Octets.{is_ascii, is_black}
+use Rattle.mail_wire.specs.Octets.{is_ascii, is_nonwhite}
 use Rattle.mail_wire.proofs.AllLemmas.{pass-weaker, pass-append}
 use Rattle.encoded_words.specs.Words.{UnitValue, IsEncodedWord, IsTextOf, language_suffix, is_token_octet, is_text_octet, IsName}
 
@@ -46,9 +46,9 @@ pub ascii_letter : (x : ℕ) → (to_ascii_uppercase x ≡ 66) ⊎ (to_ascii_upp
 ascii_letter x (inl h) = grind (arith, nat_tests)
 ascii_letter x (inr h) = grind (arith, nat_tests)
 
-pub black_letter : (x : ℕ) → (to_ascii_uppercase x ≡ 66) ⊎ (to_ascii_uppercase x ≡ 81) → is_black x ≡ true
-black_letter x (inl h) = grind (arith, nat_tests)
-black_letter x (inr h) = grind (arith, nat_tests)
+pub nonwhite_letter : (x : ℕ) → (to_ascii_uppercase x ≡ 66) ⊎ (to_ascii_uppercase x ≡ 81) → is_nonwhite x ≡ true
+nonwhite_letter x (inl h) = grind (arith, nat_tests)
+nonwhite_letter x (inr h) = grind (arith, nat_tests)
 
 pub ascii_name : (x : ℕ) → is_token_octet x ≡ true → is_ascii x ≡ true
 ascii_name x h = grind (arith, nat_tests)
@@ -56,19 +56,19 @@ ascii_name x h = grind (arith, nat_tests)
 pub ascii_text : (x : ℕ) → is_text_octet x ≡ true → is_ascii x ≡ true
 ascii_text x h = grind (arith, nat_tests)
 
-pub black_name : (x : ℕ) → is_token_octet x ≡ true → is_black x ≡ true
-black_name x h = grind (arith, nat_tests)
+pub nonwhite_name : (x : ℕ) → is_token_octet x ≡ true → is_nonwhite x ≡ true
+nonwhite_name x h = grind (arith, nat_tests)
 
-pub black_text : (x : ℕ) → is_text_octet x ≡ true → is_black x ≡ true
-black_text x h = grind (arith, nat_tests)
+pub nonwhite_text : (x : ℕ) → is_text_octet x ≡ true → is_nonwhite x ≡ true
+nonwhite_text x h = grind (arith, nat_tests)
 
 -- an encoded word is ASCII
 pub encoded_ascii : (word : List ℕ) (u : UnitValue) → IsEncodedWord word u → list_all is_ascii word ≡ true
 encoded_ascii word u is = encoded_all is_ascii (record { name = ascii_name; text = ascii_text; letter = ascii_letter; marks = refl }) word u is
 
 -- an encoded word has no white
-pub encoded_black : (word : List ℕ) (u : UnitValue) → IsEncodedWord word u → list_all is_black word ≡ true
-encoded_black word u is = encoded_all is_black (record { name = black_name; text = black_text; letter = black_letter; marks = refl }) word u is
+pub encoded_nonwhite : (word : List ℕ) (u : UnitValue) → IsEncodedWord word u → list_all is_nonwhite word ≡ true
+encoded_nonwhite word u is = encoded_all is_nonwhite (record { name = nonwhite_name; text = nonwhite_text; letter = nonwhite_letter; marks = refl }) word u is
 
 -- nor is it empty
 pub encoded_some : (word : List ℕ) (u : UnitValue) → IsEncodedWord word u → 0 < length word

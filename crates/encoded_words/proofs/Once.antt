@@ -9,7 +9,7 @@ use Rattle.base64.specs.GeneralPurpose.{encode_of, decode_of}
 use Rattle.base64.proofs.EngineFacts.{decode_of-encode_of}
 use Rattle.encoded_words.specs.Words.{WordParts, UnitValue, IsBText, IsTextOf, IsEncodedWord, Says, unit_of}
 use Rattle.encoded_words.specs.Units.{Place, ArePlaces, HasUnits, place_octets, Divides}
-use Rattle.mail_wire.specs.Octets.{is_white, is_black}
+use Rattle.mail_wire.specs.Octets.{is_white, is_nonwhite}
 use Rattle.mail_wire.specs.Spans.{Stops}
 use Rattle.encoded_words.proofs.Cuts.{HasParts-once}
 use Rattle.encoded_words.proofs.QText.{IsQText-once}
@@ -46,18 +46,18 @@ says_once word (Some u) None p q = absurd (q u p)
 says_once word (Some u) (Some v) p q = ap (λ x. Some x) (IsEncodedWord-once word u v p q)
 
 -- a word begins what is left, and white or the end follows it
-pub begins_black : (ps : List Place) → ArePlaces ps → Stops is_white (flat_map place_octets ps)
-begins_black [] are = tt
-begins_black (p ∷ ps) are = first p.word p.run (flat_map place_octets ps) are.0.is_word are.0.black
+pub begins_nonwhite : (ps : List Place) → ArePlaces ps → Stops is_white (flat_map place_octets ps)
+begins_nonwhite [] are = tt
+begins_nonwhite (p ∷ ps) are = first p.word p.run (flat_map place_octets ps) are.0.is_word are.0.nonwhite
   where
-    first : (word run rest : List ℕ) → 0 < length word → list_all is_black word ≡ true → Stops is_white ((word ++ run) ++ rest)
-    first [] run rest some black = absurd (omega arith)
-    first (x ∷ word) run rest some black = not-true (is_white x) (and_parts (is_black x) (list_all is_black word) black).0
+    first : (word run rest : List ℕ) → 0 < length word → list_all is_nonwhite word ≡ true → Stops is_white ((word ++ run) ++ rest)
+    first [] run rest some nonwhite = absurd (omega arith)
+    first (x ∷ word) run rest some nonwhite = not-true (is_white x) (and_parts (is_nonwhite x) (list_all is_nonwhite word) nonwhite).0
 
-pub behind_word : (p : Place) (ps : List Place) → ArePlaces (p ∷ ps) → Stops is_black (p.run ++ flat_map place_octets ps)
-behind_word p ps are = by p.run ps are.0.white are.1
+pub after_word : (p : Place) (ps : List Place) → ArePlaces (p ∷ ps) → Stops is_nonwhite (p.run ++ flat_map place_octets ps)
+after_word p ps are = by p.run ps are.0.white are.1
   where
-    by : (run : List ℕ) (ps : List Place) → list_all is_white run ≡ true → Divides run ps → Stops is_black (run ++ flat_map place_octets ps)
+    by : (run : List ℕ) (ps : List Place) → list_all is_white run ≡ true → Divides run ps → Stops is_nonwhite (run ++ flat_map place_octets ps)
     by [] [] white divides = tt
     by [] (q ∷ ps) white divides = absurd (omega arith)
     by (x ∷ run) ps white divides = not_from_true (is_white x) (and_parts (is_white x) (list_all is_white run) white).0
@@ -87,8 +87,8 @@ places_once (p ∷ ps) (q ∷ qs) hp hq e =
     let a = flat_map place_octets ps in
     let b = flat_map place_octets qs in
     let whole : p.word ++ (p.run ++ a) ≡ q.word ++ (q.run ++ b) = sym (append_assoc p.word p.run a) ∙ e ∙ append_assoc q.word q.run b in
-    let words = span_once is_black p.word q.word (p.run ++ a) (q.run ++ b) hp.0.black hq.0.black (behind_word p ps hp) (behind_word q qs hq) whole in
-    let runs = span_once is_white p.run q.run a b hp.0.white hq.0.white (begins_black ps hp.2) (begins_black qs hq.2) words.1 in
+    let words = span_once is_nonwhite p.word q.word (p.run ++ a) (q.run ++ b) hp.0.nonwhite hq.0.nonwhite (after_word p ps hp) (after_word q qs hq) whole in
+    let runs = span_once is_white p.run q.run a b hp.0.white hq.0.white (begins_nonwhite ps hp.2) (begins_nonwhite qs hq.2) words.1 in
     let says : p.says ≡ q.says = says_once q.word p.says q.says (subst (λ w. Says w p.says) words.0 hp.0.says) hq.0.says in
     let head : p ≡ q = made p.word q.word p.says q.says p.run q.run words.0 says runs.0 in
     let tail : ps ≡ qs = places_once ps qs hp.2 hq.2 runs.1 in
@@ -98,7 +98,7 @@ places_once (p ∷ ps) (q ∷ qs) hp hq e =
 pub HasUnits-once : (text : List ℕ) (us vs : List UnitValue) → HasUnits text us → HasUnits text vs → us ≡ vs
 HasUnits-once text us vs p q =
     let both = span_once is_white p.lead q.lead (flat_map place_octets p.places) (flat_map place_octets q.places) p.white q.white
-    (begins_black p.places p.are_places) (begins_black q.places q.are_places) (sym p.whole ∙ q.whole) in
+    (begins_nonwhite p.places p.are_places) (begins_nonwhite q.places q.are_places) (sym p.whole ∙ q.whole) in
     let lead : p.lead ≡ q.lead = both.0 in
     let places : p.places ≡ q.places = places_once p.places q.places p.are_places q.are_places both.1 in
     p.says ∙ rw (lead, places) (sym q.says)

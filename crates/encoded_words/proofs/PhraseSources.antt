@@ -124,17 +124,17 @@ HasPhraseUnits-sources P items us all has =
 abbrev pub AreSeparators : List PhraseItem → Type 0
 AreSeparators items = AllByRecursion (λ i. i ≡ Separator) items
 
-words_behind : (seps items : List PhraseItem) → AreSeparators seps → phrase_words true (seps ++ items) ≡ phrase_words true items
-words_behind [] items are = refl
-words_behind (s ∷ seps) items are = rw are.0 (words_behind seps items are.1)
+words_after : (seps items : List PhraseItem) → AreSeparators seps → phrase_words true (seps ++ items) ≡ phrase_words true items
+words_after [] items are = refl
+words_after (s ∷ seps) items are = rw are.0 (words_after seps items are.1)
 
-free_behind : (items seps : List PhraseItem) → AreSeparators seps → begins_free (items ++ seps) ≡ begins_free items
-free_behind [] [] are = refl
-free_behind [] (s ∷ seps) are = rw are.0 refl
-free_behind (Separator ∷ items) seps are = refl
-free_behind (Atom octets ∷ items) seps are = refl
-free_behind (Content octets ∷ items) seps are = refl
-free_behind (Dot ∷ items) seps are = refl
+free_after : (items seps : List PhraseItem) → AreSeparators seps → begins_free (items ++ seps) ≡ begins_free items
+free_after [] [] are = refl
+free_after [] (s ∷ seps) are = rw are.0 refl
+free_after (Separator ∷ items) seps are = refl
+free_after (Atom octets ∷ items) seps are = refl
+free_after (Content octets ∷ items) seps are = refl
+free_after (Dot ∷ items) seps are = refl
 
 none_there : (seps : List PhraseItem) → AreSeparators seps → has_word seps ≡ false
 none_there [] are = refl
@@ -154,12 +154,12 @@ no_words is_free (s ∷ seps) are = rw are.0 (no_words true seps are.1)
 words_before : (is_free : Bool) (items seps : List PhraseItem) → AreSeparators seps → phrase_words is_free (items ++ seps) ≡ phrase_words is_free items
 words_before is_free [] seps are = no_words is_free seps are
 words_before is_free (Separator ∷ items) seps are = words_before true items seps are
-words_before is_free (Atom octets ∷ items) seps are = rw (words_before false items seps are, free_behind items seps are, word_there items seps are) refl
-words_before is_free (Content octets ∷ items) seps are = rw (words_before false items seps are, free_behind items seps are, word_there items seps are) refl
-words_before is_free (Dot ∷ items) seps are = rw (words_before false items seps are, free_behind items seps are, word_there items seps are) refl
+words_before is_free (Atom octets ∷ items) seps are = rw (words_before false items seps are, free_after items seps are, word_there items seps are) refl
+words_before is_free (Content octets ∷ items) seps are = rw (words_before false items seps are, free_after items seps are, word_there items seps are) refl
+words_before is_free (Dot ∷ items) seps are = rw (words_before false items seps are, free_after items seps are, word_there items seps are) refl
 
 words_within : (lead items trail : List PhraseItem) → AreSeparators lead → AreSeparators trail → phrase_words true (lead ++ (items ++ trail)) ≡ phrase_words true items
-words_within lead items trail a b = words_behind lead (items ++ trail) a ∙ words_before true items trail b
+words_within lead items trail a b = words_after lead (items ++ trail) a ∙ words_before true items trail b
 
 -- separators at the ends of a phrase change nothing
 pub HasPhraseUnits-around : (lead items trail : List PhraseItem) (us : List UnitValue) → AreSeparators lead → AreSeparators trail → HasPhraseUnits items us → HasPhraseUnits (lead ++ (items ++ trail)) us

@@ -6,7 +6,7 @@ use Rattle.std.specs.List.{flat_map}
 use Rattle.encoded_words.specs.declared.units.Merging.{Merging}
 use Rattle.encoded_words.specs.Words.{UnitValue, Text, Opaque, Says}
 use Rattle.encoded_words.specs.Units.{Place, IsPlace, ArePlaces, Divides, HasUnits, place_octets, raw_units, merged, with_text, word_unit, begins_encoded, run_text}
-use Rattle.mail_wire.specs.Octets.{is_white, is_black}
+use Rattle.mail_wire.specs.Octets.{is_white, is_nonwhite}
 use Rattle.mail_wire.specs.Spans.{Stops, IsSpan}
 use Rattle.encoded_words.specs.private.Merging.{IsMerging, AddsUnit, TakesWord, done_values, all_units_then, onto}
 use Rattle.encoded_words.proofs.WithText.{with_text-append}
@@ -75,42 +75,42 @@ Reads-start text lead rest m span empty = record {
 }
 
 -- octets that are neither white nor black at their front are none
-pub stops_both : (xs : List ℕ) → Stops is_white xs → Stops is_black xs → length xs ≡ 0
+pub stops_both : (xs : List ℕ) → Stops is_white xs → Stops is_nonwhite xs → length xs ≡ 0
 stops_both [] w b = refl
 stops_both (x ∷ xs) w b = absurd (true≢false (sym (ap not w) ∙ b))
 
-pub word_some : (rest word after : List ℕ) → Stops is_white rest → 0 < length rest → IsSpan is_black rest word after → 0 < length word
+pub word_some : (rest word after : List ℕ) → Stops is_white rest → 0 < length rest → IsSpan is_nonwhite rest word after → 0 < length word
 word_some rest [] after stops some span =
     let same : after ≡ rest = sym span.whole in
-    absurd (omega (arith, stops_both rest stops (subst (Stops is_black) same span.stops)))
+    absurd (omega (arith, stops_both rest stops (subst (Stops is_nonwhite) same span.stops)))
 word_some rest (x ∷ word) after stops some span = omega arith
 
-divides : (after run rest : List ℕ) (ps : List Place) → Stops is_black after → IsSpan is_white after run rest → ArePlaces ps → rest ≡ flat_map place_octets ps → Divides run ps
+divides : (after run rest : List ℕ) (ps : List Place) → Stops is_nonwhite after → IsSpan is_white after run rest → ArePlaces ps → rest ≡ flat_map place_octets ps → Divides run ps
 divides after run rest [] stops span are e = tt
 divides after [] rest (p ∷ ps) stops span are e =
     let same : after ≡ rest = span.whole in
-    let none : length rest ≡ 0 = stops_both rest span.stops (subst (Stops is_black) same stops) in
+    let none : length rest ≡ 0 = stops_both rest span.stops (subst (Stops is_nonwhite) same stops) in
     let some = are.0.is_word in
     absurd (omega (arith, ap length e, length-append (p.word ++ p.run) (flat_map place_octets ps), length-append p.word p.run))
 divides after (x ∷ run) rest (p ∷ ps) stops span are e = omega arith
 
 pub Reads-step : (text run rest word after next_run next_rest : List ℕ) (old new : Merging) (was encoded : Bool) → Reads text old run was rest → 0 < length rest
-    → IsSpan is_black rest word after → IsSpan is_white after next_run next_rest → TakesWord old new run was word encoded → Reads text new next_run encoded next_rest
+    → IsSpan is_nonwhite rest word after → IsSpan is_white after next_run next_rest → TakesWord old new run was word encoded → Reads text new next_run encoded next_rest
 Reads-step text run rest word after next_run next_rest old new was encoded reads some first second takes = record {
   stops = second.stops;
   units = λ ps are e.
       let p : Place = record { word = word; says = takes.says; run = next_run } in
       let is : IsPlace p = record {
         is_word = word_some rest word after reads.stops some first;
-        black = first.passes;
+        nonwhite = first.passes;
         white = second.passes;
         says = takes.says_is;
       } in
       let whole : rest ≡ flat_map place_octets (p ∷ ps) = first.whole ∙ rw (second.whole, e, append_assoc) refl in
       let has = reads.units (p ∷ ps) (is, divides after next_run next_rest ps first.stops second are e, are) whole in
-      let behind : List UnitValue = with_text (cond (encoded && begins_encoded ps) [] next_run) (merged (raw_units ps)) in
-      let same = takes.units behind in
-      let raw : merged (raw_units (p ∷ ps)) ≡ onto (word_unit takes.says word) behind
+      let following : List UnitValue = with_text (cond (encoded && begins_encoded ps) [] next_run) (merged (raw_units ps)) in
+      let same = takes.units following in
+      let raw : merged (raw_units (p ∷ ps)) ≡ onto (word_unit takes.says word) following
       = merged-onto (word_unit takes.says word) (Text (run_text p (begins_encoded ps)) ∷ raw_units ps)
       ∙ rw (← takes.encoded_is) refl in
       rw (same, ← raw, takes.encoded_is) has;

@@ -6,7 +6,7 @@ use Rattle.std.proofs.lemmas.Str.{IsUtf8-nil, IsUtf8-take, IsUtf8-drop, IsUtf8-a
 use Rattle.std.proofs.Math.Seq.{get_or-append_seam}
 use Rattle.std.specs.List.{AllByRecursion, list_all, list_any, flat_map}
 use Rattle.std.specs.Str.{IsUtf8, IsCharBoundary, is_utf8, str_to_ascii_lowercase}
-use Rattle.mail_wire.specs.Octets.{is_white, is_black}
+use Rattle.mail_wire.specs.Octets.{is_white, is_nonwhite}
 use Rattle.mail_wire.specs.Spans.{Stops}
 use Rattle.mail_wire.proofs.OctetLemmas.{white_below}
 use Rattle.encoded_words.specs.Words.{UnitValue, Text, Opaque, IsEncodedWord, Says, SaysWhere, gives_text, unit_of}
@@ -15,7 +15,7 @@ use Rattle.encoded_words.specs.CommentUnits.{TextItem, Plain, Pair, item_spellin
 use Rattle.encoded_words.specs.PhraseUnits.{PhraseItem, Atom, Content, Dot, Separator, IsUtf8Item, PhraseWord, phrase_words, ArePhrasePlaces, HasPhraseUnits, begins_free, has_word}
 use Rattle.encoded_words.specs.Written.{IsWritable, AreWritable}
 use Rattle.encoded_words.proofs.BWords.{ascii_literal}
-use Rattle.encoded_words.proofs.Once.{behind_word}
+use Rattle.encoded_words.proofs.Once.{after_word}
 
 -- What an encoded word says.
 one_of : (a b c d : Bool) → ((a && b) || (c && d)) ≡ true → (b ≡ true) ⊎ (d ≡ true)
@@ -87,8 +87,8 @@ before_ascii a [] ascii u = record { front = rw append-nil at u; rest = IsUtf8-n
 before_ascii a (x ∷ b) ascii u =
     cut_utf8 a (x ∷ b) u (IsCharBoundary-before_ascii (a ++ x ∷ b) (length a) (omega (arith, length-append a (x ∷ b))) (rw (get_or-append_seam a x b 0) ascii))
 
-pub behind_ascii : (x : ℕ) (b : List ℕ) → x < 128 → IsUtf8 (x ∷ b) → IsUtf8 b
-behind_ascii x b ascii u = (cut_utf8 (x ∷ []) b u (IsCharBoundary-after_ascii (x ∷ b) 0 u (omega arith) ascii)).rest
+pub following_ascii : (x : ℕ) (b : List ℕ) → x < 128 → IsUtf8 (x ∷ b) → IsUtf8 b
+following_ascii x b ascii u = (cut_utf8 (x ∷ []) b u (IsCharBoundary-after_ascii (x ∷ b) 0 u (omega arith) ascii)).rest
 
 pub one_ascii : (x : ℕ) → x < 128 → IsUtf8 (x ∷ [])
 one_ascii x h = IsUtf8-from_ascii (x ∷ []) (ascii_literal (x ∷ []) (and_from (ltb x 128) true (lt-ltb x 128 h) refl))
@@ -97,21 +97,21 @@ one_ascii x h = IsUtf8-from_ascii (x ∷ []) (ascii_literal (x ∷ []) (and_from
 pub ends_ascii : (a : List ℕ) (x : ℕ) (rest : List ℕ) → x < 128 → IsUtf8 ((a ++ x ∷ []) ++ rest) → BothUtf8 (a ++ x ∷ []) rest
 ends_ascii a x rest ascii u =
     let cut = before_ascii a (x ∷ rest) ascii (rw (append_assoc a (x ∷ []) rest) at u) in
-    record { front = IsUtf8-append a (x ∷ []) cut.front (one_ascii x ascii); rest = behind_ascii x rest ascii cut.rest }
+    record { front = IsUtf8-append a (x ∷ []) cut.front (one_ascii x ascii); rest = following_ascii x rest ascii cut.rest }
 
 -- a front of ASCII octets
 pub all_ascii : (p : ℕ → Bool) → ((x : ℕ) → p x ≡ true → x < 128) → (a rest : List ℕ) → list_all p a ≡ true → IsUtf8 (a ++ rest) → BothUtf8 a rest
 all_ascii p small [] rest h u = record { front = IsUtf8-nil; rest = u }
 all_ascii p small (x ∷ a) rest h u =
     let parts = and_parts (p x) (list_all p a) h in
-    let more = all_ascii p small a rest parts.1 (behind_ascii x (a ++ rest) (small x parts.0) u) in
+    let more = all_ascii p small a rest parts.1 (following_ascii x (a ++ rest) (small x parts.0) u) in
     record { front = IsUtf8-append (x ∷ []) a (one_ascii x (small x parts.0)) more.front; rest = more.rest }
 
 white_utf8 : (run rest : List ℕ) → list_all is_white run ≡ true → IsUtf8 (run ++ rest) → BothUtf8 run rest
 white_utf8 run rest white u = all_ascii is_white white_below run rest white u
 
 -- Unstructured texts.
-begins_white : (xs : List ℕ) → Stops is_black xs → BeginsAscii xs
+begins_white : (xs : List ℕ) → Stops is_nonwhite xs → BeginsAscii xs
 begins_white [] stops = tt
 begins_white (x ∷ xs) stops = white_below x (not_not (is_white x) stops)
   where
@@ -123,7 +123,7 @@ places_utf8 : (ps : List Place) → ArePlaces ps → IsUtf8 (flat_map place_octe
 places_utf8 [] are u = tt
 places_utf8 (p ∷ ps) are u =
     let rest : List ℕ = flat_map place_octets ps in
-    let word = before_ascii p.word (p.run ++ rest) (begins_white (p.run ++ rest) (behind_word p ps are)) (rw append_assoc at u) in
+    let word = before_ascii p.word (p.run ++ rest) (begins_white (p.run ++ rest) (after_word p ps are)) (rw append_assoc at u) in
     let run = white_utf8 p.run rest are.0.white word.rest in
     (record { word = says_writable p.word p.says are.0.says word.front; run = run.front }, places_utf8 ps are.2 run.rest)
 
@@ -143,7 +143,7 @@ unquoted front (Plain x ∷ items) u =
 unquoted front (Pair x ∷ items) u =
     let rest : List ℕ = flat_map item_spelling items in
     let cut = before_ascii front (92 ∷ x ∷ rest) (omega arith) u in
-    let whole : IsUtf8 (front ++ x ∷ rest) = IsUtf8-append front (x ∷ rest) cut.front (behind_ascii 92 (x ∷ rest) (omega arith) cut.rest) in
+    let whole : IsUtf8 (front ++ x ∷ rest) = IsUtf8-append front (x ∷ rest) cut.front (following_ascii 92 (x ∷ rest) (omega arith) cut.rest) in
     rw (append_assoc front (x ∷ []) (octets_of items)) at (unquoted (front ++ x ∷ []) items (rw (append_assoc front (x ∷ []) rest) whole))
 
 white_octets : (run : List TextItem) → list_all is_white_item run ≡ true → list_all is_white (octets_of run) ≡ true

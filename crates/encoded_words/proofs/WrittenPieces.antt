@@ -196,17 +196,17 @@ words_some w ws are = by ws
     by (v ∷ ws) = merged_some (word_unit w.says (map item_octet w.items)) _ first
 
 all_white : (i : TextItem) (items lead : List TextItem) → is_white_item i ≡ false → list_all is_white_item lead ≡ true → i ∷ items ≡ lead ++ [] → ⊥
-all_white i items [] black white e = cc e
-all_white i items (j ∷ lead) black white e =
+all_white i items [] nonwhite white e = cc e
+all_white i items (j ∷ lead) nonwhite white e =
     let same : i ≡ j = cc e in
-    both_ways (is_white_item j) (ap is_white_item (sym same) ∙ black) (and_parts (is_white_item j) (list_all is_white_item lead) white).0
+    both_ways (is_white_item j) (ap is_white_item (sym same) ∙ nonwhite) (and_parts (is_white_item j) (list_all is_white_item lead) white).0
 
 pub HasCommentUnits-not_empty : (i : TextItem) (items : List TextItem) (units : List UnitValue) → AreTextItems (i ∷ items) → is_white_item i ≡ false → HasCommentUnits (flat_map item_spelling (i ∷ items)) units
     → 0 < length units
-HasCommentUnits-not_empty i items units are black has = by has.words has.are_words (items_once (i ∷ items) (has.lead ++ flat_map word_items has.words) are has.are_items has.whole) has.says
+HasCommentUnits-not_empty i items units are nonwhite has = by has.words has.are_words (items_once (i ∷ items) (has.lead ++ flat_map word_items has.words) are has.are_items has.whole) has.says
   where
     by : (ws : List CommentWord) → AreCommentWords ws → i ∷ items ≡ has.lead ++ flat_map word_items ws → units ≡ merged (raw_units (comment_places ws)) → 0 < length units
-    by [] words same says = absurd (all_white i items has.lead black has.white same)
+    by [] words same says = absurd (all_white i items has.lead nonwhite has.white same)
     by (w ∷ ws) words same says = rw says (words_some w ws words)
 
 -- No text of units is empty, so they have pieces.

@@ -13,7 +13,7 @@ use Rattle.encoded_words.specs.Pieces.{b_word, IsChunk, AreChunks, AreBWords, Ar
 use Rattle.encoded_words.specs.Written.{WriteAll, AreUnits, AreWritable, has_no_backslash}
 use Rattle.encoded_words.proofs.BWords.{b_word-says, chunk_utf8, AreShort-b_words}
 use Rattle.encoded_words.proofs.PlainItems.{plain_octets, plain_spelling, plain_items, plain_no_backslash, no_backslash_parts}
-use Rattle.encoded_words.proofs.EncodedOctets.{encoded_black, encoded_some}
+use Rattle.encoded_words.proofs.EncodedOctets.{encoded_nonwhite, encoded_some}
 use Rattle.encoded_words.proofs.Reading.{merged-onto}
 use Rattle.encoded_words.proofs.WithText.{with_text-append}
 
@@ -80,7 +80,7 @@ ArePlaces-of : (ws : List (List ℕ)) (us : List UnitValue) → Say ws us → Ar
 ArePlaces-of [] us say = tt
 ArePlaces-of (w ∷ ws) [] say = tt
 ArePlaces-of (w ∷ ws) (u ∷ us) say = (
-  record { is_word = encoded_some w u say.0; black = encoded_black w u say.0; white = gap_white ws; says = say.0 },
+  record { is_word = encoded_some w u say.0; nonwhite = encoded_nonwhite w u say.0; white = gap_white ws; says = say.0 },
   gap_divides ws us,
   ArePlaces-of ws us say.1,
 )
@@ -125,10 +125,10 @@ pub HasUnits-written : (us : List UnitValue) (pieces : List (List ℕ)) → AreU
 HasUnits-written us pieces are can writes = subst (HasUnits (join_with_byte 32 pieces)) are (HasUnits-merged us pieces can writes)
 
 -- ... as the text of a comment.
-plain_black : (xs : List ℕ) → list_all (λ x. not (is_white x)) xs ≡ true → list_all (λ i. not (is_white_item i)) (map Plain xs) ≡ true
-plain_black [] h = refl
-plain_black (x ∷ xs) h =
-    let parts = and_parts (not (is_white x)) (list_all (λ x. not (is_white x)) xs) h in rw (parts.0) (plain_black xs parts.1)
+plain_nonwhite : (xs : List ℕ) → list_all (λ x. not (is_white x)) xs ≡ true → list_all (λ i. not (is_white_item i)) (map Plain xs) ≡ true
+plain_nonwhite [] h = refl
+plain_nonwhite (x ∷ xs) h =
+    let parts = and_parts (not (is_white x)) (list_all (λ x. not (is_white x)) xs) h in rw (parts.0) (plain_nonwhite xs parts.1)
 
 plain_some : (xs : List ℕ) → 0 < length xs → 0 < length (map Plain xs)
 plain_some [] h = absurd (omega arith)
@@ -161,7 +161,7 @@ AreCommentWords-of (w ∷ ws) [] none say = tt
 AreCommentWords-of (w ∷ ws) (u ∷ us) none say = (
   record {
     is_word = plain_some w (encoded_some w u say.0);
-    black = plain_black w (encoded_black w u say.0);
+    nonwhite = plain_nonwhite w (encoded_nonwhite w u say.0);
     white = gap_items ws;
     says = rw (plain_no_backslash w (quotes w ws none).0, plain_octets w) say.0;
   },

@@ -1,6 +1,7 @@
 -- The units of a comment's text, which is what stands between two parentheses (RFC 5322, 3.2.2; RFC 2047, 5, rule 2).
 use Rattle.std.specs.Prelude.{◌≡◌, ℕ, ◌<◌, ◌==◌, Bool, true, false, not, List, [], ◌∷◌, ◌++◌, length, map, Option}
 use Rattle.std.specs.List.{flat_map, list_all, list_any}
+use Rattle.mail_wire.specs.Characters.{backslash}
 use Rattle.mail_wire.specs.Octets.{is_white}
 use Rattle.encoded_words.specs.Words.{UnitValue, SaysWhere}
 use Rattle.encoded_words.specs.Units.{Place, raw_units, merged}
@@ -14,13 +15,13 @@ pub data TextItem : Type 0 where
 -- A backslash stands by itself only at the text's end, where there is nothing that it could quote.
 abbrev pub AreTextItems : List TextItem → Type 0
 AreTextItems [] = Unit {0}
-AreTextItems (Plain x ∷ items) = (x ≡ 92 → items ≡ []) × AreTextItems items
+AreTextItems (Plain x ∷ items) = (x ≡ backslash → items ≡ []) × AreTextItems items
 AreTextItems (Pair x ∷ items) = AreTextItems items
 
 -- An octet as it is, or behind a backslash where it is a quoted pair (RFC 5322, 3.2.1).
 abbrev pub item_spelling : TextItem → List ℕ
 item_spelling (Plain x) = x ∷ []
-item_spelling (Pair x) = 92 ∷ x ∷ []
+item_spelling (Pair x) = backslash ∷ x ∷ []
 
 -- The octet that is meant, without the backslash of a quoted pair.
 abbrev pub item_octet : TextItem → ℕ
@@ -29,7 +30,7 @@ item_octet (Pair x) = x
 
 -- A backslash stands there: the octet itself, or that of a quoted pair.
 abbrev pub has_backslash : TextItem → Bool
-has_backslash (Plain x) = x == 92
+has_backslash (Plain x) = x == backslash
 has_backslash (Pair x) = true
 
 -- white by itself; a quoted pair is never white
@@ -50,7 +51,7 @@ word_items w = w.items ++ w.run
 -- a word with a backslash is no encoded word
 pub record IsCommentWord (w : CommentWord) : Type 0 where
   pub is_word : 0 < length w.items
-  pub black : list_all (λ i. not (is_white_item i)) w.items ≡ true
+  pub nonwhite : list_all (λ i. not (is_white_item i)) w.items ≡ true
   pub white : list_all is_white_item w.run ≡ true
   pub says : SaysWhere (not (list_any has_backslash w.items)) (map item_octet w.items) w.says
 

@@ -1,5 +1,6 @@
 -- The units of a phrase (RFC 5322, 3.2.5; RFC 2047, 5, rule 3).
 use Rattle.std.specs.Prelude.{◌≡◌, ℕ, Bool, true, false, ◌&&◌, if◌then◌else◌, List, [], ◌∷◌, ⊤, IsUtf8}
+use Rattle.mail_wire.specs.Characters.{space, dot}
 use Rattle.encoded_words.specs.Words.{UnitValue, SaysWhere}
 use Rattle.encoded_words.specs.Units.{Place, raw_units, merged}
 
@@ -36,7 +37,7 @@ has_word (Dot ∷ items) = true
 
 -- what stands between a word and the next one: a space where they are separated
 abbrev pub gap_before : List PhraseItem → List ℕ
-gap_before items = if begins_free items && has_word items then 32 ∷ [] else []
+gap_before items = if begins_free items && has_word items then space ∷ [] else []
 
 -- a word of a phrase: its octets, whether it may be an encoded word, and the gap behind it
 pub record PhraseWord : Type 0 where
@@ -55,7 +56,7 @@ phrase_words is_free [] = []
 phrase_words is_free (Separator ∷ items) = phrase_words true items
 phrase_words is_free (Atom octets ∷ items) = word_before octets (is_free && begins_free items) items ∷ phrase_words false items
 phrase_words is_free (Content octets ∷ items) = word_before octets false items ∷ phrase_words false items
-phrase_words is_free (Dot ∷ items) = word_before (46 ∷ []) false items ∷ phrase_words false items
+phrase_words is_free (Dot ∷ items) = word_before (dot ∷ []) false items ∷ phrase_words false items
 
 -- A word of a phrase with what it says, as an encoded word where it may be one (RFC 2047, 5, rule 3).
 pub record IsPhrasePlace (w : PhraseWord) (p : Place) : Type 0 where

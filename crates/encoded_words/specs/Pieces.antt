@@ -2,6 +2,7 @@
 use Rattle.std.specs.Prelude.{◌≡◌, ℕ, ◌<◌, ◌≤◌, List, [], ◌∷◌, ◌++◌, length, map, codes}
 use Rattle.std.specs.List.{concat, join_with_byte}
 use Rattle.std.specs.Str.{IsAscii, IsCharBoundary}
+use Rattle.mail_wire.specs.Characters.{space}
 use Rattle.encoded_words.specs.Units.{HasUnits, with_text}
 use Rattle.base64.specs.Engines.{standard}
 use Rattle.base64.specs.GeneralPurpose.{encode_of}
@@ -48,4 +49,4 @@ AreShort (word ∷ words) = (length word ≤ 75) × IsAscii word × AreShort wor
 -- the words, with a space between two, are short, and their units are the one text
 pub record ReadBack (text : List ℕ) (words : List (List ℕ)) : Type 0 where
   pub short : AreShort words
-  pub units : HasUnits (join_with_byte 32 words) (with_text text [])
+  pub units : HasUnits (join_with_byte space words) (with_text text [])

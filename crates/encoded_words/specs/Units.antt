@@ -2,7 +2,7 @@
 -- places of an unstructured text (RFC 2047, 5, rule 1).
 use Rattle.std.specs.Prelude.{◌≡◌, ℕ, ◌<◌, Bool, true, false, ◌&&◌, if◌then◌else◌, List, [], ◌∷◌, ◌++◌, length, Option, Some, None, is_some}
 use Rattle.std.specs.List.{flat_map, list_all}
-use Rattle.mail_wire.specs.Octets.{is_white, is_black}
+use Rattle.mail_wire.specs.Octets.{is_white, is_nonwhite}
 use Rattle.encoded_words.specs.Words.{UnitValue, Text, Opaque, Says}
 
 -- a word of a text, what it says where it is an encoded word, and the run of white behind it
@@ -18,7 +18,7 @@ place_octets p = p.word ++ p.run
 -- A word of one or more octets that aren't white, what it says as an encoded word, if it is one, and a run of white.
 pub record IsPlace (p : Place) : Type 0 where
   pub is_word : 0 < length p.word
-  pub black : list_all is_black p.word ≡ true
+  pub nonwhite : list_all is_nonwhite p.word ≡ true
   pub white : list_all is_white p.run ≡ true
   pub says : Says p.word p.says
 

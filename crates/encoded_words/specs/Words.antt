@@ -3,6 +3,7 @@ use Rattle.std.specs.Prelude.{◌≡◌, ◌≢◌, ℕ, ◌+◌, ◌*◌, ◌<�
 use Rattle.std.specs.List.{AllByRecursion, flat_map, list_all, list_any}
 use Rattle.std.specs.Char.{digit_value, to_ascii_uppercase}
 use Rattle.std.specs.Str.{bytes_eq, is_utf8, str_to_ascii_lowercase}
+use Rattle.mail_wire.specs.Characters.{space, asterisk, equals_sign, question_mark, underscore}
 use Rattle.base64.specs.Engines.{standard}
 use Rattle.base64.specs.GeneralPurpose.{IsBytes, encode_of}
 
@@ -16,7 +17,7 @@ is_token_octet b = is_visible b && not (list_any (λ s. b == s) (codes "()<>@,;:
 
 -- an octet of a word's text: any visible one but the question mark (RFC 2047, 2, encoded-text)
 abbrev pub is_text_octet : ℕ → Bool
-is_text_octet b = is_visible b && not (b == 63)
+is_text_octet b = is_visible b && not (b == question_mark)
 
 -- a charset, or a language
 abbrev pub IsName : List ℕ → Type 0
@@ -40,17 +41,17 @@ pub data QItem : Type 0 where
 abbrev pub IsQItem : QItem → Type 0
 IsQItem Space = Unit {0}
 IsQItem (Escape high low) = (digit_value high < 16) × (digit_value low < 16)
-IsQItem (Plain b) = (b ≢ 61) × (b ≢ 95)
+IsQItem (Plain b) = (b ≢ equals_sign) × (b ≢ underscore)
 
 -- How a Q text spells it: `_` for a space, `=` and two digits, or the octet itself (RFC 2047, 4.2).
 abbrev pub q_spelling : QItem → List ℕ
-q_spelling Space = 95 ∷ []
-q_spelling (Escape high low) = 61 ∷ high ∷ low ∷ []
+q_spelling Space = underscore ∷ []
+q_spelling (Escape high low) = equals_sign ∷ high ∷ low ∷ []
 q_spelling (Plain b) = b ∷ []
 
 -- The octet that is spelled (RFC 2047, 4.2).
 abbrev pub q_octet : QItem → ℕ
-q_octet Space = 32
+q_octet Space = space
 q_octet (Escape high low) = 16 * digit_value high + digit_value low
 q_octet (Plain b) = b
 
@@ -81,11 +82,12 @@ pub record WordParts : Type 0 where
 -- A star and the language behind a charset's name, where there is a language (RFC 2231, 5).
 abbrev pub language_suffix : Option (List ℕ) → List ℕ
 language_suffix None = []
-language_suffix (Some language) = 42 ∷ language
+language_suffix (Some language) = asterisk ∷ language
 
 -- `=?charset*language?letter?text?=` (RFC 2047, 2; RFC 2231, 5)
 abbrev pub word_of : WordParts → List ℕ
-word_of p = 61 ∷ 63 ∷ (p.charset ++ (language_suffix p.language ++ 63 ∷ p.letter ∷ 63 ∷ (p.text ++ 63 ∷ 61 ∷ [])))
+word_of p = equals_sign ∷ question_mark
+    ∷ (p.charset ++ (language_suffix p.language ++ question_mark ∷ p.letter ∷ question_mark ∷ (p.text ++ question_mark ∷ equals_sign ∷ [])))
 
 -- the word has these parts, and at most 75 octets (RFC 2047, 2)
 pub record HasWordParts (word : List ℕ) (p : WordParts) : Type 0 where

@@ -1,6 +1,7 @@
 -- How units are written: each text as its B words, each opaque unit as the word that it came from.
 use Rattle.std.specs.Prelude.{◌≡◌, ℕ, ◌==◌, Bool, not, List, [], ◌∷◌, ◌++◌, IsUtf8}
 use Rattle.std.specs.List.{AllByRecursion, list_all}
+use Rattle.mail_wire.specs.Characters.{backslash}
 use Rattle.encoded_words.specs.Words.{UnitValue, Text, Opaque, IsEncodedWord}
 use Rattle.encoded_words.specs.Units.{merged}
 use Rattle.encoded_words.specs.CommentUnits.{HasCommentUnits}
@@ -35,4 +36,4 @@ AreWritable us = AllByRecursion IsWritable us
 
 -- no octet quotes another, so a comment can hold the octets as they are
 abbrev pub has_no_backslash : List ℕ → Bool
-has_no_backslash octets = list_all (λ x. not (x == 92)) octets
+has_no_backslash octets = list_all (λ x. not (x == backslash)) octets

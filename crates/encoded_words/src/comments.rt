@@ -1,10 +1,10 @@
 //! The units of a comment's text are read, or written as they are read.
 ghost use Rattle.std.specs.Prelude.{◌≡◌, [], map, IfOk, OnOk, IfSome, IfNone, IsUtf8};
-ghost use Rattle.mail_wire.specs.Octets.{is_black};
+ghost use Rattle.mail_wire.specs.Octets.{is_nonwhite};
 ghost use Rattle.mail_wire.specs.Spans.{Stops};
 ghost use Rattle.encoded_words.specs.private.Values.{value_of};
 ghost use Rattle.encoded_words.specs.CommentUnits.{HasCommentUnits};
-ghost use Rattle.encoded_words.specs.private.CommentReading.{BeginsOctetItem, BeginsBlack, SplitsWord, GivesOctets, TakesCommentWord, TakesFirst};
+ghost use Rattle.encoded_words.specs.private.CommentReading.{BeginsOctetItem, BeginsNonwhite, SplitsWord, GivesOctets, TakesCommentWord, TakesFirst};
 ghost use Rattle.encoded_words.specs.Folding.{AddsLines};
 ghost use Rattle.encoded_words.specs.Written.{WritesCommentText, has_no_backslash as has_no_backslash_of};
 
@@ -23,18 +23,18 @@ fn first_item(octets: &[u8]) -> Option<(u8, &[u8])>
         return None;
     };
     if *octet == b'\\' {
-        let [quoted, behind @ ..] = after else {
+        let [quoted, following @ ..] = after else {
             return Some((*octet, after));
         };
-        return Some((*quoted, behind));
+        return Some((*quoted, following));
     }
     Some((*octet, after))
 }
 
 // What follows the first octet or quoted pair, where white doesn't come first.
-fn behind_black(octets: &[u8]) -> Option<&[u8]>
-    ensures found { IfSome result (λ rest. BeginsBlack octets.now rest.now) }
-    ensures none { IfNone result (Stops is_black octets.now) }
+fn after_nonwhite(octets: &[u8]) -> Option<&[u8]>
+    ensures found { IfSome result (λ rest. BeginsNonwhite octets.now rest.now) }
+    ensures none { IfNone result (Stops is_nonwhite octets.now) }
 {
     let [octet, ..] = octets else {
         return None;
@@ -53,7 +53,7 @@ fn split_word(octets: &[u8]) -> (&[u8], &[u8])
     ensures { SplitsWord octets.now result.0.now result.1.now }
 {
     let mut rest = octets;
-    while let Some(after) = behind_black(rest) {
+    while let Some(after) = after_nonwhite(rest) {
         rest = after;
     }
     octets.split_at(octets.len() - rest.len())

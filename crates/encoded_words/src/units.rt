@@ -2,7 +2,7 @@
 ghost use Rattle.std.specs.Prelude.{◌≡◌, [], ◌∷◌, ◌++◌, map, if◌then◌else◌, position, IfOk, OnOk};
 ghost use Rattle.encoded_words.specs.private.Values.{value_of};
 ghost use Rattle.encoded_words.specs.Units.{with_text, HasUnits};
-ghost use Rattle.mail_wire.specs.Octets.{is_white as is_white_of, is_black};
+ghost use Rattle.mail_wire.specs.Octets.{is_white as is_white_of, is_nonwhite};
 ghost use Rattle.mail_wire.specs.Spans.{IsSpan};
 ghost use Rattle.encoded_words.specs.private.Merging.{IsMerging, done_values, AddsUnit, TakesWord};
 
@@ -21,7 +21,7 @@ fn find_white(octets: &[u8]) -> Option<usize>
 
 // The longest front without white, and what follows it.
 fn split_word(octets: &[u8]) -> (&[u8], &[u8])
-    ensures { IsSpan is_black octets.now result.0.now result.1.now }
+    ensures { IsSpan is_nonwhite octets.now result.0.now result.1.now }
 {
     match find_white(octets) {
         Some(at) => octets.split_at(at),

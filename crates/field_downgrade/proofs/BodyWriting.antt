@@ -80,9 +80,9 @@ pub record WritesSoFar (body start made : List ℕ) (copied : Stretch) (rest : L
   pub rest_is : rest ≡ flat_map word_octets left
   pub on : WritesOn words start made before left
 
-pub body_start : (body lead all start made behind : List ℕ) (copied : Stretch) → IsFolded body → IsUtf8 body → IsSpan is_gap_octet body lead all → SplitsLow all copied behind
-    → made ≡ start ++ made_body (piece_where 32 copied.octets.now) → WritesSoFar body start made copied behind
-body_start body lead all start made behind copied folded utf8 span splits made_is =
+pub body_start : (body lead all start made following : List ℕ) (copied : Stretch) → IsFolded body → IsUtf8 body → IsSpan is_gap_octet body lead all → SplitsLow all copied following
+    → made ≡ start ++ made_body (piece_where 32 copied.octets.now) → WritesSoFar body start made copied following
+body_start body lead all start made following copied folded utf8 span splits made_is =
     let found = HasWords-some body folded utf8 in
     let has = found.1 in
     let same = span_once is_gap_octet lead has.lead all (flat_map word_octets found.0) span.passes has.is_lead.octets span.stops (words_first found.0 has.are_words) (sym span.whole ∙ has.whole) in
@@ -101,28 +101,28 @@ body_start body lead all start made behind copied folded utf8 span splits made_i
     }
 
 -- what the next segment is
-pub record Turn (body start made : List ℕ) (copied core next_copied : Stretch) (rest behind next : List ℕ) : Type 0 where
+pub record Turn (body start made : List ℕ) (copied core next_copied : Stretch) (rest following next : List ℕ) : Type 0 where
   pub so : WritesSoFar body start made copied rest
-  pub split : IsSplitCore so.left core behind
+  pub split : IsSplitCore so.left core following
   pub low : IsSplitLow split.others next_copied next
   pub can : CanWrite so.before split.core_words low.copied
 
-pub turn : (body start made : List ℕ) (copied core next_copied : Stretch) (rest behind next : List ℕ) → WritesSoFar body start made copied rest → 0 < length rest → SplitsFirst rest core behind
-    → SplitsLow behind next_copied next → Turn body start made copied core next_copied rest behind next
-turn body start made copied core next_copied rest behind next so some first low =
+pub turn : (body start made : List ℕ) (copied core next_copied : Stretch) (rest following next : List ℕ) → WritesSoFar body start made copied rest → 0 < length rest → SplitsFirst rest core following
+    → SplitsLow following next_copied next → Turn body start made copied core next_copied rest following next
+turn body start made copied core next_copied rest following next so some first low =
     let are : AreWords so.left = AreWords-back so.before so.left so.on.are in
     let s = first so.left (record { are = are; whole = so.rest_is }) (some_words so.left rest so.rest_is some) (WritesOn-begins so.words so.before so.left start made so.on) in
     let others : AreWords s.others = AreWords-back s.core_words s.others (subst AreWords s.splits.whole are) in
     let l = low s.others (record { are = others; whole = s.rest_is }) in
     record { so = so; split = s; low = l; can = CanWrite-from so.words so.before so.left s.core_words s.others l.copied l.others start made so.on s.splits l.splits }
 
-pub turn_can : (body start made : List ℕ) (copied core next_copied : Stretch) (rest behind next : List ℕ) → Turn body start made copied core next_copied rest behind next → CanWriteStretches copied core next_copied
-turn_can body start made copied core next_copied rest behind next t =
+pub turn_can : (body start made : List ℕ) (copied core next_copied : Stretch) (rest following next : List ℕ) → Turn body start made copied core next_copied rest following next → CanWriteStretches copied core next_copied
+turn_can body start made copied core next_copied rest following next t =
     record { before_words = t.so.before; core_words = t.split.core_words; copied_words = t.low.copied; before_is = t.so.is; core_is = t.split.is; copied_is = t.low.is; can = t.can }
 
-pub turn_next : (body start made new : List ℕ) (copied core next_copied : Stretch) (rest behind next : List ℕ) → Turn body start made copied core next_copied rest behind next
+pub turn_next : (body start made new : List ℕ) (copied core next_copied : Stretch) (rest following next : List ℕ) → Turn body start made copied core next_copied rest following next
     → WritesStretches copied core next_copied made new → WritesSoFar body start new next_copied next
-turn_next body start made new copied core next_copied rest behind next t writes =
+turn_next body start made new copied core next_copied rest following next t writes =
     let segment = writes t.so.before t.split.core_words t.low.copied t.so.is t.split.is t.low.is t.can in
     record {
       words = t.so.words;
@@ -140,15 +140,15 @@ core_some [] begins are = cc begins
 core_some (w ∷ core) begins are =
     let some = are.0.some in omega (arith, length-append (w.octets ++ w.gap) (flat_map word_octets core), length-append w.octets w.gap)
 
-pub turn_smaller : (body start made : List ℕ) (copied core next_copied : Stretch) (rest behind next : List ℕ) → Turn body start made copied core next_copied rest behind next → length next < length rest
-turn_smaller body start made copied core next_copied rest behind next t =
+pub turn_smaller : (body start made : List ℕ) (copied core next_copied : Stretch) (rest following next : List ℕ) → Turn body start made copied core next_copied rest following next → length next < length rest
+turn_smaller body start made copied core next_copied rest following next t =
     let c : List Word = t.split.core_words in
     let some = core_some c t.split.splits.begins (core_are t.so.before c t.low.copied t.can) in
-    let first : rest ≡ flat_map word_octets c ++ behind
+    let first : rest ≡ flat_map word_octets c ++ following
     = t.so.rest_is ∙ ap (flat_map word_octets) t.split.splits.whole ∙ flat_map-append word_octets c t.split.others ∙ ap (λ r. flat_map word_octets c ++ r) (sym t.split.rest_is) in
-    let second : behind ≡ flat_map word_octets t.low.copied ++ next
+    let second : following ≡ flat_map word_octets t.low.copied ++ next
     = t.split.rest_is ∙ ap (flat_map word_octets) t.low.splits.whole ∙ flat_map-append word_octets t.low.copied t.low.others ∙ ap (λ r. flat_map word_octets t.low.copied ++ r) (sym t.low.rest_is) in
-    omega (arith, some, ap length first, ap length second, length-append (flat_map word_octets c) behind, length-append (flat_map word_octets t.low.copied) next)
+    omega (arith, some, ap length first, ap length second, length-append (flat_map word_octets c) following, length-append (flat_map word_octets t.low.copied) next)
 
 pub body_end : (body start made : List ℕ) (copied : Stretch) (rest : List ℕ) → WritesSoFar body start made copied rest → length rest ≡ 0 → WritesUnstructuredBody body start made
 body_end body start made copied rest so none =

@@ -18,7 +18,7 @@ use Rattle.utf8_fields.specs.Parts.{FieldParts, field_octets, HasParts, HasValue
 use Rattle.utf8_fields.proofs.OneValue.{IsTrimmed-once}
 use Rattle.encoded_words.proofs.WritableUnits.{all_ascii, before_ascii, BeginsAscii}
 use Rattle.param_2231.specs.GlobalTypes.{NamesGlobal, with_rfc822}
-use Rattle.param_2231.proofs.GlobalLemmas.{IsGlobalAt, global_at, NamesGlobal-once, with_rfc822-stops, with_rfc822-stops_behind}
+use Rattle.param_2231.proofs.GlobalLemmas.{IsGlobalAt, global_at, NamesGlobal-once, with_rfc822-stops, with_rfc822-stops_after}
 use Rattle.field_downgrade.specs.Stands.{with_body}
 use Rattle.field_downgrade.specs.GlobalBodies.{ChangesGlobal}
 use Rattle.field_downgrade.proofs.GlobalBodiesShown.{AreAtom, atom_plain, cut_atom, begins_shown, place_once}
@@ -105,8 +105,8 @@ shown_after body changed is c =
     ∙ ap (λ r. (c.has.lead ++ take c.at c.value) ++ r) (without_ends-append c.word c.after ∙ ap (λ r. r ++ without_ends c.after) (keeps_all c.word (atom_plain c.word p.atom) ∙ word)) in
     let both : (c.has.lead ++ take c.at c.value) ++ (g.word ++ without_ends c.after) ≡ (c.has.lead ++ take c.at c.value) ++ (g.word ++ (g.rest ++ c.has.trail)) =
     sym whole ∙ shown_value body c.value is c.has ∙ split in
-    let behind = append_cancel_left (c.has.lead ++ take c.at c.value) (g.word ++ without_ends c.after) (g.word ++ (g.rest ++ c.has.trail)) both in
-    append_cancel_left g.word (without_ends c.after) (g.rest ++ c.has.trail) behind ∙ ap (λ r. r ++ c.has.trail) (sym rest)
+    let following = append_cancel_left (c.has.lead ++ take c.at c.value) (g.word ++ without_ends c.after) (g.word ++ (g.rest ++ c.has.trail)) both in
+    append_cancel_left g.word (without_ends c.after) (g.rest ++ c.has.trail) following ∙ ap (λ r. r ++ c.has.trail) (sym rest)
   where
     rest_is : (value : List ℕ) (at : ℕ) (g : IsGlobalAt value at) → drop (at + 6) value ≡ g.rest
     rest_is value at g =
@@ -129,7 +129,7 @@ ChangesGlobal-value body changed is c =
       lead_passes = c.has.lead_passes;
       trail_passes = c.has.trail_passes;
       begins = with_rfc822-stops c.value c.at c.names c.has.begins;
-      ends = with_rfc822-stops_behind c.value c.at c.names c.has.ends;
+      ends = with_rfc822-stops_after c.value c.at c.names c.has.ends;
       whole = unfolded-folded changed (ChangesGlobal-folded body changed is c) ∙ shown ∙ joined;
     }
 
@@ -149,9 +149,9 @@ pub ChangesGlobal-utf8 : (body changed : List ℕ) → IsFolded body → Changes
 ChangesGlobal-utf8 body changed is c utf8 =
     let p = cut_at body changed is c in
     let front = before_ascii c.before (c.word ++ c.after) (begins_ascii c.word c.after p.some p.ascii) (subst IsUtf8 c.whole utf8) in
-    let behind = all_ascii is_ascii ascii_small c.word c.after p.ascii front.rest in
+    let following = all_ascii is_ascii ascii_small c.word c.after p.ascii front.rest in
     let new : IsUtf8 (codes "rfc822") = IsUtf8-from_ascii (codes "rfc822") (ascii_literal (codes "rfc822") refl) in
-    subst IsUtf8 (sym c.changed_is) (IsUtf8-append c.before (codes "rfc822" ++ c.after) front.front (IsUtf8-append (codes "rfc822") c.after new behind.rest))
+    subst IsUtf8 (sym c.changed_is) (IsUtf8-append c.before (codes "rfc822" ++ c.after) front.front (IsUtf8-append (codes "rfc822") c.after new following.rest))
 
 pub ChangesGlobal-parts : (octets : List ℕ) (f : FieldParts) (changed : List ℕ) → HasParts octets f → ChangesGlobal f.body changed → HasParts (field_octets (with_body f changed)) (with_body f changed)
 ChangesGlobal-parts octets f changed has c = record {

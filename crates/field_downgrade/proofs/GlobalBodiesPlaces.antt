@@ -23,11 +23,11 @@ use Rattle.field_downgrade.proofs.GlobalBodiesShown.{HasAtomAt, find_atom, Begin
 pub front_is : (value : List ℕ) (at : ℕ) (g : IsGlobalAt value at) → take at value ≡ g.front
 front_is value at g = ap (take at) g.whole ∙ take_at g.front (g.word ++ g.rest) at (sym g.at_is)
 
-pub behind_is : (value : List ℕ) (at : ℕ) (g : IsGlobalAt value at) → drop at value ≡ g.word ++ g.rest
-behind_is value at g = ap (drop at) g.whole ∙ drop_at g.front (g.word ++ g.rest) at (sym g.at_is)
+pub following_is : (value : List ℕ) (at : ℕ) (g : IsGlobalAt value at) → drop at value ≡ g.word ++ g.rest
+following_is value at g = ap (drop at) g.whole ∙ drop_at g.front (g.word ++ g.rest) at (sym g.at_is)
 
 pub word_is : (value : List ℕ) (at : ℕ) (g : IsGlobalAt value at) → take 6 (drop at value) ≡ g.word
-word_is value at g = ap (take 6) (behind_is value at g) ∙ take_at g.word g.rest 6 g.size
+word_is value at g = ap (take 6) (following_is value at g) ∙ take_at g.word g.rest 6 g.size
 
 pub word_some : (value : List ℕ) (at : ℕ) (g : IsGlobalAt value at) → 0 < length g.word
 word_some value at g = omega (arith, g.size)
@@ -76,8 +76,8 @@ ChangesGlobal-some body value at is has names =
 abbrev pub is_lead : ℕ → Bool
 is_lead x = is_white x || is_line_end x
 
-lead_black : (x : ℕ) → is_lead x ≡ false → is_white x ≡ false
-lead_black x h = grind (arith, nat_tests)
+lead_nonwhite : (x : ℕ) → is_lead x ≡ false → is_white x ≡ false
+lead_nonwhite x h = grind (arith, nat_tests)
 
 lead_shown : (x : ℕ) → is_lead x ≡ false → is_line_end x ≡ false
 lead_shown x h = grind (arith, nat_tests)
@@ -93,59 +93,59 @@ white_shown (x ∷ xs) all = by (is_line_end x) refl (and_parts (is_lead x) (lis
     by true is lead more = rw (is) more
     by false is lead more = rw (is) (and_from (is_white x) (list_all is_white (without_ends xs)) (lead_white x lead is) more)
 
-begins_behind : (behind : List ℕ) → Stops is_lead behind → BeginsText behind × Stops is_white (without_ends behind)
-begins_behind [] stops = (tt, tt)
-begins_behind (x ∷ behind) stops = ((lead_black x stops, lead_shown x stops), rw (lead_shown x stops) (lead_black x stops))
+begins_after : (following : List ℕ) → Stops is_lead following → BeginsText following × Stops is_white (without_ends following)
+begins_after [] stops = (tt, tt)
+begins_after (x ∷ following) stops = ((lead_nonwhite x stops, lead_shown x stops), rw (lead_shown x stops) (lead_nonwhite x stops))
 
-pub record IsBehindLead (lead behind shown rest : List ℕ) : Type 0 where
+pub record IsAfterLead (lead following shown rest : List ℕ) : Type 0 where
   pub lead_folded : IsFolded lead
-  pub behind_folded : IsFolded behind
+  pub following_folded : IsFolded following
   pub lead_is : without_ends lead ≡ shown
-  pub behind_is : without_ends behind ≡ rest
+  pub following_is : without_ends following ≡ rest
 
-pub behind_lead : (body lead behind shown rest : List ℕ) → IsFolded body → IsSpan is_lead body lead behind → without_ends body ≡ shown ++ rest → list_all is_white shown ≡ true → Stops is_white rest
-    → IsBehindLead lead behind shown rest
-behind_lead body lead behind shown rest is span e white stops =
-    let begins = begins_behind behind span.stops in
-    let folded = IsFolded-cut lead behind (subst IsFolded span.whole is) begins.0 in
-    let both : without_ends lead ++ without_ends behind ≡ shown ++ rest = sym (without_ends-append lead behind) ∙ sym (ap without_ends span.whole) ∙ e in
-    let same = span_once is_white (without_ends lead) shown (without_ends behind) rest (white_shown lead span.passes) white begins.1 stops both in
-    record { lead_folded = folded.0; behind_folded = folded.1; lead_is = same.0; behind_is = same.1 }
+pub after_lead : (body lead following shown rest : List ℕ) → IsFolded body → IsSpan is_lead body lead following → without_ends body ≡ shown ++ rest → list_all is_white shown ≡ true → Stops is_white rest
+    → IsAfterLead lead following shown rest
+after_lead body lead following shown rest is span e white stops =
+    let begins = begins_after following span.stops in
+    let folded = IsFolded-cut lead following (subst IsFolded span.whole is) begins.0 in
+    let both : without_ends lead ++ without_ends following ≡ shown ++ rest = sym (without_ends-append lead following) ∙ sym (ap without_ends span.whole) ∙ e in
+    let same = span_once is_white (without_ends lead) shown (without_ends following) rest (white_shown lead span.passes) white begins.1 stops both in
+    record { lead_folded = folded.0; following_folded = folded.1; lead_is = same.0; following_is = same.1 }
 
 -- ---- the place as the code counts it
 
 -- whatever octet stands behind so many that are shown stands there
-abbrev pub IsPlaceBehind : List ℕ → ℕ → ℕ → Type 0
-IsPlaceBehind octets count place = (before rest : List ℕ) (x : ℕ) → octets ≡ before ++ x ∷ rest → is_line_end x ≡ false → length (without_ends before) ≡ count → place ≡ length before
+abbrev pub IsPlaceAfter : List ℕ → ℕ → ℕ → Type 0
+IsPlaceAfter octets count place = (before rest : List ℕ) (x : ℕ) → octets ≡ before ++ x ∷ rest → is_line_end x ≡ false → length (without_ends before) ≡ count → place ≡ length before
 
-pub record IsCounted (body behind lead : List ℕ) (place : ℕ) : Type 0 where
-  pub room : 6 ≤ length (drop place behind)
-  pub changes : ChangesGlobal body ((lead ++ take place behind) ++ (codes "rfc822" ++ drop 6 (drop place behind)))
+pub record IsCounted (body following lead : List ℕ) (place : ℕ) : Type 0 where
+  pub room : 6 ≤ length (drop place following)
+  pub changes : ChangesGlobal body ((lead ++ take place following) ++ (codes "rfc822" ++ drop 6 (drop place following)))
 
 first_of : (word after : List ℕ) → 0 < length word → (x : ℕ) × (more : List ℕ) × (word ++ after ≡ x ∷ more)
 first_of [] after some = absurd (omega (arith, some))
 first_of (x ∷ word) after some = (x, word ++ after, refl)
 
-pub counted : (body lead behind value : List ℕ) (at place : ℕ) → IsFolded body → HasValue body value → NamesGlobal value at → IsSpan is_lead body lead behind → IsPlaceBehind behind at place
-    → IsCounted body behind lead place
-counted body lead behind value at place is has names span found =
+pub counted : (body lead following value : List ℕ) (at place : ℕ) → IsFolded body → HasValue body value → NamesGlobal value at → IsSpan is_lead body lead following → IsPlaceAfter following at place
+    → IsCounted body following lead place
+counted body lead following value at place is has names span found =
     let g = global_at value at names in
-    let b = behind_lead body lead behind has.lead (value ++ has.trail) is span (shown_value body value is has) has.lead_passes (value_stops value has.trail at g has.begins) in
-    let p = value_place behind [] value has.trail at b.behind_folded g b.behind_is in
+    let b = after_lead body lead following has.lead (value ++ has.trail) is span (shown_value body value is has) has.lead_passes (value_stops value has.trail at g has.begins) in
+    let p = value_place following [] value has.trail at b.following_folded g b.following_is in
     let first = first_of g.word p.after (word_some value at g) in
     let octet : is_line_end first.0 ≡ false = begins_octet (g.word ++ p.after) first.0 first.1 first.2 (begins_shown g.word p.after (word_some value at g) g.atom) in
     let size : length (without_ends p.before) ≡ at = ap length p.front_is ∙ ap length (front_is value at g) ∙ sym g.at_is in
     let place_is = found p.before first.1 first.0 (p.whole ∙ ap (λ r. p.before ++ r) first.2) octet size in
-    let front : take place behind ≡ p.before = ap (take place) p.whole ∙ take_at p.before (g.word ++ p.after) place (sym place_is) in
-    let rest : drop place behind ≡ g.word ++ p.after = ap (drop place) p.whole ∙ drop_at p.before (g.word ++ p.after) place (sym place_is) in
-    let after : drop 6 (drop place behind) ≡ p.after = ap (drop 6) rest ∙ drop_at g.word p.after 6 g.size in
+    let front : take place following ≡ p.before = ap (take place) p.whole ∙ take_at p.before (g.word ++ p.after) place (sym place_is) in
+    let rest : drop place following ≡ g.word ++ p.after = ap (drop place) p.whole ∙ drop_at p.before (g.word ++ p.after) place (sym place_is) in
+    let after : drop 6 (drop place following) ≡ p.after = ap (drop 6) rest ∙ drop_at g.word p.after 6 g.size in
     let whole : body ≡ (lead ++ p.before) ++ (g.word ++ p.after) = span.whole ∙ ap (λ r. lead ++ r) p.whole ∙ sym (append_assoc lead p.before (g.word ++ p.after)) in
     let shown : without_ends (lead ++ p.before) ≡ has.lead ++ take at value =
     without_ends-append lead p.before ∙ ap (λ r. r ++ without_ends p.before) b.lead_is ∙ ap (λ r. has.lead ++ r) p.front_is in
     let made = ChangesGlobal-made body value at (lead ++ p.before) p.after is has names (IsFolded-append lead p.before b.lead_folded p.before_folded) whole shown in
     record {
       room = omega (arith, ap length rest, length-append g.word p.after, g.size);
-      changes = subst (λ f. ChangesGlobal body ((lead ++ f) ++ (codes "rfc822" ++ drop 6 (drop place behind)))) (sym front)
+      changes = subst (λ f. ChangesGlobal body ((lead ++ f) ++ (codes "rfc822" ++ drop 6 (drop place following)))) (sym front)
           (subst (λ a. ChangesGlobal body ((lead ++ p.before) ++ (codes "rfc822" ++ a))) (sym after) made);
     }
   where
@@ -154,14 +154,14 @@ counted body lead behind value at place is has names span found =
     begins_octet (y ∷ xs) x more e begins = let same : y ≡ x = cc e in subst (λ z. is_line_end z ≡ false) same begins
 
 -- what is pushed, piece by piece
-pub pushed_changes : (body lead behind front rest after made one two three : List ℕ) (place : ℕ) → IsCounted body behind lead place → front ≡ take place behind → rest ≡ drop place behind
+pub pushed_changes : (body lead following front rest after made one two three : List ℕ) (place : ℕ) → IsCounted body following lead place → front ≡ take place following → rest ≡ drop place following
     → after ≡ drop 6 rest → made ≡ lead → one ≡ made ++ front → two ≡ one ++ codes "rfc822" → three ≡ two ++ after → ChangesGlobal body three
-pushed_changes body lead behind front rest after made one two three place counts front_is rest_is after_is made_is one_is two_is three_is =
-    let begins : one ≡ lead ++ take place behind = one_is ∙ ap (λ m. m ++ front) made_is ∙ ap (λ f. lead ++ f) front_is in
-    let ends : after ≡ drop 6 (drop place behind) = after_is ∙ ap (drop 6) rest_is in
-    let whole : three ≡ (lead ++ take place behind) ++ (codes "rfc822" ++ drop 6 (drop place behind)) =
-    three_is ∙ ap (λ t. t ++ after) (two_is ∙ ap (λ o. o ++ codes "rfc822") begins) ∙ append_assoc (lead ++ take place behind) (codes "rfc822") after
-    ∙ ap (λ a. (lead ++ take place behind) ++ (codes "rfc822" ++ a)) ends in
+pushed_changes body lead following front rest after made one two three place counts front_is rest_is after_is made_is one_is two_is three_is =
+    let begins : one ≡ lead ++ take place following = one_is ∙ ap (λ m. m ++ front) made_is ∙ ap (λ f. lead ++ f) front_is in
+    let ends : after ≡ drop 6 (drop place following) = after_is ∙ ap (drop 6) rest_is in
+    let whole : three ≡ (lead ++ take place following) ++ (codes "rfc822" ++ drop 6 (drop place following)) =
+    three_is ∙ ap (λ t. t ++ after) (two_is ∙ ap (λ o. o ++ codes "rfc822") begins) ∙ append_assoc (lead ++ take place following) (codes "rfc822") after
+    ∙ ap (λ a. (lead ++ take place following) ++ (codes "rfc822" ++ a)) ends in
     subst (ChangesGlobal body) (sym whole) counts.changes
 
 -- ---- counting octet by octet
@@ -211,7 +211,7 @@ Counts-octet octets count at left octet counts here kept some = record { onward 
       | inr past ↦ absurd (let none : drop at before ≡ [] = drop_all at before past in omega (arith, some, old.1, ap (λ d. length (without_ends d)) none))
     ]
 
-pub Counts-found : (octets : List ℕ) (count at left octet : ℕ) → Counts octets count at left → octet ≡ get_or octets at 0 → is_line_end octet ≡ false → left ≡ 0 → IsPlaceBehind octets count at
+pub Counts-found : (octets : List ℕ) (count at left octet : ℕ) → Counts octets count at left → octet ≡ get_or octets at 0 → is_line_end octet ≡ false → left ≡ 0 → IsPlaceAfter octets count at
 Counts-found octets count at left octet counts here kept none before rest x e shown size =
     let old = counts.onward before rest x e shown size in
     elim (cases_lt at (length before)) [
@@ -219,7 +219,7 @@ Counts-found octets count at left octet counts here kept none before rest x e sh
       | inr past ↦ omega (arith, past, old.0)
     ]
 
-pub Counts-all : (octets : List ℕ) (count at left : ℕ) → Counts octets count at left → length octets ≤ at → IsPlaceBehind octets count at
+pub Counts-all : (octets : List ℕ) (count at left : ℕ) → Counts octets count at left → length octets ≤ at → IsPlaceAfter octets count at
 Counts-all octets count at left counts end before rest x e shown size =
     let old = counts.onward before rest x e shown size in
     absurd (omega (arith, end, old.0, ap length e, length-append before (x ∷ rest)))

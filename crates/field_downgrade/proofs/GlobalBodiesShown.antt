@@ -13,8 +13,8 @@ use Rattle.field_tokens.specs.TokenOctets.{is_atom_octet}
 abbrev pub AreAtom : List ℕ → Type 0
 AreAtom word = list_all (is_atom_octet Mime) word ≡ true
 
-atom_black : (x : ℕ) → is_atom_octet Mime x ≡ true → is_white x ≡ false
-atom_black x h = grind (arith, nat_tests)
+atom_nonwhite : (x : ℕ) → is_atom_octet Mime x ≡ true → is_white x ≡ false
+atom_nonwhite x h = grind (arith, nat_tests)
 
 atom_shown : (x : ℕ) → is_atom_octet Mime x ≡ true → is_line_end x ≡ false
 atom_shown x h = grind (arith, nat_tests)
@@ -31,7 +31,7 @@ atom_plain (x ∷ word) all = and_from (not (is_line_end x)) (list_all (λ x. no
 
 pub begins_text : (word rest : List ℕ) → 0 < length word → AreAtom word → BeginsText (word ++ rest)
 begins_text [] rest some all = absurd (omega (arith, some))
-begins_text (x ∷ word) rest some all = let first = first_atom x word all in (atom_black x first, atom_shown x first)
+begins_text (x ∷ word) rest some all = let first = first_atom x word all in (atom_nonwhite x first, atom_shown x first)
 
 -- ---- a shown octet has a place
 
@@ -53,15 +53,15 @@ find_shown [] (a ∷ front) x rest e = absurd (nothing e)
     nothing e = cc e
 find_shown (y ∷ ys) front x rest e = by (is_line_end y) refl front e (λ f. find_shown ys f x rest)
   where
-    behind : (front : List ℕ) → is_line_end y ≡ true → HasShown ys front x rest → HasShown (y ∷ ys) front x rest
-    behind front is has = record { before = y ∷ has.before; after = has.after; whole = ap (λ r. y ∷ r) has.whole; front_is = rw (is) has.front_is; rest_is = has.rest_is }
+    following : (front : List ℕ) → is_line_end y ≡ true → HasShown ys front x rest → HasShown (y ∷ ys) front x rest
+    following front is has = record { before = y ∷ has.before; after = has.after; whole = ap (λ r. y ∷ r) has.whole; front_is = rw (is) has.front_is; rest_is = has.rest_is }
 
     kept : (front : List ℕ) → is_line_end y ≡ false → HasShown ys front x rest → HasShown (y ∷ ys) (y ∷ front) x rest
     kept front is has = record { before = y ∷ has.before; after = has.after; whole = ap (λ r. y ∷ r) has.whole; front_is = rw (is) (ap (λ r. y ∷ r) has.front_is); rest_is = has.rest_is }
 
     by : (b : Bool) → is_line_end y ≡ b → (front : List ℕ) → without_ends (y ∷ ys) ≡ front ++ x ∷ rest → ((f : List ℕ) → without_ends ys ≡ f ++ x ∷ rest → HasShown ys f x rest)
         → HasShown (y ∷ ys) front x rest
-    by true is front e more = behind front is (more front (rw (is) at e))
+    by true is front e more = following front is (more front (rw (is) at e))
     by false is [] e more =
         let shown : y ∷ without_ends ys ≡ x ∷ rest = rw (is) at e in
         let first : y ≡ x = cc shown in
@@ -90,7 +90,7 @@ atom_first (Octet y ∷ items) (c ∷ word) rest are all e =
 atom_first (Fold w ∷ items) (c ∷ word) rest are all e =
     let shown : w ∷ without_ends (flat_map item_octets items) ≡ c ∷ (word ++ rest) = rw (white_no_end w are.0) at e in
     let first : w ≡ c = cc shown in
-    absurd (both_ways (is_white c) (atom_black c (first_atom c word all)) (subst (λ z. is_white z ≡ true) first are.0))
+    absurd (both_ways (is_white c) (atom_nonwhite c (first_atom c word all)) (subst (λ z. is_white z ≡ true) first are.0))
 
 -- a folded text by an atom that it shows
 pub record HasAtomAt (text front word rest : List ℕ) : Type 0 where
@@ -107,9 +107,9 @@ cut_atom text before word after is some all e =
     let cut = IsFolded-cut before (word ++ after) (subst IsFolded e is) (begins_text word after some all) in
     (cut.0, IsFolded-drop_plain word after (atom_plain word all) cut.1)
 
-atom_found : (text before behind octets after : List ℕ) (x : ℕ) (word front rest : List ℕ) → IsFolded text → AreAtom (x ∷ word) → text ≡ before ++ x ∷ behind → without_ends before ≡ front
-    → behind ≡ octets → octets ≡ word ++ after → without_ends after ≡ rest → HasAtomAt text front (x ∷ word) rest
-atom_found text before behind octets after x word front rest is all e front_is spelled onward rest_is =
+atom_found : (text before following octets after : List ℕ) (x : ℕ) (word front rest : List ℕ) → IsFolded text → AreAtom (x ∷ word) → text ≡ before ++ x ∷ following → without_ends before ≡ front
+    → following ≡ octets → octets ≡ word ++ after → without_ends after ≡ rest → HasAtomAt text front (x ∷ word) rest
+atom_found text before following octets after x word front rest is all e front_is spelled onward rest_is =
     let whole : text ≡ before ++ ((x ∷ word) ++ after) = e ∙ ap (λ r. before ++ x ∷ r) (spelled ∙ onward) in
     let parts = cut_atom text before (x ∷ word) after is (omega arith) all whole in
     record { before = before; after = after; whole = whole; front_is = front_is; rest_is = rest_is; before_folded = parts.0; after_folded = parts.1 }
@@ -119,10 +119,10 @@ find_atom text front [] rest is some all e = absurd (omega (arith, some))
 find_atom text front (x ∷ word) rest is some all e =
     let has = find_shown text front x (word ++ rest) e in
     let first = first_atom x word all in
-    let cut = IsFolded-cut has.before (x ∷ has.after) (subst IsFolded has.whole is) (atom_black x first, atom_shown x first) in
-    let behind = IsFolded-drop_plain (x ∷ []) has.after (atom_plain (x ∷ []) (and_from (is_atom_octet Mime x) true first refl)) cut.1 in
-    let found = atom_first behind.items word rest behind.are_items (more_atom x word all) (sym (ap without_ends behind.spelled) ∙ has.rest_is) in
-    atom_found text has.before has.after _ found.0 x word front rest is all has.whole has.front_is behind.spelled found.1 found.2
+    let cut = IsFolded-cut has.before (x ∷ has.after) (subst IsFolded has.whole is) (atom_nonwhite x first, atom_shown x first) in
+    let following = IsFolded-drop_plain (x ∷ []) has.after (atom_plain (x ∷ []) (and_from (is_atom_octet Mime x) true first refl)) cut.1 in
+    let found = atom_first following.items word rest following.are_items (more_atom x word all) (sym (ap without_ends following.spelled) ∙ has.rest_is) in
+    atom_found text has.before has.after _ found.0 x word front rest is all has.whole has.front_is following.spelled found.1 found.2
 
 -- ---- a place is one
 
@@ -149,9 +149,9 @@ place_once (c ∷ a) [] x y e shown p q = absurd (some_shown c a y (a ++ x) (sym
 place_once (c ∷ a) (d ∷ b) x y e shown p q =
     let same : c ≡ d = cc e in
     let rest : a ++ x ≡ b ++ y = cc e in
-    let others = place_once a b x y rest (behind (is_line_end c) refl (shown ∙ ap (λ z. without_ends (z ∷ b)) (sym same))) p q in
+    let others = place_once a b x y rest (following (is_line_end c) refl (shown ∙ ap (λ z. without_ends (z ∷ b)) (sym same))) p q in
     (ap (λ r. c ∷ r) others.0 ∙ ap (λ z. z ∷ b) same, others.1)
   where
-    behind : (e : Bool) → is_line_end c ≡ e → without_ends (c ∷ a) ≡ without_ends (c ∷ b) → without_ends a ≡ without_ends b
-    behind true is shown = rw (is) at shown
-    behind false is shown = let kept : c ∷ without_ends a ≡ c ∷ without_ends b = rw (is) at shown in cc kept
+    following : (e : Bool) → is_line_end c ≡ e → without_ends (c ∷ a) ≡ without_ends (c ∷ b) → without_ends a ≡ without_ends b
+    following true is shown = rw (is) at shown
+    following false is shown = let kept : c ∷ without_ends a ≡ c ∷ without_ends b = rw (is) at shown in cc kept

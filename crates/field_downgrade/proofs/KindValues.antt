@@ -5,7 +5,7 @@ use Rattle.std.specs.List.{AllByRecursion, join_with_byte, list_all}
 use Rattle.std.specs.Str.{bytes_eq}
 use Rattle.std.proofs.lemmas.Slice.Eq.{bytes_eq-Decides}
 use Rattle.mail_wire.specs.Octets.{is_white, is_ascii}
-use Rattle.mail_wire.specs.Spans.{Stops, StopsBehind}
+use Rattle.mail_wire.specs.Spans.{Stops, StopsAfter}
 use Rattle.encoded_words.proofs.Once.{HasUnits-once}
 use Rattle.field_tokens.specs.Squeezed.{squeezed_values, comments_of}
 use Rattle.field_tokens.specs.Comments.{CommentValue, IsLinePiece}
@@ -97,7 +97,7 @@ pub record AreReadSo (kind : Kind) (open_global : Bool) (name : List ℕ) (meani
   pub stands : StandsForMeaning open_global kind meaning made
   pub says : SaysAs kind name (join_with_byte 32 pieces) made
   pub begins : Stops is_white (join_with_byte 32 pieces)
-  pub ends : StopsBehind is_white (join_with_byte 32 pieces)
+  pub ends : StopsAfter is_white (join_with_byte 32 pieces)
   pub lines : AllByRecursion IsLinePiece pieces
 
 pub PiecesAs-read : (kind : Kind) (open_global : Bool) (name value : List ℕ) (pieces : List (List ℕ)) (meaning : Meaning) → list_all is_ascii value ≡ false → PiecesAs kind open_global name value pieces

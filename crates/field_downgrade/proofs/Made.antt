@@ -13,10 +13,10 @@ use Rattle.mail_wire.proofs.Folded.{without_ends, without_ends-append, unfolded-
 use Rattle.mail_wire.specs.Spans.{Stops}
 use Rattle.encoded_words.specs.Pieces.{b_word, IsChunk, AreChunks, AreBWords}
 use Rattle.encoded_words.proofs.BWords.{b_word-ascii, ascii_literal}
-use Rattle.encoded_words.proofs.Once.{begins_black}
+use Rattle.encoded_words.proofs.Once.{begins_nonwhite}
 use Rattle.mail_wire.proofs.SpanLemmas.{all_from_places}
 use Rattle.utf8_fields.specs.Parts.{FieldParts, HasParts, HasValue, field_octets}
-use Rattle.mail_wire.specs.Spans.{StopsBehind}
+use Rattle.mail_wire.specs.Spans.{StopsAfter}
 use Rattle.mail_wire.proofs.AllLemmas.{pass-append}
 use Rattle.mail_wire.proofs.OctetLemmas.{white_no_end}
 use Rattle.field_downgrade.specs.Words.{AreUtf8, Word, AreWords, HasWords, run_of, last_run, plain_text, copied_octets, is_high_word, word_octets}
@@ -33,7 +33,7 @@ use Rattle.field_downgrade.specs.Stands.{IsSameMeaning, Means, SaysAs, Units}
 use Rattle.field_downgrade.specs.private.Steps.{KeepsWords}
 use Rattle.field_downgrade.proofs.Units.{units_from, units_from-front}
 use Rattle.field_downgrade.proofs.Places.{without_ends-white}
-use Rattle.field_downgrade.proofs.Pieces.{behind, shown, AreWords-front, AreWords-back, last_white, chunks_first, AreUtf8-front, AreUtf8-back, white_utf8, plain_utf8, b_word-no_end, word_keeps, Ends-places}
+use Rattle.field_downgrade.proofs.Pieces.{following, shown, AreWords-front, AreWords-back, last_white, chunks_first, AreUtf8-front, AreUtf8-back, white_utf8, plain_utf8, b_word-no_end, word_keeps, Ends-places}
 use Rattle.field_downgrade.proofs.ReadBack.{IsReadBack, IsReadBack-pieces, left_white, right_white}
 use Rattle.field_downgrade.proofs.WordLemmas.{word_no_end, gap_ascii}
 
@@ -142,7 +142,7 @@ pub made-folded : (pieces : List Piece) → ArePieces pieces → IsFolded (made_
 made-folded [] are = IsFolded-nil
 made-folded (p ∷ ps) are = IsFolded-append (crlf ++ p.white ∷ p.octets) (made_body ps) (IsFolded-fold p.white p.octets are.0.white are.0.folded) (made-folded ps are.1)
 
-pub made-shows : (pieces : List Piece) → ArePieces pieces → without_ends (made_body pieces) ≡ behind pieces
+pub made-shows : (pieces : List Piece) → ArePieces pieces → without_ends (made_body pieces) ≡ following pieces
 made-shows [] are = refl
 made-shows (p ∷ ps) are =
     without_ends-append (crlf ++ p.white ∷ p.octets) (made_body ps) ∙ rw (white_no_end p.white are.0.white, made-shows ps are.1) refl
@@ -170,18 +170,18 @@ HasValue-orig body words pieces folded has back = record {
   trail = last_run words;
   lead_passes = without_ends-white has.lead has.is_lead.octets;
   trail_passes = last_white words has.are_words;
-  begins = subst (Stops is_white) back.orig_octets (begins_black back.orig back.are_orig);
-  ends = subst (StopsBehind is_white) back.orig_octets (Ends-places back.orig back.are_orig back.bare_orig);
+  begins = subst (Stops is_white) back.orig_octets (begins_nonwhite back.orig back.are_orig);
+  ends = subst (StopsAfter is_white) back.orig_octets (Ends-places back.orig back.are_orig back.bare_orig);
   whole = unfolded-folded body folded ∙ ap without_ends has.whole ∙ without_ends-append has.lead (flat_map word_octets words) ∙ ap (λ t. without_ends has.lead ++ t) (words_text words has.are_words);
 }
 
 HasValue-made : (words : List Word) (pieces : List Piece) → ArePieces pieces → IsReadBack words pieces → HasValue (made_body pieces) (shown pieces)
 HasValue-made words pieces are back = by pieces are
-    (subst (Stops is_white) back.made_octets (begins_black back.made back.are_made))
-    (subst (StopsBehind is_white) back.made_octets (Ends-places back.made back.are_made back.bare_made))
+    (subst (Stops is_white) back.made_octets (begins_nonwhite back.made back.are_made))
+    (subst (StopsAfter is_white) back.made_octets (Ends-places back.made back.are_made back.bare_made))
     (unfolded-folded (made_body pieces) (made-folded pieces are) ∙ made-shows pieces are)
   where
-    by : (pieces : List Piece) → ArePieces pieces → Stops is_white (shown pieces) → StopsBehind is_white (shown pieces) → unfolded (made_body pieces) ≡ behind pieces → HasValue (made_body pieces) (shown pieces)
+    by : (pieces : List Piece) → ArePieces pieces → Stops is_white (shown pieces) → StopsAfter is_white (shown pieces) → unfolded (made_body pieces) ≡ following pieces → HasValue (made_body pieces) (shown pieces)
     by [] are begins ends whole = record { lead = []; trail = []; lead_passes = refl; trail_passes = refl; begins = tt; ends = tt; whole = whole }
     by (p ∷ ps) are begins ends whole = record {
       lead = p.white ∷ [];

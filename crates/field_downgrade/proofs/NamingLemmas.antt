@@ -71,16 +71,16 @@ frame_all : (p : ℕ → Bool) → p 58 ≡ true → (f : FieldParts) (changed :
 frame_all p colon f changed all imp =
     let name = and_parts (list_all p f.name) (list_all p (f.white ++ 58 ∷ (f.body ++ f.ending))) (sym (list_all-append p f.name (f.white ++ 58 ∷ (f.body ++ f.ending))) ∙ all) in
     let white = and_parts (list_all p f.white) (list_all p (58 ∷ (f.body ++ f.ending))) (sym (list_all-append p f.white (58 ∷ (f.body ++ f.ending))) ∙ name.1) in
-    let behind = and_parts (p 58) (list_all p (f.body ++ f.ending)) white.1 in
-    let body = and_parts (list_all p f.body) (list_all p f.ending) (sym (list_all-append p f.body f.ending) ∙ behind.1) in
+    let following = and_parts (p 58) (list_all p (f.body ++ f.ending)) white.1 in
+    let body = and_parts (list_all p f.body) (list_all p f.ending) (sym (list_all-append p f.body f.ending) ∙ following.1) in
     pass-append p f.name (f.white ++ 58 ∷ (changed ++ f.ending)) name.0
     (pass-append p f.white (58 ∷ (changed ++ f.ending)) white.0 (all_cons p 58 (changed ++ f.ending) colon (pass-append p changed f.ending (imp body.0) body.1)))
 
 same_body : (f : FieldParts) (changed : List ℕ) → field_octets (with_body f changed) ≡ field_octets f → changed ≡ f.body
 same_body f changed e =
-    let behind : f.white ++ 58 ∷ (changed ++ f.ending) ≡ f.white ++ 58 ∷ (f.body ++ f.ending)
+    let following : f.white ++ 58 ∷ (changed ++ f.ending) ≡ f.white ++ 58 ∷ (f.body ++ f.ending)
     = append_cancel_left f.name (f.white ++ 58 ∷ (changed ++ f.ending)) (f.white ++ 58 ∷ (f.body ++ f.ending)) e in
-    let colon : 58 ∷ (changed ++ f.ending) ≡ 58 ∷ (f.body ++ f.ending) = append_cancel_left f.white (58 ∷ (changed ++ f.ending)) (58 ∷ (f.body ++ f.ending)) behind in
+    let colon : 58 ∷ (changed ++ f.ending) ≡ 58 ∷ (f.body ++ f.ending) = append_cancel_left f.white (58 ∷ (changed ++ f.ending)) (58 ∷ (f.body ++ f.ending)) following in
     append_cancel_right changed f.body f.ending (cc colon)
 
 -- such a field stands for the type

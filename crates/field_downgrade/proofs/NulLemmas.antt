@@ -177,8 +177,8 @@ KeepsNoNul-pieces octets made f g pieces is are lack name white body end made_is
 field_words_lack : (octets : List ℕ) (f : FieldParts) (words : List Word) → HasParts octets f → HasWords f.body words → list_all not_nul octets ≡ true → list_all word_lacks words ≡ true
 field_words_lack octets f words is has h =
     let all : list_all not_nul (field_octets f) ≡ true = subst (λ xs. list_all not_nul xs ≡ true) is.spelled h in
-    let behind = pass-back not_nul f.name (f.white ++ 58 ∷ (f.body ++ f.ending)) all in
-    let colon : list_all not_nul (f.body ++ f.ending) ≡ true = pass-back not_nul f.white (58 ∷ (f.body ++ f.ending)) behind in
+    let following = pass-back not_nul f.name (f.white ++ 58 ∷ (f.body ++ f.ending)) all in
+    let colon : list_all not_nul (f.body ++ f.ending) ≡ true = pass-back not_nul f.white (58 ∷ (f.body ++ f.ending)) following in
     let body = pass-front not_nul f.body f.ending colon in
     let whole : list_all not_nul (has.lead ++ flat_map word_octets words) ≡ true = subst (λ xs. list_all not_nul xs ≡ true) has.whole body in
     words_lack words (pass-back not_nul has.lead (flat_map word_octets words) whole)

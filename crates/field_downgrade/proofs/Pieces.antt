@@ -6,16 +6,16 @@ use Rattle.std.specs.List.{list_all, flat_map, concat}
 use Rattle.std.specs.Str.{IsUtf8, IsAscii}
 use Rattle.std.proofs.lemmas.Str.{IsUtf8-append, IsUtf8-from_ascii, IsUtf8-nil}
 use Rattle.std.proofs.lemmas.Bool.Decides.{nat_tests}
-use Rattle.mail_wire.specs.Octets.{is_white, is_black, is_line_end}
+use Rattle.mail_wire.specs.Octets.{is_white, is_nonwhite, is_line_end}
 use Rattle.mail_wire.proofs.Folded.{without_ends, without_ends-append, unfolded-folded}
 use Rattle.encoded_words.specs.Words.{Text, is_token_octet, is_text_octet}
 use Rattle.encoded_words.specs.Units.{Place, IsPlace, ArePlaces, Divides as PlaceDivides, place_octets}
 use Rattle.encoded_words.specs.Pieces.{b_word, IsChunk, AreChunks}
-use Rattle.encoded_words.proofs.BWords.{b_word-says, b_word-black, b_word_some, chunk_utf8}
+use Rattle.encoded_words.proofs.BWords.{b_word-says, b_word-nonwhite, b_word_some, chunk_utf8}
 use Rattle.encoded_words.proofs.Octets.{bytes-IsUtf8}
 use Rattle.encoded_words.proofs.EncodedOctets.{encoded_all}
 use Rattle.std.specs.Char.{to_ascii_uppercase}
-use Rattle.mail_wire.specs.Spans.{StopsBehind}
+use Rattle.mail_wire.specs.Spans.{StopsAfter}
 use Rattle.mail_wire.proofs.OctetLemmas.{white_below}
 use Rattle.field_downgrade.specs.Words.{AreUtf8, Word, AreWords, DividesWords, run_of, last_run, plain_text, copied_octets, is_word_octet}
 use Rattle.encoded_words.specs.Folding.{Piece, word_pieces}
@@ -23,19 +23,19 @@ use Rattle.field_downgrade.proofs.Units.{b_places}
 use Rattle.field_downgrade.proofs.Places.{places, place_of, Joint, joint_white, run-white, ArePlaces-cons}
 
 -- what pieces show without their folds: each with the white octet before it, and without that of the first
-abbrev pub behind : List Piece → List ℕ
-behind pieces = flat_map (λ (p : Piece). p.white ∷ without_ends p.octets) pieces
+abbrev pub following : List Piece → List ℕ
+following pieces = flat_map (λ (p : Piece). p.white ∷ without_ends p.octets) pieces
 
 abbrev pub shown : List Piece → List ℕ
 shown [] = []
-shown (p ∷ ps) = without_ends p.octets ++ behind ps
+shown (p ∷ ps) = without_ends p.octets ++ following ps
 
-pub behind-append : (xs ys : List Piece) → behind (xs ++ ys) ≡ behind xs ++ behind ys
-behind-append [] ys = refl
-behind-append (x ∷ xs) ys = rw (behind-append xs ys) (sym (append_assoc (x.white ∷ without_ends x.octets) (behind xs) (behind ys)))
+pub following-append : (xs ys : List Piece) → following (xs ++ ys) ≡ following xs ++ following ys
+following-append [] ys = refl
+following-append (x ∷ xs) ys = rw (following-append xs ys) (sym (append_assoc (x.white ∷ without_ends x.octets) (following xs) (following ys)))
 
-pub shown-append : (x : Piece) (xs ys : List Piece) → shown ((x ∷ xs) ++ ys) ≡ shown (x ∷ xs) ++ behind ys
-shown-append x xs ys = rw (behind-append xs ys) (sym (append_assoc (without_ends x.octets) (behind xs) (behind ys)))
+pub shown-append : (x : Piece) (xs ys : List Piece) → shown ((x ∷ xs) ++ ys) ≡ shown (x ∷ xs) ++ following ys
+shown-append x xs ys = rw (following-append xs ys) (sym (append_assoc (without_ends x.octets) (following xs) (following ys)))
 
 -- the texts behind words
 pub AreWords-front : (xs ys : List Word) → AreWords (xs ++ ys) → AreWords xs
@@ -73,7 +73,7 @@ pub word_keeps : (xs : List ℕ) → list_all is_word_octet xs ≡ true → with
 word_keeps [] h = refl
 word_keeps (x ∷ xs) h =
     let parts = and_parts (is_word_octet x) (list_all is_word_octet xs) h in
-    let no_end = (and_parts (is_black x) (not (is_line_end x)) parts.0).1 in
+    let no_end = (and_parts (is_nonwhite x) (not (is_line_end x)) parts.0).1 in
     rw (no_end, word_keeps xs parts.1) refl
 
 pub copied_text : (ws : List Word) → AreWords ws → without_ends (copied_octets ws) ≡ plain_text ws
@@ -117,7 +117,7 @@ chunks_first c cs are u =
 b_place_is : (c rest run : List ℕ) → IsChunk c rest → IsUtf8 c → list_all is_white run ≡ true → IsPlace (record { word = b_word c; says = Some (Text c); run = run })
 b_place_is c rest run is u white = record {
   is_word = b_word_some c;
-  black = b_word-black c (bytes-IsUtf8 c u);
+  nonwhite = b_word-nonwhite c (bytes-IsUtf8 c u);
   white = white;
   says = b_word-says c u is.some is.fits;
 }
@@ -147,7 +147,7 @@ octets-b_places white c (d ∷ cs) last rest are u =
     let first = chunks_first c (d ∷ cs) are u in
     let more = octets-b_places 32 d cs last rest are.1 first.2 in
     let others : List Piece = map (λ w. record { white = 32; octets = w }) (map b_word cs) in
-    let text : List ℕ = without_ends (b_word d) ++ behind others in
+    let text : List ℕ = without_ends (b_word d) ++ following others in
     let after : List ℕ = last ++ flat_map place_octets rest in
     ap (λ t. (b_word c ++ 32 ∷ []) ++ t) more ∙ append_assoc (b_word c) (32 ∷ []) (text ++ after) ∙ sym (append_assoc (b_word c) (32 ∷ text) after)
     ∙ ap (λ t. (t ++ 32 ∷ text) ++ after) (sym (b_word_keeps c _ first.1 are.0))
@@ -180,17 +180,17 @@ plain_utf8 (w ∷ v ∷ ws) are u =
 
 -- the ends of a value
 abbrev pub Ends : List ℕ → Type 0
-Ends xs = StopsBehind is_white xs
+Ends xs = StopsAfter is_white xs
 
 Ends-append : (xs : List ℕ) (y : ℕ) (ys : List ℕ) → Ends (y ∷ ys) → Ends (xs ++ (y ∷ ys))
 Ends-append [] y ys h = h
 Ends-append (x ∷ []) y ys h = h
 Ends-append (x ∷ z ∷ xs) y ys h = Ends-append (z ∷ xs) y ys h
 
-Ends-black : (xs : List ℕ) → list_all is_black xs ≡ true → Ends xs
-Ends-black [] h = tt
-Ends-black (x ∷ []) h = not-true (is_white x) (and_parts (is_black x) true h).0
-Ends-black (x ∷ y ∷ xs) h = Ends-black (y ∷ xs) (and_parts (is_black x) (list_all is_black (y ∷ xs)) h).1
+Ends-nonwhite : (xs : List ℕ) → list_all is_nonwhite xs ≡ true → Ends xs
+Ends-nonwhite [] h = tt
+Ends-nonwhite (x ∷ []) h = not-true (is_white x) (and_parts (is_nonwhite x) true h).0
+Ends-nonwhite (x ∷ y ∷ xs) h = Ends-nonwhite (y ∷ xs) (and_parts (is_nonwhite x) (list_all is_nonwhite (y ∷ xs)) h).1
 
 -- Places whose last run is nothing end in no white.
 abbrev pub IsBare : List Place → Type 0
@@ -200,7 +200,7 @@ IsBare (p ∷ q ∷ ps) = IsBare (q ∷ ps)
 
 pub Ends-places : (ps : List Place) → ArePlaces ps → IsBare ps → Ends (flat_map place_octets ps)
 Ends-places [] are bare = tt
-Ends-places (p ∷ []) are bare = rw (bare, append-nil, append-nil) (Ends-black p.word are.0.black)
+Ends-places (p ∷ []) are bare = rw (bare, append-nil, append-nil) (Ends-nonwhite p.word are.0.nonwhite)
 Ends-places (p ∷ q ∷ ps) are bare = go (flat_map place_octets (q ∷ ps)) (some q ps are.2.0.is_word) (Ends-places (q ∷ ps) are.2 bare)
   where
     go : (ys : List ℕ) → 0 < length ys → Ends ys → Ends ((p.word ++ p.run) ++ ys)
@@ -210,19 +210,19 @@ Ends-places (p ∷ q ∷ ps) are bare = go (flat_map place_octets (q ∷ ps)) (s
     some : (q : Place) (ps : List Place) → 0 < length q.word → 0 < length ((q.word ++ q.run) ++ flat_map place_octets ps)
     some q ps h = omega (arith, length-append (q.word ++ q.run) (flat_map place_octets ps), length-append q.word q.run)
 
-bare_behind : (last : List ℕ) (rest : List Place) → Joint last rest → (p : Place) → p.run ≡ last → IsBare rest → IsBare (p ∷ rest)
-bare_behind last [] joint p e bare = e ∙ joint
-bare_behind last (q ∷ rest) joint p e bare = bare
+bare_after : (last : List ℕ) (rest : List Place) → Joint last rest → (p : Place) → p.run ≡ last → IsBare rest → IsBare (p ∷ rest)
+bare_after last [] joint p e bare = e ∙ joint
+bare_after last (q ∷ rest) joint p e bare = bare
 
 bare_cons : (p : Place) (q : Place) (ps : List Place) → IsBare (q ∷ ps) → IsBare (p ∷ q ∷ ps)
 bare_cons p q ps h = h
 
 pub bare-places : (w : Word) (ws : List Word) (are : AreWords (w ∷ ws)) (last : List ℕ) (rest : List Place) → Joint last rest → IsBare rest → IsBare (places (w ∷ ws) are last rest)
-bare-places w [] are last rest joint bare = bare_behind last rest joint (place_of w are.0 last) refl bare
+bare-places w [] are last rest joint bare = bare_after last rest joint (place_of w are.0 last) refl bare
 bare-places w (v ∷ []) are last rest joint bare = bare-places v [] are.2 last rest joint bare
 bare-places w (v ∷ u ∷ ws) are last rest joint bare = bare-places v (u ∷ ws) are.2 last rest joint bare
 
 pub bare-b_places : (c : List ℕ) (cs : List (List ℕ)) (last : List ℕ) (rest : List Place) → Joint last rest → IsBare rest → IsBare (b_places (c ∷ cs) last rest)
-bare-b_places c [] last rest joint bare = bare_behind last rest joint (record { word = b_word c; says = Some (Text c); run = last }) refl bare
+bare-b_places c [] last rest joint bare = bare_after last rest joint (record { word = b_word c; says = Some (Text c); run = last }) refl bare
 bare-b_places c (d ∷ []) last rest joint bare = bare-b_places d [] last rest joint bare
 bare-b_places c (d ∷ e ∷ cs) last rest joint bare = bare-b_places d (e ∷ cs) last rest joint bare

@@ -5,14 +5,14 @@ use Rattle.std.proofs.lemmas.Bool.Decides.{nat_tests}
 use Rattle.std.proofs.lemmas.List.{append_assoc, length-append}
 use Rattle.std.specs.List.{AllByRecursion, list_all, flat_map, join_with_byte}
 use Rattle.mail_wire.specs.Octets.{is_white, is_ascii}
-use Rattle.mail_wire.specs.Spans.{Stops, StopsBehind}
+use Rattle.mail_wire.specs.Spans.{Stops, StopsAfter}
 use Rattle.mail_wire.proofs.AllLemmas.{all-append, pass-append, pass-weaker}
 use Rattle.field_tokens.specs.declared.Style.{Style}
 use Rattle.field_tokens.specs.declared.TokenKind.{TokenKind}
 use Rattle.field_tokens.specs.declared.TokenKind.TheVariants.{Atom, Quoted, Literal, Special, Gap, Comment}
 use Rattle.field_tokens.specs.TokenOctets.{is_line_octet}
 use Rattle.field_tokens.specs.Tokens.{IsToken, TokenValue, AreTokens, HasTokenValues}
-use Rattle.field_tokens.specs.Squeezed.{is_blank, runs_of, octets_of, squeezed_values, is_comment, comments_of, words_of, apart, IsPart}
+use Rattle.field_tokens.specs.Squeezed.{is_blank, runs_of, octets_of, squeezed_values, is_comment, comments_of, words_of, joined_by_spaces, IsPart}
 use Rattle.field_tokens.specs.Comments.{CommentValue, CommentsSay, CommentsPieces, AreWritten, IsLinePiece}
 use Rattle.field_tokens.proofs.TokenLists.{token_octets_some, AreTokens-once}
 use Rattle.field_tokens.proofs.SqueezedValues.{IsPart-runs, words_of-runs, runs_and, squeezed_and, IsSqueezedAgain, squeezed_again}
@@ -204,9 +204,9 @@ PlainPieces-line is_encoding text pieces p =
     let has : HasTokenValues style text p.tokens = p.is_plain.has in
     let piece : List (List ℕ) = text_piece (squeezed_values p.tokens) in
     let front : AllByRecursion IsLinePiece piece = text_piece-line (squeezed_values p.tokens) p.is_plain.ascii (squeezed_line style p.tokens text has.are_tokens has.is_line).plain in
-    let behind : AllByRecursion IsLinePiece p.comments
+    let following : AllByRecursion IsLinePiece p.comments
     = CommentsPieces-line (comments_of p.tokens) p.comments (comments_are_writable style p.tokens text has.are_tokens has.is_line) (comments_are_plain style p.tokens text has.are_tokens has.is_line) p.comments_are in
-    subst (AllByRecursion IsLinePiece) (sym p.pieces_are) (all-append IsLinePiece piece p.comments front behind)
+    subst (AllByRecursion IsLinePiece) (sym p.pieces_are) (all-append IsLinePiece piece p.comments front following)
 
 atom_alike : (is_encoding : Bool) (ts us : List TokenValue) → words_of us ≡ words_of ts → IsAtomWhere is_encoding ts → IsAtomWhere is_encoding us
 atom_alike true ts us e atom = (atom.0, e ∙ atom.1, atom.2)
@@ -216,7 +216,7 @@ atom_alike false ts us e atom = tt
 pub record IsReadPlain (is_encoding : Bool) (said : List ℕ) (comments : List CommentValue) (pieces : List (List ℕ)) : Type 0 where
   pub says : SaysPlain is_encoding (join_with_byte 32 pieces) said comments
   pub begins : Stops is_white (join_with_byte 32 pieces)
-  pub ends : StopsBehind is_white (join_with_byte 32 pieces)
+  pub ends : StopsAfter is_white (join_with_byte 32 pieces)
   pub each : AllByRecursion IsLinePiece pieces
   pub some : 0 < length pieces
 
@@ -232,7 +232,7 @@ PlainPieces-read is_encoding text said comments pieces p s high =
     let again : IsSqueezedAgain style p.tokens w.made = squeezed_again style p.tokens text w.made has.are_tokens (comments_groups w.made w.are_comments) in
     let joined : squeezed_and p.tokens w.made ≡ join_with_byte 32 pieces = joined_is is_encoding text pieces comments p w again.pieces_are in
     let each : AllByRecursion IsLinePiece pieces = PlainPieces-line is_encoding text pieces p in
-    let made : List TokenValue = apart (runs_and p.tokens w.made) in
+    let made : List TokenValue = joined_by_spaces (runs_and p.tokens w.made) in
     record {
       says = record {
         tokens = made;
@@ -245,7 +245,7 @@ PlainPieces-read is_encoding text said comments pieces p s high =
         comments_say = subst (λ cs. CommentsSay cs comments) (sym again.comments_are) w.say;
       };
       begins = subst (Stops is_white) joined again.text_begins;
-      ends = subst (StopsBehind is_white) joined again.text_ends;
+      ends = subst (StopsAfter is_white) joined again.text_ends;
       each = each;
       some = pieces_some is_encoding text pieces p high;
     }

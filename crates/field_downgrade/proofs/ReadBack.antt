@@ -18,7 +18,7 @@ use Rattle.field_downgrade.specs.declared.segments.Side.{Side}
 use Rattle.field_downgrade.specs.declared.segments.Side.TheVariants.{Edge, Encoded, Plain}
 use Rattle.field_downgrade.proofs.Units.{units_from, b_places, core_same}
 use Rattle.field_downgrade.proofs.Places.{places, octets-places, Joint, ArePlaces-places, units_from-plain, was_of, copied_same, says_of-is_some}
-use Rattle.field_downgrade.proofs.Pieces.{behind, shown, shown-append, AreWords-front, AreWords-back, last_some, last_white, plain_text-append, copied_text, ArePlaces-b_places, octets-b_places, AreUtf8-front, AreUtf8-back, white_utf8, plain_utf8, IsBare, bare-places, bare-b_places}
+use Rattle.field_downgrade.proofs.Pieces.{following, shown, shown-append, AreWords-front, AreWords-back, last_some, last_white, plain_text-append, copied_text, ArePlaces-b_places, octets-b_places, AreUtf8-front, AreUtf8-back, white_utf8, plain_utf8, IsBare, bare-places, bare-b_places}
 
 -- what stands behind a word with this run, where these words follow
 abbrev pub tail_text : List ℕ → List Word → List ℕ
@@ -66,7 +66,7 @@ pub record Follow (run : List ℕ) (ws : List Word) (pieces : List Piece) : Type
   pub joint : Joint real orig
   pub made_joint : Joint lead made
   pub orig_octets : real ++ flat_map place_octets orig ≡ tail_text run ws
-  pub made_octets : lead ++ flat_map place_octets made ≡ behind pieces
+  pub made_octets : lead ++ flat_map place_octets made ≡ following pieces
 
 abbrev follow_none : (run : List ℕ) → Follow run [] []
 follow_none run = record {
@@ -244,9 +244,9 @@ segment_same was run lead left right white next (c ∷ cs) (d ∷ ds) ss first m
     let u_core = AreUtf8-front (c ∷ cs) (d ∷ ds) (AreUtf8-front ((c ∷ cs) ++ (d ∷ ds)) ws u) in
     let is_run : IsRun (last_run (c ∷ cs)) = record { some = last_some c cs d ds are_both; white = last_white (c ∷ cs) are_core } in
     let whites = right_white (side_of d) (last_run (c ∷ cs)) right next is_run.white cuts in
-    let behind_core = follow_copied (last_run (c ∷ cs)) next d ds are_copied ws more is_run whites.1 b in
+    let after_core = follow_copied (last_run (c ∷ cs)) next d ds are_copied ws more is_run whites.1 b in
     let units = follow_core_units (last_run (c ∷ cs)) right next d ds are_copied ws more cuts b same in
-    let done = core_step was run lead left right white c cs are_core ((d ∷ ds) ++ ws) (copied_pieces next (d ∷ ds) ++ more) b_words u_core plain wl whites.0 run_is are_b behind_core units in
+    let done = core_step was run lead left right white c cs are_core ((d ∷ ds) ++ ws) (copied_pieces next (d ∷ ds) ++ more) b_words u_core plain wl whites.0 run_is are_b after_core units in
     let words_is : (c ∷ cs) ++ ((d ∷ ds) ++ ws) ≡ ((c ∷ cs) ++ (d ∷ ds)) ++ ws = sym (append_assoc (c ∷ cs) (d ∷ ds) ws) in
     let pieces_is : word_pieces white b_words ++ (copied_pieces next (d ∷ ds) ++ more) ≡ first ++ more = rw first_is (sym (append_assoc (word_pieces white b_words) (copied_pieces next (d ∷ ds)) more)) in
     subst (λ ws. Same was run lead white ws (first ++ more)) words_is (subst (λ ps. Same was run lead white ((c ∷ cs) ++ ((d ∷ ds) ++ ws)) ps) pieces_is done)
@@ -256,9 +256,9 @@ abbrev pub Ready : List Segment → Side → List ℕ → Type 0
 Ready [] side run = Unit {0}
 Ready (s ∷ ss) side run = IsRun run × NotEdge side
 
-ready_behind : (d : Word) (ds : List Word) (ss : List Segment) → AreSegments ss → AreWords ((d ∷ ds) ++ flat_map segment_words ss) → Ready ss (last_side (d ∷ ds)) (last_run (d ∷ ds))
-ready_behind d ds [] segs are = tt
-ready_behind d ds (t ∷ ss) segs are = (
+ready_after : (d : Word) (ds : List Word) (ss : List Segment) → AreSegments ss → AreWords ((d ∷ ds) ++ flat_map segment_words ss) → Ready ss (last_side (d ∷ ds)) (last_run (d ∷ ds))
+ready_after d ds [] segs are = tt
+ready_after d ds (t ∷ ss) segs are = (
   record { some = by t.core t.copied segs.0.begins are; white = last_white (d ∷ ds) (AreWords-front (d ∷ ds) (flat_map segment_words (t ∷ ss)) are) },
   last_not_edge d ds,
 )
@@ -271,9 +271,9 @@ ready_next : (core copied : List Word) (ss : List Segment) → Parts copied ss �
 ready_next core copied [] parts segs are = tt
 ready_next core [] (t ∷ ss) parts segs are = cc parts
 ready_next core (d ∷ ds) (t ∷ ss) parts segs are =
-    ready_behind d ds (t ∷ ss) segs (AreWords-back core ((d ∷ ds) ++ flat_map segment_words (t ∷ ss)) (subst AreWords (append_assoc core (d ∷ ds) (flat_map segment_words (t ∷ ss))) are))
+    ready_after d ds (t ∷ ss) segs (AreWords-back core ((d ∷ ds) ++ flat_map segment_words (t ∷ ss)) (subst AreWords (append_assoc core (d ∷ ds) (flat_map segment_words (t ∷ ss))) are))
 
-shows : (white : ℕ) (pieces : List Piece) → BeginsWith white pieces → white ∷ shown pieces ≡ behind pieces
+shows : (white : ℕ) (pieces : List Piece) → BeginsWith white pieces → white ∷ shown pieces ≡ following pieces
 shows white [] begins = absurd begins
 shows white (p ∷ ps) begins = rw (sym begins) refl
 
@@ -364,7 +364,7 @@ read_back_by [] (s ∷ ss) more segs are u give =
 read_back_by (d ∷ ds) ss more segs are u give =
     let ws : List Word = flat_map segment_words ss in
     let are_front = AreWords-front (d ∷ ds) ws are in
-    let after = segments_follow ss (last_side (d ∷ ds)) (last_run (d ∷ ds)) more segs (AreWords-back (d ∷ ds) ws are) (AreUtf8-back (d ∷ ds) ws u) (ready_behind d ds ss segs are) give in
+    let after = segments_follow ss (last_side (d ∷ ds)) (last_run (d ∷ ds)) more segs (AreWords-back (d ∷ ds) ws are) (AreUtf8-back (d ∷ ds) ws u) (ready_after d ds ss segs are) give in
     let b : Follow (last_run (d ∷ ds)) ws more = after.0 in
     record {
       orig = places (d ∷ ds) are_front b.real b.orig;

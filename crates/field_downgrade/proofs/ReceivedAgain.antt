@@ -10,7 +10,7 @@ use Rattle.std.specs.Char.{to_ascii_lowercase}
 use Rattle.std.specs.List.{AllByRecursion, list_all, flat_map, join_with_byte}
 use Rattle.std.specs.Str.{str_to_ascii_lowercase}
 use Rattle.mail_wire.specs.Octets.{is_white, is_ascii, same_name}
-use Rattle.mail_wire.specs.Spans.{Stops, StopsBehind}
+use Rattle.mail_wire.specs.Spans.{Stops, StopsAfter}
 use Rattle.mail_wire.proofs.AllLemmas.{all-append, pass-append}
 use Rattle.address_lists.proofs.PhrasesAgain.{CommentsSay-append}
 use Rattle.field_tokens.specs.declared.Style.TheVariants.{Mail}
@@ -18,10 +18,10 @@ use Rattle.field_tokens.specs.declared.TokenKind.TheVariants.{Atom}
 use Rattle.field_tokens.specs.TokenOctets.{is_line_octet}
 use Rattle.field_tokens.specs.Groups.{IsEnclosed}
 use Rattle.field_tokens.specs.Tokens.{comment_marks, TokenValue, AreTokens}
-use Rattle.field_tokens.specs.Squeezed.{is_blank, runs_of, octets_of, squeezed_values, comments_of, is_gap, space, apart, IsPart, is_atom_kind}
+use Rattle.field_tokens.specs.Squeezed.{is_blank, runs_of, octets_of, squeezed_values, comments_of, is_gap, space, joined_by_spaces, IsPart, is_atom_kind}
 use Rattle.field_tokens.specs.Comments.{CommentValue, CommentsSay, CommentsPieces, AreWritten, IsLinePiece}
 use Rattle.field_tokens.proofs.TokenLists.{token_octets_some}
-use Rattle.field_tokens.proofs.Parts.{part_of, AreTokens-begin, AreTokens-end, apart_begins, apart_ends, AreTokens-apart, comments_of-append, comments_of-apart, comment_parts, comments_are_parts, comment_parts-comments, comment_parts-octets}
+use Rattle.field_tokens.proofs.Parts.{part_of, AreTokens-begin, AreTokens-end, joined_begins, joined_ends, AreTokens-joined_by_spaces, comments_of-append, comments_of-joined_by_spaces, comment_parts, comments_are_parts, comment_parts-comments, comment_parts-octets}
 use Rattle.field_tokens.proofs.TokenLines.{tokens_lines, squeezed_line, joined_line, comments_are_plain}
 use Rattle.field_tokens.proofs.LinePieces.{CommentsPieces-line}
 use Rattle.field_tokens.proofs.CommentValues.{CommentsSay-once, CommentsSay-some}
@@ -236,26 +236,26 @@ word_octets : (t : TokenValue) (runs parts : List (List TokenValue)) → map oct
 word_octets t runs parts = ap (λ r. r ∷ map octets_of (runs ++ parts)) (append-nil t.octets) ∙ ap (λ r. t.octets ∷ r) (map-append octets_of runs parts)
 
 -- the text behind a word, where only gaps and comments follow it
-text_behind : (runs : List (List TokenValue)) (ts : List TokenValue) → AllByRecursion IsTokenRun runs → are_blank_tokens ts ≡ true → squeezed_values (spaced runs ++ ts) ≡ join_with_byte 32 (map octets_of runs)
-text_behind runs ts each blank = ap (λ r. join_with_byte 32 (map octets_of r)) (spaced_runs runs ts each blank)
+text_following : (runs : List (List TokenValue)) (ts : List TokenValue) → AllByRecursion IsTokenRun runs → are_blank_tokens ts ≡ true → squeezed_values (spaced runs ++ ts) ≡ join_with_byte 32 (map octets_of runs)
+text_following runs ts each blank = ap (λ r. join_with_byte 32 (map octets_of r)) (spaced_runs runs ts each blank)
 
 word_comments : (t : TokenValue) (runs parts : List (List TokenValue)) → comments_of (t ∷ []) ≡ [] → AllByRecursion IsTokenRun runs → flat_map comments_of ((t ∷ []) ∷ (runs ++ parts)) ≡ flat_map comments_of parts
 word_comments t runs parts none each =
     ap (λ r. r ++ flat_map comments_of (runs ++ parts)) none ∙ flat_map-append comments_of runs parts ∙ ap (λ r. r ++ flat_map comments_of parts) (runs_no_comments runs each)
 
 abbrev first_clause : TokenValue → List (List TokenValue) → ReceivedParts → ReceivedParts
-first_clause t runs parts = record { front = space ∷ []; clauses = record { word = t; behind = spaced runs ++ parts.front } ∷ parts.clauses; date = parts.date }
+first_clause t runs parts = record { front = space ∷ []; clauses = record { word = t; following = spaced runs ++ parts.front } ∷ parts.clauses; date = parts.date }
 
 word_divided : (t : TokenValue) (runs parts : List (List TokenValue)) → starts_clause t ≡ true → list_all is_inner (spaced runs) ≡ true → parts_of (spaced ((t ∷ []) ∷ (runs ++ parts))) ≡ first_clause t runs (parts_of (spaced parts))
 word_divided t runs parts starts inner =
     ap (before_parts (space ∷ [])) (parts_start t (spaced (runs ++ parts)) starts)
-    ∙ ap (λ (r : ReceivedParts). record { front = space ∷ []; clauses = record { word = t; behind = r.front } ∷ r.clauses; date = r.date }) (ap parts_of (spaced-append runs parts) ∙ parts_inner (spaced runs) (spaced parts) inner)
+    ∙ ap (λ (r : ReceivedParts). record { front = space ∷ []; clauses = record { word = t; following = r.front } ∷ r.clauses; date = r.date }) (ap parts_of (spaced-append runs parts) ∙ parts_inner (spaced runs) (spaced parts) inner)
 
 again_word : (clauses : List Clause) (date : Option (List ℕ)) (t : TokenValue) (text : List ℕ) (comments pieces : List (List ℕ)) → starts_clause t ≡ true → IsWord t → IsServed text → AreAgain clauses date comments pieces
     → AreAgain (record { word = str_to_ascii_lowercase t.octets; text = text } ∷ clauses) date comments ((t.octets ++ with_space_before text) ∷ pieces)
 again_word clauses date t text comments pieces starts w s a =
     let divided = word_divided t s.runs a.parts starts (spaced_inner s.runs s.inner) in
-    let behind : squeezed_values (spaced s.runs ++ (parts_of (spaced a.parts)).front) ≡ text = text_behind s.runs (parts_of (spaced a.parts)).front s.each a.blank ∙ s.text_is in
+    let following : squeezed_values (spaced s.runs ++ (parts_of (spaced a.parts)).front) ≡ text = text_following s.runs (parts_of (spaced a.parts)).front s.each a.blank ∙ s.text_is in
     let word : List ℕ = str_to_ascii_lowercase t.octets in
     let first : List Clause → List Clause = λ more. record { word = word; text = text } ∷ more in
     record {
@@ -263,7 +263,7 @@ again_word clauses date t text comments pieces starts w s a =
       are_parts = (w.is_part, all-append (IsPart Mail) s.runs a.parts (runs_parts s.runs s.each) a.are_parts);
       alike = rw (word_octets t s.runs a.parts, ← s.text_is) (alike_word t.octets (map octets_of s.runs) (map octets_of a.parts) pieces (runs_or_none s.runs s.each) a.alike);
       blank = ap (λ (r : ReceivedParts). are_blank_tokens r.front) divided;
-      clauses_are = ap (λ (r : ReceivedParts). map clause_of r.clauses) divided ∙ ap (λ r. record { word = word; text = r } ∷ map clause_of (parts_of (spaced a.parts)).clauses) behind ∙ ap first a.clauses_are;
+      clauses_are = ap (λ (r : ReceivedParts). map clause_of r.clauses) divided ∙ ap (λ r. record { word = word; text = r } ∷ map clause_of (parts_of (spaced a.parts)).clauses) following ∙ ap first a.clauses_are;
       date_is = ap (λ (r : ReceivedParts). date_of r.date) divided ∙ a.date_is;
       values = a.values;
       comments_say = a.comments_say;
@@ -281,14 +281,14 @@ again_date : (ts : List TokenValue) (ps : List (List ℕ)) → AreRead Mail ts �
 again_date ts ps read ascii m =
     let runs : List (List TokenValue) = runs_of ts in
     let each : AllByRecursion IsTokenRun runs = runs_each ts read in
-    let behind : List (List TokenValue) = comment_parts m.made in
-    let text : squeezed_values (spaced (runs ++ behind)) ≡ squeezed_values ts = ap squeezed_values (spaced-append runs behind) ∙ text_behind runs (spaced behind) each (comments_blank m.made) in
-    let octets : map octets_of ((semicolon ∷ []) ∷ (runs ++ behind)) ≡ (59 ∷ []) ∷ (map octets_of runs ++ m.made)
-    = word_octets semicolon runs behind ∙ ap (λ r. (59 ∷ []) ∷ (map octets_of runs ++ r)) (comment_parts-octets m.made) in
-    let said : flat_map comments_of ((semicolon ∷ []) ∷ (runs ++ behind)) ≡ m.made = word_comments semicolon runs behind refl each ∙ comment_parts-comments m.made in
+    let following : List (List TokenValue) = comment_parts m.made in
+    let text : squeezed_values (spaced (runs ++ following)) ≡ squeezed_values ts = ap squeezed_values (spaced-append runs following) ∙ text_following runs (spaced following) each (comments_blank m.made) in
+    let octets : map octets_of ((semicolon ∷ []) ∷ (runs ++ following)) ≡ (59 ∷ []) ∷ (map octets_of runs ++ m.made)
+    = word_octets semicolon runs following ∙ ap (λ r. (59 ∷ []) ∷ (map octets_of runs ++ r)) (comment_parts-octets m.made) in
+    let said : flat_map comments_of ((semicolon ∷ []) ∷ (runs ++ following)) ≡ m.made = word_comments semicolon runs following refl each ∙ comment_parts-comments m.made in
     record {
-      parts = (semicolon ∷ []) ∷ (runs ++ behind);
-      are_parts = (semicolon_part, all-append (IsPart Mail) runs behind (runs_parts runs each) (comments_are_parts Mail m.made m.groups));
+      parts = (semicolon ∷ []) ∷ (runs ++ following);
+      are_parts = (semicolon_part, all-append (IsPart Mail) runs following (runs_parts runs each) (comments_are_parts Mail m.made m.groups));
       alike = subst (λ r. Alike r ((59 ∷ with_space_before (squeezed_values ts)) ∷ ps)) (sym octets) (alike_word (59 ∷ []) (map octets_of runs) m.made ps (runs_or_none runs each) m.alike);
       blank = refl;
       clauses_are = refl;
@@ -303,33 +303,33 @@ date_again : (date : Option (List TokenValue)) (ps : List (List ℕ)) → AreRea
     → AreAgain [] (date_of date) (comments_of (date_tokens date)) ps
 date_again None ps read ascii are = rw (are) again_none
 date_again (Some ts) ps read ascii are =
-    let behind : AreRead Mail ts = read_rest Mail (semicolon ∷ []) ts read in
-    rw (are.2) (again_date ts are.0 behind ascii (made_comments ts are.0 behind are.1))
+    let following : AreRead Mail ts = read_rest Mail (semicolon ∷ []) ts read in
+    rw (are.2) (again_date ts are.0 following ascii (made_comments ts are.0 following are.1))
 
 -- ---- clauses
 
 clause_again : (c : ClauseTokens) (ps : List (List ℕ)) (clauses : List Clause) (date : Option (List ℕ)) (comments pieces : List (List ℕ)) → IsClause c → AreRead Mail (clause_tokens c) → ClausePieces c ps
     → AreAgain clauses date comments pieces
-    → AreAgain (clause_with (str_to_ascii_lowercase c.word.octets) (served_text (str_to_ascii_lowercase c.word.octets) (squeezed_values c.behind)) ++ clauses) date (comments_of (clause_tokens c) ++ comments) (ps ++ pieces)
+    → AreAgain (clause_with (str_to_ascii_lowercase c.word.octets) (served_text (str_to_ascii_lowercase c.word.octets) (squeezed_values c.following)) ++ clauses) date (comments_of (clause_tokens c) ++ comments) (ps ++ pieces)
 clause_again c ps clauses date comments pieces is read p rest =
-    rw (served_lower c.word.octets (squeezed_values c.behind), p.pieces_are, said) (by (served_text c.word.octets (squeezed_values c.behind)) refl)
+    rw (served_lower c.word.octets (squeezed_values c.following), p.pieces_are, said) (by (served_text c.word.octets (squeezed_values c.following)) refl)
   where
-    behind : AreRead Mail c.behind
-    behind = read_rest Mail (c.word ∷ []) c.behind read
+    following : AreRead Mail c.following
+    following = read_rest Mail (c.word ∷ []) c.following read
 
     word : IsWord c.word
-    word = word_is c.word is.starts (read_front Mail (c.word ∷ []) c.behind read)
+    word = word_is c.word is.starts (read_front Mail (c.word ∷ []) c.following read)
 
-    said : comments_of (clause_tokens c) ≡ comments_of c.behind
-    said = comments_of-append (c.word ∷ []) c.behind ∙ ap (λ r. r ++ comments_of c.behind) word.no_comment
+    said : comments_of (clause_tokens c) ≡ comments_of c.following
+    said = comments_of-append (c.word ∷ []) c.following ∙ ap (λ r. r ++ comments_of c.following) word.no_comment
 
-    more : AreAgain clauses date (comments_of c.behind ++ comments) (p.comments ++ pieces)
-    more = again_comments clauses date (comments_of c.behind) p.comments comments pieces (made_comments c.behind p.comments behind p.comments_are) rest
+    more : AreAgain clauses date (comments_of c.following ++ comments) (p.comments ++ pieces)
+    more = again_comments clauses date (comments_of c.following) p.comments comments pieces (made_comments c.following p.comments following p.comments_are) rest
 
-    by : (served : Option (List ℕ)) → served_text c.word.octets (squeezed_values c.behind) ≡ served
-        → AreAgain (clause_with (str_to_ascii_lowercase c.word.octets) served ++ clauses) date (comments_of c.behind ++ comments) ((served_piece c.word.octets served ++ p.comments) ++ pieces)
+    by : (served : Option (List ℕ)) → served_text c.word.octets (squeezed_values c.following) ≡ served
+        → AreAgain (clause_with (str_to_ascii_lowercase c.word.octets) served ++ clauses) date (comments_of c.following ++ comments) ((served_piece c.word.octets served ++ p.comments) ++ pieces)
     by None e = more
-    by (Some text) e = again_word clauses date c.word text (comments_of c.behind ++ comments) (p.comments ++ pieces) is.starts word (served_is c.behind c.word.octets text behind is.inner e) more
+    by (Some text) e = again_word clauses date c.word text (comments_of c.following ++ comments) (p.comments ++ pieces) is.starts word (served_is c.following c.word.octets text following is.inner e) more
 
 clauses_again : (cs : List ClauseTokens) (ps : List (List ℕ)) (date : Option (List ℕ)) (comments pieces : List (List ℕ)) → AllByRecursion IsClause cs → AreRead Mail (flat_map clause_tokens cs) → ClausesPieces cs ps
     → AreAgain [] date comments pieces → AreAgain (served_clauses (map clause_of cs)) date (comments_of (flat_map clause_tokens cs) ++ comments) (ps ++ pieces)
@@ -347,10 +347,10 @@ clauses_again (c ∷ cs) ps date comments pieces are read p rest =
 pub record IsReceivedAgain (clauses : List Clause) (date : Option (List ℕ)) (comments : List CommentValue) (pieces : List (List ℕ)) : Type 0 where
   pub says : SaysReceived (join_with_byte 32 pieces) (served_clauses clauses) date comments
   pub begins : Stops is_white (join_with_byte 32 pieces)
-  pub ends : StopsBehind is_white (join_with_byte 32 pieces)
+  pub ends : StopsAfter is_white (join_with_byte 32 pieces)
   pub are_pieces : AllByRecursion IsLinePiece pieces
 
-spaced_apart : (part : List TokenValue) (parts : List (List TokenValue)) → spaced (part ∷ parts) ≡ space ∷ apart (part ∷ parts)
+spaced_apart : (part : List TokenValue) (parts : List (List TokenValue)) → spaced (part ∷ parts) ≡ space ∷ joined_by_spaces (part ∷ parts)
 spaced_apart part [] = ap (λ r. space ∷ r) (append-nil part)
 spaced_apart part (next ∷ parts) = ap (λ r. space ∷ (part ++ r)) (spaced_apart next parts)
 
@@ -360,9 +360,9 @@ record DividedAlike (parts others : ReceivedParts) : Type 0 where
   clauses : parts.clauses ≡ others.clauses
   date : parts.date ≡ others.date
 
-divided_apart : (parts : List (List TokenValue)) → DividedAlike (parts_of (apart parts)) (parts_of (spaced parts))
+divided_apart : (parts : List (List TokenValue)) → DividedAlike (parts_of (joined_by_spaces parts)) (parts_of (spaced parts))
 divided_apart [] = record { blank = refl; clauses = refl; date = refl }
-divided_apart (part ∷ parts) = subst (λ ts. DividedAlike (parts_of (apart (part ∷ parts))) (parts_of ts)) (sym (spaced_apart part parts)) (record { blank = refl; clauses = refl; date = refl })
+divided_apart (part ∷ parts) = subst (λ ts. DividedAlike (parts_of (joined_by_spaces (part ∷ parts))) (parts_of ts)) (sym (spaced_apart part parts)) (record { blank = refl; clauses = refl; date = refl })
 
 text_alike : (d e : Option (List TokenValue)) → date_of d ≡ date_of e → date_text d ≡ date_text e
 text_alike None None h = refl
@@ -373,10 +373,10 @@ text_alike (Some ts) (Some us) h = cc h
 again_read : (clauses : List Clause) (date : Option (List TokenValue)) (originals : List (List ℕ)) (comments : List CommentValue) (pieces : List (List ℕ)) → list_all is_ascii (date_text date) ≡ true
     → CommentsSay originals comments → AreAgain (served_clauses clauses) (date_of date) originals pieces → IsReceivedAgain clauses (date_of date) comments pieces
 again_read clauses date originals comments pieces ascii say a =
-    let tokens : List TokenValue = apart a.parts in
+    let tokens : List TokenValue = joined_by_spaces a.parts in
     let parts : ReceivedParts = parts_of tokens in
     let same : DividedAlike parts (parts_of (spaced a.parts)) = divided_apart a.parts in
-    let are : AreTokens Mail tokens (join_with_byte 32 pieces) = subst (AreTokens Mail tokens) a.alike.joined (AreTokens-apart Mail a.parts a.are_parts) in
+    let are : AreTokens Mail tokens (join_with_byte 32 pieces) = subst (AreTokens Mail tokens) a.alike.joined (AreTokens-joined_by_spaces Mail a.parts a.are_parts) in
     let dates : date_of parts.date ≡ date_of date = ap date_of same.date ∙ a.date_is in
     let values : a.values ≡ comments = CommentsSay-once originals a.values comments a.comments_say say in
     record {
@@ -390,10 +390,10 @@ again_read clauses date originals comments pieces ascii say a =
         };
         clauses_are = sym (ap (map clause_of) same.clauses ∙ a.clauses_are);
         date_is = sym dates;
-        comments_say = rw (comments_of-apart a.parts) (subst (CommentsSay (flat_map comments_of a.parts)) values a.parts_say);
+        comments_say = rw (comments_of-joined_by_spaces a.parts) (subst (CommentsSay (flat_map comments_of a.parts)) values a.parts_say);
       };
-      begins = AreTokens-begin Mail tokens (join_with_byte 32 pieces) are (apart_begins Mail a.parts a.are_parts);
-      ends = AreTokens-end Mail tokens (join_with_byte 32 pieces) are (apart_ends Mail a.parts a.are_parts);
+      begins = AreTokens-begin Mail tokens (join_with_byte 32 pieces) are (joined_begins Mail a.parts a.are_parts);
+      ends = AreTokens-end Mail tokens (join_with_byte 32 pieces) are (joined_ends Mail a.parts a.are_parts);
       are_pieces = a.each;
     }
 
@@ -403,9 +403,9 @@ received_again text tokens parts pieces is p =
     let read : ReadParts parts = read_parts text tokens parts is in
     let clauses : List TokenValue = flat_map clause_tokens parts.clauses in
     let date = date_again parts.date p.date read.date is.ascii p.date_are in
-    let behind = clauses_again parts.clauses p.clauses (date_of parts.date) (comments_of (date_tokens parts.date)) p.date is.are_parts.are_clauses read.clauses p.clauses_are date in
+    let following = clauses_again parts.clauses p.clauses (date_of parts.date) (comments_of (date_tokens parts.date)) p.date is.are_parts.are_clauses read.clauses p.clauses_are date in
     let whole = again_comments (served_clauses (map clause_of parts.clauses)) (date_of parts.date) (comments_of parts.front) p.front (comments_of clauses ++ comments_of (date_tokens parts.date)) (p.clauses ++ p.date)
-    (made_comments parts.front p.front read.front p.front_are) behind in
+    (made_comments parts.front p.front read.front p.front_are) following in
     let comments : comments_of tokens ≡ comments_of parts.front ++ (comments_of clauses ++ comments_of (date_tokens parts.date))
     = ap comments_of is.are_parts.whole ∙ comments_of-append parts.front (clauses ++ date_tokens parts.date) ∙ ap (λ r. comments_of parts.front ++ r) (comments_of-append clauses (date_tokens parts.date)) in
     rw (comments, p.pieces_are) whole

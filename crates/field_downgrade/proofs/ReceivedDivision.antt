@@ -13,7 +13,7 @@ use Rattle.field_downgrade.specs.Received.{is_clause_word, starts_clause, is_sem
 
 abbrev pub put_token : Bool → Bool → TokenValue → List TokenValue → ReceivedParts → ReceivedParts
 put_token true starts t ts parts = record { front = []; clauses = []; date = Some ts }
-put_token false true t ts parts = record { front = []; clauses = record { word = t; behind = parts.front } ∷ parts.clauses; date = parts.date }
+put_token false true t ts parts = record { front = []; clauses = record { word = t; following = parts.front } ∷ parts.clauses; date = parts.date }
 put_token false false t ts parts = record { front = t ∷ parts.front; clauses = parts.clauses; date = parts.date }
 
 -- the division, one token at a time
@@ -120,7 +120,7 @@ date_parts (Some ts) = refl
 
 pub clause_parts : (c : ClauseTokens) (ts : List TokenValue) (clauses : List ClauseTokens) (date : Option (List TokenValue)) → IsClause c → parts_of ts ≡ bare clauses date
     → parts_of (clause_tokens c ++ ts) ≡ bare (c ∷ clauses) date
-clause_parts c ts clauses date is e = rw (parts_start c.word (c.behind ++ ts) is.starts, parts_inner c.behind ts is.inner, e, append-nil c.behind) refl
+clause_parts c ts clauses date is e = rw (parts_start c.word (c.following ++ ts) is.starts, parts_inner c.following ts is.inner, e, append-nil c.following) refl
 
 pub clauses_parts : (clauses : List ClauseTokens) (date : Option (List TokenValue)) → AllByRecursion IsClause clauses → parts_of (flat_map clause_tokens clauses ++ date_tokens date) ≡ bare clauses date
 clauses_parts [] date all = date_parts date

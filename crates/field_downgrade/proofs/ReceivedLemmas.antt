@@ -49,10 +49,10 @@ pub record ReadParts (parts : ReceivedParts) : Type 0 where
 pub read_parts : (text : List ℕ) (tokens : List TokenValue) (parts : ReceivedParts) → IsReceived text tokens parts → ReadParts parts
 read_parts text tokens parts is =
     let clauses : List TokenValue = flat_map clause_tokens parts.clauses in
-    let behind : List TokenValue = clauses ++ date_tokens parts.date in
-    let whole : AreRead Mail (parts.front ++ behind) = subst (AreRead Mail) is.are_parts.whole (read_whole Mail text tokens is.has) in
-    let rest : AreRead Mail behind = read_rest Mail parts.front behind whole in
-    record { front = read_front Mail parts.front behind whole; clauses = read_front Mail clauses (date_tokens parts.date) rest; date = read_rest Mail clauses (date_tokens parts.date) rest }
+    let following : List TokenValue = clauses ++ date_tokens parts.date in
+    let whole : AreRead Mail (parts.front ++ following) = subst (AreRead Mail) is.are_parts.whole (read_whole Mail text tokens is.has) in
+    let rest : AreRead Mail following = read_rest Mail parts.front following whole in
+    record { front = read_front Mail parts.front following whole; clauses = read_front Mail clauses (date_tokens parts.date) rest; date = read_rest Mail clauses (date_tokens parts.date) rest }
 
 -- ---- one value
 
@@ -76,7 +76,7 @@ SaysReceived-once text clauses clauses2 date date2 comments comments2 p q =
 
 ClausePieces-once : (c : ClauseTokens) (ps qs : List (List ℕ)) → ClausePieces c ps → ClausePieces c qs → ps ≡ qs
 ClausePieces-once c ps qs p q =
-    p.pieces_are ∙ ap (λ r. served_piece c.word.octets (served_text c.word.octets (squeezed_values c.behind)) ++ r) (CommentsPieces-once (comments_of c.behind) p.comments q.comments p.comments_are q.comments_are)
+    p.pieces_are ∙ ap (λ r. served_piece c.word.octets (served_text c.word.octets (squeezed_values c.following)) ++ r) (CommentsPieces-once (comments_of c.following) p.comments q.comments p.comments_are q.comments_are)
     ∙ sym q.pieces_are
 
 ClausesPieces-once : (cs : List ClauseTokens) (ps qs : List (List ℕ)) → ClausesPieces cs ps → ClausesPieces cs qs → ps ≡ qs
@@ -114,8 +114,8 @@ ReceivedPieces-says text pieces p = received_says text p.tokens p.parts p.is_rec
 
 ClausePieces-some : (c : ClauseTokens) → AreRead Mail (clause_tokens c) → (pieces : List (List ℕ)) × ClausePieces c pieces
 ClausePieces-some c read =
-    let comments = CommentsPieces-some (comments_of c.behind) (read_writable c.behind (read_rest Mail (c.word ∷ []) c.behind read)) in
-    (served_piece c.word.octets (served_text c.word.octets (squeezed_values c.behind)) ++ comments.0, record { comments = comments.0; comments_are = comments.1; pieces_are = refl })
+    let comments = CommentsPieces-some (comments_of c.following) (read_writable c.following (read_rest Mail (c.word ∷ []) c.following read)) in
+    (served_piece c.word.octets (served_text c.word.octets (squeezed_values c.following)) ++ comments.0, record { comments = comments.0; comments_are = comments.1; pieces_are = refl })
 
 ClausesPieces-some : (cs : List ClauseTokens) → AreRead Mail (flat_map clause_tokens cs) → (pieces : List (List ℕ)) × ClausesPieces cs pieces
 ClausesPieces-some [] read = ([], refl)

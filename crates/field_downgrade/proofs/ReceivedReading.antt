@@ -37,9 +37,9 @@ cuts_with : (p : TokenValue → Bool) (tokens rest found : List TokenValue) (l :
 cuts_with p tokens rest found l front_is begins =
     let same : found ≡ l.front = front_is l.front l.whole in record { whole = rw (same) l.whole; before = rw (same) l.before; begins = begins }
 
-pub cuts_at : (p : TokenValue → Bool) (tokens : List TokenValue) (t : TokenValue) (behind rest found : List TokenValue) → rest ≡ t ∷ behind → PassesNone p tokens rest
+pub cuts_at : (p : TokenValue → Bool) (tokens : List TokenValue) (t : TokenValue) (following rest found : List TokenValue) → rest ≡ t ∷ following → PassesNone p tokens rest
     → ((front : List TokenValue) → tokens ≡ front ++ rest → found ≡ front) → p t ≡ true → CutsTokens p tokens found rest
-cuts_at p tokens t behind rest found rest_is l front_is passes = cuts_with p tokens rest found l front_is (subst (EndsOrBeginsSo p) (sym rest_is) passes)
+cuts_at p tokens t following rest found rest_is l front_is passes = cuts_with p tokens rest found l front_is (subst (EndsOrBeginsSo p) (sym rest_is) passes)
 
 pub cuts_end : (p : TokenValue → Bool) (tokens rest found : List TokenValue) → rest ≡ [] → PassesNone p tokens rest → ((front : List TokenValue) → tokens ≡ front ++ rest → found ≡ front) → CutsTokens p tokens found rest
 cuts_end p tokens rest found rest_is l front_is = cuts_with p tokens rest found l front_is (subst (EndsOrBeginsSo p) (sym rest_is) tt)
@@ -76,36 +76,36 @@ pub WalksClauses-start : (tokens : List TokenValue) (old : List ℕ) → AreRead
 WalksClauses-start tokens old read begins head = record { read = read; begins = begins; head = head; complete = λ new adds. adds }
 
 -- what the turn of a clause finds
-pub record ClauseTurn (tokens : List TokenValue) (word : TokenValue) (behind after : List TokenValue) (old made : List ℕ) : Type 0 where
-  pub read : AreRead Mail behind
-  pub next : (new : List ℕ) → AddsLines (ClausePieces (clause_at word behind)) made new → WalksClauses tokens after old new
+pub record ClauseTurn (tokens : List TokenValue) (word : TokenValue) (following after : List TokenValue) (old made : List ℕ) : Type 0 where
+  pub read : AreRead Mail following
+  pub next : (new : List ℕ) → AddsLines (ClausePieces (clause_at word following)) made new → WalksClauses tokens after old new
 
-more_clauses : (word : TokenValue) (behind after : List TokenValue) → starts_clause word ≡ true → list_all is_inner behind ≡ true → (xs ys : List (List ℕ)) → ClausePieces (clause_at word behind) xs → WritesClauses after ys
-    → WritesClauses (word ∷ (behind ++ after)) (xs ++ ys)
-more_clauses word behind after starts inner xs ys p q = record {
-  clauses = clause_at word behind ∷ q.clauses;
-  whole = ap (λ r. word ∷ (behind ++ r)) q.whole;
+more_clauses : (word : TokenValue) (following after : List TokenValue) → starts_clause word ≡ true → list_all is_inner following ≡ true → (xs ys : List (List ℕ)) → ClausePieces (clause_at word following) xs → WritesClauses after ys
+    → WritesClauses (word ∷ (following ++ after)) (xs ++ ys)
+more_clauses word following after starts inner xs ys p q = record {
+  clauses = clause_at word following ∷ q.clauses;
+  whole = ap (λ r. word ∷ (following ++ r)) q.whole;
   are_clauses = (record { starts = starts; inner = inner }, q.are_clauses);
   pieces_are = (xs, ys, refl, p, q.pieces_are);
 }
 
-pub clause_turn : (tokens rest : List TokenValue) (word : TokenValue) (others behind after : List TokenValue) (old made : List ℕ) → rest ≡ word ∷ others → WalksClauses tokens rest old made
-    → CutsTokens starts_clause others behind after → ClauseTurn tokens word behind after old made
-clause_turn tokens rest word others behind after old made rest_is w cut =
-    let whole : rest ≡ word ∷ (behind ++ after) = rest_is ∙ ap (λ r. word ∷ r) cut.whole in
-    let read : AreRead Mail (behind ++ after) = read_rest Mail (word ∷ []) (behind ++ after) (subst (AreRead Mail) whole w.read) in
+pub clause_turn : (tokens rest : List TokenValue) (word : TokenValue) (others following after : List TokenValue) (old made : List ℕ) → rest ≡ word ∷ others → WalksClauses tokens rest old made
+    → CutsTokens starts_clause others following after → ClauseTurn tokens word following after old made
+clause_turn tokens rest word others following after old made rest_is w cut =
+    let whole : rest ≡ word ∷ (following ++ after) = rest_is ∙ ap (λ r. word ∷ r) cut.whole in
+    let read : AreRead Mail (following ++ after) = read_rest Mail (word ∷ []) (following ++ after) (subst (AreRead Mail) whole w.read) in
     let starts : starts_clause word ≡ true = subst (EndsOrBeginsSo starts_clause) whole w.begins in
-    let no_end : list_all (λ t. not (is_semicolon t)) (word ∷ (behind ++ after)) ≡ true = subst (λ ts. list_all (λ t. not (is_semicolon t)) ts ≡ true) whole w.head in
-    let head = heads behind after (and_parts (not (is_semicolon word)) (list_all (λ t. not (is_semicolon t)) (behind ++ after)) no_end).1 in
-    let inner : list_all is_inner behind ≡ true = inner_all behind cut.before head.0 in
+    let no_end : list_all (λ t. not (is_semicolon t)) (word ∷ (following ++ after)) ≡ true = subst (λ ts. list_all (λ t. not (is_semicolon t)) ts ≡ true) whole w.head in
+    let head = heads following after (and_parts (not (is_semicolon word)) (list_all (λ t. not (is_semicolon t)) (following ++ after)) no_end).1 in
+    let inner : list_all is_inner following ≡ true = inner_all following cut.before head.0 in
     record {
-      read = read_front Mail behind after read;
+      read = read_front Mail following after read;
       next = λ new adds. record {
-        read = read_rest Mail behind after read;
+        read = read_rest Mail following after read;
         begins = cut.begins;
         head = head.1;
         complete = λ later more.
-            let both : AddsLines (WritesClauses (word ∷ (behind ++ after))) made later = adds_both (more_clauses word behind after starts inner) adds more in
+            let both : AddsLines (WritesClauses (word ∷ (following ++ after))) made later = adds_both (more_clauses word following after starts inner) adds more in
             w.complete later (subst (λ ts. AddsLines (WritesClauses ts) made later) (sym whole) both);
       };
     }

@@ -25,11 +25,11 @@ pub said_utf8 : (said : List ℕ) (tokens : List TokenValue) → AreRead Mail to
 said_utf8 said tokens read e = subst IsUtf8 (sym e) (squeezed_line Mail tokens (octets_of tokens) read.are_tokens read.is_line).utf8
 
 -- the clause as it is served, and its comments
-pub clause_put : (word : TokenValue) (behind : List TokenValue) (said : List ℕ) (served : Option (List ℕ)) (old mid new : List ℕ) → said ≡ squeezed_values behind → served ≡ served_text word.octets said
-    → mid ≡ old ++ lines_of (served_piece word.octets served) → AddsLines (CommentsPieces (comments_of behind)) mid new → AddsLines (ClausePieces (clause_at word behind)) old new
-clause_put word behind said served old mid new said_is served_is mid_is adds =
+pub clause_put : (word : TokenValue) (following : List TokenValue) (said : List ℕ) (served : Option (List ℕ)) (old mid new : List ℕ) → said ≡ squeezed_values following → served ≡ served_text word.octets said
+    → mid ≡ old ++ lines_of (served_piece word.octets served) → AddsLines (CommentsPieces (comments_of following)) mid new → AddsLines (ClausePieces (clause_at word following)) old new
+clause_put word following said served old mid new said_is served_is mid_is adds =
     let first : AddsLines (λ pieces. pieces ≡ served_piece word.octets served) old mid = adds_these (served_piece word.octets served) refl mid_is in
-    let whole : served ≡ served_text word.octets (squeezed_values behind) = served_is ∙ ap (served_text word.octets) said_is in
+    let whole : served ≡ served_text word.octets (squeezed_values following) = served_is ∙ ap (served_text word.octets) said_is in
     adds_both (λ xs ys p q. record { comments = ys; comments_are = q; pieces_are = ap (λ r. r ++ ys) (p ∙ ap (served_piece word.octets) whole) }) first adds
 
 -- the semicolon with the date, and its comments
@@ -76,11 +76,11 @@ put_date-same : (s : Bool) (t : TokenValue) (ts : List TokenValue) (parts : Rece
 put_date-same true t ts parts = refl
 put_date-same false t ts parts = refl
 
-date_behind : (ts ds : List TokenValue) → list_all (λ t. not (is_semicolon t)) ts ≡ true → (parts_of (ts ++ ds)).date ≡ (parts_of ds).date
-date_behind [] ds lacks = refl
-date_behind (t ∷ ts) ds lacks =
+date_after : (ts ds : List TokenValue) → list_all (λ t. not (is_semicolon t)) ts ≡ true → (parts_of (ts ++ ds)).date ≡ (parts_of ds).date
+date_after [] ds lacks = refl
+date_after (t ∷ ts) ds lacks =
     let parts = and_parts (not (is_semicolon t)) (list_all (λ t. not (is_semicolon t)) ts) lacks in
-    rw (not-true (is_semicolon t) parts.0) (put_date-same (starts_clause t) t (ts ++ ds) (parts_of (ts ++ ds)) ∙ date_behind ts ds parts.1)
+    rw (not-true (is_semicolon t) parts.0) (put_date-same (starts_clause t) t (ts ++ ds) (parts_of (ts ++ ds)) ∙ date_after ts ds parts.1)
 
 -- lacks front, and the date behind the semicolon
 record HasNoFront (parts : ReceivedParts) (date : Option (List TokenValue)) : Type 0 where
@@ -91,7 +91,7 @@ rest_parts : (ts : List TokenValue) (date : Option (List TokenValue)) → EndsOr
 rest_parts [] date starts lacks = record { front = ap (λ (r : ReceivedParts). r.front) (date_parts date); date_is = ap (λ (r : ReceivedParts). r.date) (date_parts date) }
 rest_parts (t ∷ ts) date starts lacks = record {
   front = ap (λ (r : ReceivedParts). r.front) (parts_start t (ts ++ date_tokens date) starts);
-  date_is = date_behind (t ∷ ts) (date_tokens date) lacks ∙ ap (λ (r : ReceivedParts). r.date) (date_parts date);
+  date_is = date_after (t ∷ ts) (date_tokens date) lacks ∙ ap (λ (r : ReceivedParts). r.date) (date_parts date);
 }
 
 -- what the parts of the text are
@@ -104,11 +104,11 @@ cut_parts text tokens head front clauses date c =
     let rest : List TokenValue = clauses ++ date_tokens date in
     let lack = heads front clauses (subst (λ r. list_all (λ t. not (is_semicolon t)) r ≡ true) c.front_cut.whole c.head_cut.before) in
     let inner : list_all is_inner front ≡ true = inner_all front c.front_cut.before lack.0 in
-    let behind = rest_parts clauses date c.front_cut.begins lack.1 in
+    let following = rest_parts clauses date c.front_cut.begins lack.1 in
     let divided : parts_of tokens ≡ before_parts front (parts_of rest) = ap parts_of (cut_whole text tokens head front clauses date c) ∙ parts_inner front rest inner in
     record {
-      front_is = ap (λ (r : ReceivedParts). r.front) divided ∙ ap (λ r. front ++ r) behind.front ∙ append-nil front;
-      date_is = ap (λ (r : ReceivedParts). r.date) divided ∙ behind.date_is;
+      front_is = ap (λ (r : ReceivedParts). r.front) divided ∙ ap (λ r. front ++ r) following.front ∙ append-nil front;
+      date_is = ap (λ (r : ReceivedParts). r.date) divided ∙ following.date_is;
     }
 
 -- ---- texts that are none

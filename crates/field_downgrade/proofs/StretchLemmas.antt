@@ -24,25 +24,25 @@ use Rattle.field_downgrade.proofs.SegmentLemmas.{NotEncoded, EndsHigh, EndsHigh-
 -- ---- the next word
 
 -- what is cut from octets that begin with a word
-pub record IsNext (w : Word) (ws : List Word) (word behind gap next : List ℕ) : Type 0 where
+pub record IsNext (w : Word) (ws : List Word) (word following gap next : List ℕ) : Type 0 where
   pub word_is : word ≡ w.octets
-  pub behind_is : behind ≡ w.gap ++ flat_map word_octets ws
+  pub following_is : following ≡ w.gap ++ flat_map word_octets ws
   pub gap_is : gap ≡ w.gap
   pub next_is : next ≡ flat_map word_octets ws
 
-next_word : (w : Word) (ws : List Word) (rest word behind gap next : List ℕ) → AreWords (w ∷ ws) → rest ≡ flat_map word_octets (w ∷ ws) → IsSpan is_word_octet rest word behind → IsSpan is_gap_octet behind gap next
-    → IsNext w ws word behind gap next
-next_word w ws rest word behind gap next are is words gaps =
+next_word : (w : Word) (ws : List Word) (rest word following gap next : List ℕ) → AreWords (w ∷ ws) → rest ≡ flat_map word_octets (w ∷ ws) → IsSpan is_word_octet rest word following → IsSpan is_gap_octet following gap next
+    → IsNext w ws word following gap next
+next_word w ws rest word following gap next are is words gaps =
     let others : List ℕ = flat_map word_octets ws in
-    let first = span_once is_word_octet word w.octets behind (w.gap ++ others) words.passes are.0.octets words.stops (gap_first w.gap ws are.0.gap.octets (gap_none w ws are.1))
+    let first = span_once is_word_octet word w.octets following (w.gap ++ others) words.passes are.0.octets words.stops (gap_first w.gap ws are.0.gap.octets (gap_none w ws are.1))
     (sym words.whole ∙ is ∙ append_assoc w.octets w.gap others) in
     let second = span_once is_gap_octet gap w.gap next others gaps.passes are.0.gap.octets gaps.stops (words_first ws are.2) (sym gaps.whole ∙ first.1) in
-    record { word_is = first.0; behind_is = first.1; gap_is = second.0; next_is = second.1 }
+    record { word_is = first.0; following_is = first.1; gap_is = second.0; next_is = second.1 }
 
-first_word : (w : Word) (ws : List Word) (rest word behind : List ℕ) → AreWords (w ∷ ws) → rest ≡ flat_map word_octets (w ∷ ws) → IsSpan is_word_octet rest word behind → word ≡ w.octets
-first_word w ws rest word behind are is words =
+first_word : (w : Word) (ws : List Word) (rest word following : List ℕ) → AreWords (w ∷ ws) → rest ≡ flat_map word_octets (w ∷ ws) → IsSpan is_word_octet rest word following → word ≡ w.octets
+first_word w ws rest word following are is words =
     let others : List ℕ = flat_map word_octets ws in
-    (span_once is_word_octet word w.octets behind (w.gap ++ others) words.passes are.0.octets words.stops (gap_first w.gap ws are.0.gap.octets (gap_none w ws are.1))
+    (span_once is_word_octet word w.octets following (w.gap ++ others) words.passes are.0.octets words.stops (gap_first w.gap ws are.0.gap.octets (gap_none w ws are.1))
     (sym words.whole ∙ is ∙ append_assoc w.octets w.gap others)).0
 
 -- octets that are some words begin with one
@@ -57,24 +57,24 @@ no_words (w ∷ ws) rest are is none =
     absurd (omega (arith, none, ap length is, length-append (w.octets ++ w.gap) (flat_map word_octets ws), length-append w.octets w.gap))
 
 -- what stands up to one more word
-reaches : (done : List Word) (w : Word) (ws : List Word) (body behind : List ℕ) → body ≡ flat_map word_octets (done ++ w ∷ ws) → behind ≡ w.gap ++ flat_map word_octets ws
-    → body ≡ copied_octets (done ++ w ∷ []) ++ behind
-reaches done w ws body behind is behind_is =
+reaches : (done : List Word) (w : Word) (ws : List Word) (body following : List ℕ) → body ≡ flat_map word_octets (done ++ w ∷ ws) → following ≡ w.gap ++ flat_map word_octets ws
+    → body ≡ copied_octets (done ++ w ∷ []) ++ following
+reaches done w ws body following is following_is =
     let others : List ℕ = flat_map word_octets ws in
     is ∙ flat_map-append word_octets done (w ∷ ws) ∙ ap (λ t. t ++ ((w.octets ++ w.gap) ++ others)) (words_whole done)
     ∙ append_assoc (copied_octets done) (last_gap done) ((w.octets ++ w.gap) ++ others)
-    ∙ ap (λ t. copied_octets done ++ (last_gap done ++ t)) (append_assoc w.octets w.gap others ∙ ap (λ t. w.octets ++ t) (sym behind_is))
-    ∙ ap (λ t. copied_octets done ++ t) (sym (append_assoc (last_gap done) w.octets behind))
-    ∙ sym (append_assoc (copied_octets done) (last_gap done ++ w.octets) behind) ∙ ap (λ t. t ++ behind) (sym (copied-push done w))
+    ∙ ap (λ t. copied_octets done ++ (last_gap done ++ t)) (append_assoc w.octets w.gap others ∙ ap (λ t. w.octets ++ t) (sym following_is))
+    ∙ ap (λ t. copied_octets done ++ t) (sym (append_assoc (last_gap done) w.octets following))
+    ∙ sym (append_assoc (copied_octets done) (last_gap done ++ w.octets) following) ∙ ap (λ t. t ++ following) (sym (copied-push done w))
 
 -- ---- sides
 
 tells_side : (side : Side) (w : Word) (octets : List ℕ) → TellsSide side octets → octets ≡ w.octets → TellsEncoded w.is_encoded w.octets → side ≡ side_of w
-tells_side Edge w octets tells is encoded = absurd tells
-tells_side Encoded w octets tells is encoded =
-    let same : true ≡ w.is_encoded = tells_once true w.is_encoded w.octets (subst (TellsEncoded true) is tells) encoded in rw (← same) refl
-tells_side Plain w octets tells is encoded =
-    let same : false ≡ w.is_encoded = tells_once false w.is_encoded w.octets (subst (TellsEncoded false) is tells) encoded in rw (← same) refl
+tells_side Edge w octets observed is encoded = absurd observed
+tells_side Encoded w octets observed is encoded =
+    let same : true ≡ w.is_encoded = tells_once true w.is_encoded w.octets (subst (TellsEncoded true) is observed) encoded in rw (← same) refl
+tells_side Plain w octets observed is encoded =
+    let same : false ≡ w.is_encoded = tells_once false w.is_encoded w.octets (subst (TellsEncoded false) is observed) encoded in rw (← same) refl
 
 no_edge : (w : Word) (next : Side) → first_where (side_of w) next ≡ side_of w
 no_edge w next = by w.is_encoded refl
@@ -113,10 +113,10 @@ low_start body low octets gap first last = λ words stand.
     record { done = []; left = words; whole = refl; is_low = refl; is = record { octets = octets; gap = gap; first = first; last = last }; rest_is = stand.whole }
 
 -- one more word that isn't high
-pub low_turn : (body : List ℕ) (low more : Stretch) (rest word behind gap next : List ℕ) (side : Side) → PassesLow body low rest → 0 < length rest → IsSpan is_word_octet rest word behind
-    → IsSpan is_gap_octet behind gap next → list_all is_ascii word ≡ true → TellsSide side word → ((front : List ℕ) → body ≡ front ++ behind → more.octets.now ≡ front) → more.gap.now ≡ gap
+pub low_turn : (body : List ℕ) (low more : Stretch) (rest word following gap next : List ℕ) (side : Side) → PassesLow body low rest → 0 < length rest → IsSpan is_word_octet rest word following
+    → IsSpan is_gap_octet following gap next → list_all is_ascii word ≡ true → TellsSide side word → ((front : List ℕ) → body ≡ front ++ following → more.octets.now ≡ front) → more.gap.now ≡ gap
     → more.first ≡ first_where low.first side → more.last ≡ side → PassesLow body more next
-low_turn body low more rest word behind gap next side so some words gaps ascii tells octets_are gap_is first_is last_is = λ all stand. by all stand (so all stand)
+low_turn body low more rest word following gap next side so some words gaps ascii observed octets_are gap_is first_is last_is = λ all stand. by all stand (so all stand)
   where
     by : (all : List Word) → StandIn all body → LowSoFar all low rest → LowSoFar all more next
     by all stand l = go l.left l.whole l.rest_is
@@ -125,7 +125,7 @@ low_turn body low more rest word behind gap next side so some words gaps ascii t
         go [] whole is = absurd (omega (arith, some, ap length is))
         go (w ∷ ws) whole is =
             let are : AreWords (w ∷ ws) = AreWords-back l.done (w ∷ ws) (subst AreWords whole stand.are) in
-            let n = next_word w ws rest word behind gap next are is words gaps in
+            let n = next_word w ws rest word following gap next are is words gaps in
             let low_word : is_high_word w ≡ false = rw (← n.word_is, ascii) refl in
             record {
               done = l.done ++ w ∷ [];
@@ -133,10 +133,10 @@ low_turn body low more rest word behind gap next side so some words gaps ascii t
               whole = whole ∙ sym (append_assoc l.done (w ∷ []) ws);
               is_low = pass-append (λ (v : Word). not (is_high_word v)) l.done (w ∷ []) l.is_low (rw low_word refl);
               is = record {
-                octets = octets_are (copied_octets (l.done ++ w ∷ [])) (reaches l.done w ws body behind (stand.whole ∙ ap (flat_map word_octets) whole) n.behind_is);
+                octets = octets_are (copied_octets (l.done ++ w ∷ [])) (reaches l.done w ws body following (stand.whole ∙ ap (flat_map word_octets) whole) n.following_is);
                 gap = gap_is ∙ n.gap_is ∙ sym (last_gap-push l.done w);
-                first = first_is ∙ first_push l.done w low.first side l.is.first (tells_side side w word tells n.word_is are.0.encoded);
-                last = last_is ∙ tells_side side w word tells n.word_is are.0.encoded ∙ sym (last_side-push l.done w);
+                first = first_is ∙ first_push l.done w low.first side l.is.first (tells_side side w word observed n.word_is are.0.encoded);
+                last = last_is ∙ tells_side side w word observed n.word_is are.0.encoded ∙ sym (last_side-push l.done w);
               };
               rest_is = n.next_is;
             }
@@ -145,9 +145,9 @@ low_split : (words : List Word) (low : Stretch) (rest : List ℕ) → (l : LowSo
 low_split words low rest l begins = record { copied = l.done; others = l.left; splits = record { whole = l.whole; is_copied = l.is_low; begins = begins }; is = l.is; rest_is = l.rest_is }
 
 -- the next word is high
-pub low_high : (body : List ℕ) (low : Stretch) (rest word behind : List ℕ) → PassesLow body low rest → IsSpan is_word_octet rest word behind → list_all is_ascii word ≡ false
+pub low_high : (body : List ℕ) (low : Stretch) (rest word following : List ℕ) → PassesLow body low rest → IsSpan is_word_octet rest word following → list_all is_ascii word ≡ false
     → (words : List Word) → StandIn words body → IsSplitLow words low rest
-low_high body low rest word behind so span high = λ all stand. by all stand (so all stand)
+low_high body low rest word following so span high = λ all stand. by all stand (so all stand)
   where
     by : (all : List Word) → StandIn all body → LowSoFar all low rest → IsSplitLow all low rest
     by all stand l = low_split all low rest l (go l.left l.whole l.rest_is)
@@ -156,7 +156,7 @@ low_high body low rest word behind so span high = λ all stand. by all stand (so
         go [] whole is = tt
         go (w ∷ ws) whole is =
             let are : AreWords (w ∷ ws) = AreWords-back l.done (w ∷ ws) (subst AreWords whole stand.are) in
-            let first = first_word w ws rest word behind are is span in rw (← first, high) refl
+            let first = first_word w ws rest word following are is span in rw (← first, high) refl
 
 -- no word is left
 pub low_end : (body : List ℕ) (low : Stretch) (rest : List ℕ) → PassesLow body low rest → length rest ≡ 0 → (words : List Word) → StandIn words body → IsSplitLow words low rest
@@ -171,7 +171,7 @@ low_end body low rest so none = λ all stand. by all stand (so all stand)
 -- ---- the words of a core
 
 -- the words up to the last high one, and those behind it, of which none is high; none is an encoded word
-pub record CoreSoFar (words : List Word) (core : Stretch) (behind_core rest : List ℕ) : Type 0 where
+pub record CoreSoFar (words : List Word) (core : Stretch) (after_core rest : List ℕ) : Type 0 where
   pub done : List Word
   pub low : List Word
   pub left : List Word
@@ -181,11 +181,11 @@ pub record CoreSoFar (words : List Word) (core : Stretch) (behind_core rest : Li
   pub is_low : IsCopied low
   pub ends : EndsHigh done
   pub is : IsStretch core done
-  pub behind_is : behind_core ≡ flat_map word_octets (low ++ left)
+  pub following_is : after_core ≡ flat_map word_octets (low ++ left)
   pub rest_is : rest ≡ flat_map word_octets left
 
 abbrev pub PassesCore : List ℕ → Stretch → List ℕ → List ℕ → Type 0
-PassesCore body core behind_core rest = (words : List Word) → StandIn words body → CoreSoFar words core behind_core rest
+PassesCore body core after_core rest = (words : List Word) → StandIn words body → CoreSoFar words core after_core rest
 
 pub core_start : (body : List ℕ) (core : Stretch) → core.octets.now ≡ [] → core.gap.now ≡ [] → core.first ≡ Edge → core.last ≡ Edge → PassesCore body core body body
 core_start body core octets gap first last = λ words stand. record {
@@ -198,20 +198,20 @@ core_start body core octets gap first last = λ words stand. record {
   is_low = refl;
   ends = tt;
   is = record { octets = octets; gap = gap; first = first; last = last };
-  behind_is = stand.whole;
+  following_is = stand.whole;
   rest_is = stand.whole;
 }
 
 -- what is known of the next word
-record IsNextPlain (w : Word) (ws : List Word) (word behind gap next : List ℕ) : Type 0 where
-  cut : IsNext w ws word behind gap next
+record IsNextPlain (w : Word) (ws : List Word) (word following gap next : List ℕ) : Type 0 where
+  cut : IsNext w ws word following gap next
   plain : w.is_encoded ≡ false
 
-next_plain : (w : Word) (ws : List Word) (rest word behind gap next : List ℕ) → AreWords (w ∷ ws) → rest ≡ flat_map word_octets (w ∷ ws) → IsSpan is_word_octet rest word behind
-    → IsSpan is_gap_octet behind gap next → TellsEncoded false word → IsNextPlain w ws word behind gap next
-next_plain w ws rest word behind gap next are is words gaps tells =
-    let n = next_word w ws rest word behind gap next are is words gaps in
-    record { cut = n; plain = sym (tells_once false w.is_encoded w.octets (subst (TellsEncoded false) n.word_is tells) are.0.encoded) }
+next_plain : (w : Word) (ws : List Word) (rest word following gap next : List ℕ) → AreWords (w ∷ ws) → rest ≡ flat_map word_octets (w ∷ ws) → IsSpan is_word_octet rest word following
+    → IsSpan is_gap_octet following gap next → TellsEncoded false word → IsNextPlain w ws word following gap next
+next_plain w ws rest word following gap next are is words gaps observed =
+    let n = next_word w ws rest word following gap next are is words gaps in
+    record { cut = n; plain = sym (tells_once false w.is_encoded w.octets (subst (TellsEncoded false) n.word_is observed) are.0.encoded) }
 
 left_words : (all done low left : List Word) (body : List ℕ) → StandIn all body → all ≡ done ++ (low ++ left) → AreWords left
 left_words all done low left body stand whole = AreWords-back low left (AreWords-back done (low ++ left) (subst AreWords whole stand.are))
@@ -220,17 +220,17 @@ not_encoded-push : (ws : List Word) (w : Word) → NotEncoded ws → w.is_encode
 not_encoded-push ws w plain e = pass-append (λ (v : Word). not v.is_encoded) ws (w ∷ []) plain (rw e refl)
 
 -- one more word that isn't high
-pub core_low : (body : List ℕ) (core : Stretch) (behind_core rest word behind gap next : List ℕ) → PassesCore body core behind_core rest → 0 < length rest → IsSpan is_word_octet rest word behind
-    → IsSpan is_gap_octet behind gap next → TellsEncoded false word → list_all is_ascii word ≡ true → PassesCore body core behind_core next
-core_low body core behind_core rest word behind gap next so some words gaps tells ascii = λ all stand. by all stand (so all stand)
+pub core_low : (body : List ℕ) (core : Stretch) (after_core rest word following gap next : List ℕ) → PassesCore body core after_core rest → 0 < length rest → IsSpan is_word_octet rest word following
+    → IsSpan is_gap_octet following gap next → TellsEncoded false word → list_all is_ascii word ≡ true → PassesCore body core after_core next
+core_low body core after_core rest word following gap next so some words gaps observed ascii = λ all stand. by all stand (so all stand)
   where
-    by : (all : List Word) → StandIn all body → CoreSoFar all core behind_core rest → CoreSoFar all core behind_core next
-    by all stand c = go c.left c.whole c.behind_is c.rest_is
+    by : (all : List Word) → StandIn all body → CoreSoFar all core after_core rest → CoreSoFar all core after_core next
+    by all stand c = go c.left c.whole c.following_is c.rest_is
       where
-        go : (left : List Word) → all ≡ c.done ++ (c.low ++ left) → behind_core ≡ flat_map word_octets (c.low ++ left) → rest ≡ flat_map word_octets left → CoreSoFar all core behind_core next
-        go [] whole behind_is is = absurd (omega (arith, some, ap length is))
-        go (w ∷ ws) whole behind_is is =
-            let n = next_plain w ws rest word behind gap next (left_words all c.done c.low (w ∷ ws) body stand whole) is words gaps tells in
+        go : (left : List Word) → all ≡ c.done ++ (c.low ++ left) → after_core ≡ flat_map word_octets (c.low ++ left) → rest ≡ flat_map word_octets left → CoreSoFar all core after_core next
+        go [] whole following_is is = absurd (omega (arith, some, ap length is))
+        go (w ∷ ws) whole following_is is =
+            let n = next_plain w ws rest word following gap next (left_words all c.done c.low (w ∷ ws) body stand whole) is words gaps observed in
             let low_word : is_high_word w ≡ false = rw (← n.cut.word_is, ascii) refl in
             let more : c.low ++ w ∷ ws ≡ (c.low ++ w ∷ []) ++ ws = sym (append_assoc c.low (w ∷ []) ws) in
             record {
@@ -243,23 +243,23 @@ core_low body core behind_core rest word behind gap next so some words gaps tell
               is_low = pass-append (λ (v : Word). not (is_high_word v)) c.low (w ∷ []) c.is_low (rw low_word refl);
               ends = c.ends;
               is = c.is;
-              behind_is = behind_is ∙ ap (flat_map word_octets) more;
+              following_is = following_is ∙ ap (flat_map word_octets) more;
               rest_is = n.cut.next_is;
             }
 
 -- one more word that is high
-pub core_high : (body : List ℕ) (core longer : Stretch) (behind_core rest word behind gap next : List ℕ) → PassesCore body core behind_core rest → 0 < length rest → IsSpan is_word_octet rest word behind
-    → IsSpan is_gap_octet behind gap next → TellsEncoded false word → list_all is_ascii word ≡ false → ((front : List ℕ) → body ≡ front ++ behind → longer.octets.now ≡ front) → longer.gap.now ≡ gap
+pub core_high : (body : List ℕ) (core longer : Stretch) (after_core rest word following gap next : List ℕ) → PassesCore body core after_core rest → 0 < length rest → IsSpan is_word_octet rest word following
+    → IsSpan is_gap_octet following gap next → TellsEncoded false word → list_all is_ascii word ≡ false → ((front : List ℕ) → body ≡ front ++ following → longer.octets.now ≡ front) → longer.gap.now ≡ gap
     → longer.first ≡ Plain → longer.last ≡ Plain → PassesCore body longer next next
-core_high body core longer behind_core rest word behind gap next so some words gaps tells high octets_are gap_is first_is last_is = λ all stand. by all stand (so all stand)
+core_high body core longer after_core rest word following gap next so some words gaps observed high octets_are gap_is first_is last_is = λ all stand. by all stand (so all stand)
   where
-    by : (all : List Word) → StandIn all body → CoreSoFar all core behind_core rest → CoreSoFar all longer next next
+    by : (all : List Word) → StandIn all body → CoreSoFar all core after_core rest → CoreSoFar all longer next next
     by all stand c = go c.left c.whole c.rest_is
       where
         go : (left : List Word) → all ≡ c.done ++ (c.low ++ left) → rest ≡ flat_map word_octets left → CoreSoFar all longer next next
         go [] whole is = absurd (omega (arith, some, ap length is))
         go (w ∷ ws) whole is =
-            let n = next_plain w ws rest word behind gap next (left_words all c.done c.low (w ∷ ws) body stand whole) is words gaps tells in
+            let n = next_plain w ws rest word following gap next (left_words all c.done c.low (w ∷ ws) body stand whole) is words gaps observed in
             let high_word : is_high_word w ≡ true = rw (← n.cut.word_is, high) refl in
             let passed : List Word = c.done ++ c.low in
             let plain : NotEncoded (passed ++ w ∷ []) = not_encoded-push passed w (pass-append (λ (v : Word). not v.is_encoded) c.done c.low c.plain c.plain_low) n.plain in
@@ -274,49 +274,49 @@ core_high body core longer behind_core rest word behind gap next so some words g
               is_low = refl;
               ends = EndsHigh-push passed w high_word;
               is = record {
-                octets = octets_are (copied_octets (passed ++ w ∷ [])) (reaches passed w ws body behind (stand.whole ∙ ap (flat_map word_octets) all_is) n.cut.behind_is);
+                octets = octets_are (copied_octets (passed ++ w ∷ [])) (reaches passed w ws body following (stand.whole ∙ ap (flat_map word_octets) all_is) n.cut.following_is);
                 gap = gap_is ∙ n.cut.gap_is ∙ sym (last_gap-push passed w);
                 first = first_is ∙ plain_first passed w plain;
                 last = last_is ∙ plain_side w n.plain ∙ sym (last_side-push passed w);
               };
-              behind_is = n.cut.next_is;
+              following_is = n.cut.next_is;
               rest_is = n.cut.next_is;
             }
 
-core_split : (words : List Word) (core : Stretch) (behind_core rest : List ℕ) → (c : CoreSoFar words core behind_core rest) → BeginsEncoded c.left → 0 < length words → BeginsCore words
-    → IsSplitCore words core behind_core
-core_split [] core behind_core rest c stops some begins = absurd (omega (arith, some))
-core_split (v ∷ vs) core behind_core rest c stops some begins =
+core_split : (words : List Word) (core : Stretch) (after_core rest : List ℕ) → (c : CoreSoFar words core after_core rest) → BeginsEncoded c.left → 0 < length words → BeginsCore words
+    → IsSplitCore words core after_core
+core_split [] core after_core rest c stops some begins = absurd (omega (arith, some))
+core_split (v ∷ vs) core after_core rest c stops some begins =
     let high = core_ends v vs c.done c.low c.left begins c.whole c.ends c.is_low stops in
     record {
       core_words = c.done;
       others = c.low ++ c.left;
       splits = record { low = c.low; after = c.left; whole = c.whole; begins = high.0; ends = high.1; plain = c.plain; rest_is = refl; is_low = c.is_low; stops = stops };
       is = c.is;
-      rest_is = c.behind_is;
+      rest_is = c.following_is;
     }
 
 -- the next word is an encoded word
-pub core_stops : (body : List ℕ) (core : Stretch) (behind_core rest word behind : List ℕ) → PassesCore body core behind_core rest → IsSpan is_word_octet rest word behind → TellsEncoded true word
-    → (words : List Word) → StandIn words body → 0 < length words → BeginsCore words → IsSplitCore words core behind_core
-core_stops body core behind_core rest word behind so span tells = λ all stand some begins. by all stand some begins (so all stand)
+pub core_stops : (body : List ℕ) (core : Stretch) (after_core rest word following : List ℕ) → PassesCore body core after_core rest → IsSpan is_word_octet rest word following → TellsEncoded true word
+    → (words : List Word) → StandIn words body → 0 < length words → BeginsCore words → IsSplitCore words core after_core
+core_stops body core after_core rest word following so span observed = λ all stand some begins. by all stand some begins (so all stand)
   where
-    by : (all : List Word) → StandIn all body → 0 < length all → BeginsCore all → CoreSoFar all core behind_core rest → IsSplitCore all core behind_core
-    by all stand some begins c = core_split all core behind_core rest c (go c.left c.whole c.rest_is) some begins
+    by : (all : List Word) → StandIn all body → 0 < length all → BeginsCore all → CoreSoFar all core after_core rest → IsSplitCore all core after_core
+    by all stand some begins c = core_split all core after_core rest c (go c.left c.whole c.rest_is) some begins
       where
         go : (left : List Word) → all ≡ c.done ++ (c.low ++ left) → rest ≡ flat_map word_octets left → BeginsEncoded left
         go [] whole is = tt
         go (w ∷ ws) whole is =
             let are = left_words all c.done c.low (w ∷ ws) body stand whole in
-            let first = first_word w ws rest word behind are is span in
-            sym (tells_once true w.is_encoded w.octets (subst (TellsEncoded true) first tells) are.0.encoded)
+            let first = first_word w ws rest word following are is span in
+            sym (tells_once true w.is_encoded w.octets (subst (TellsEncoded true) first observed) are.0.encoded)
 
 -- no word is left
-pub core_end : (body : List ℕ) (core : Stretch) (behind_core rest : List ℕ) → PassesCore body core behind_core rest → length rest ≡ 0
-    → (words : List Word) → StandIn words body → 0 < length words → BeginsCore words → IsSplitCore words core behind_core
-core_end body core behind_core rest so none = λ all stand some begins. by all stand some begins (so all stand)
+pub core_end : (body : List ℕ) (core : Stretch) (after_core rest : List ℕ) → PassesCore body core after_core rest → length rest ≡ 0
+    → (words : List Word) → StandIn words body → 0 < length words → BeginsCore words → IsSplitCore words core after_core
+core_end body core after_core rest so none = λ all stand some begins. by all stand some begins (so all stand)
   where
-    by : (all : List Word) → StandIn all body → 0 < length all → BeginsCore all → CoreSoFar all core behind_core rest → IsSplitCore all core behind_core
+    by : (all : List Word) → StandIn all body → 0 < length all → BeginsCore all → CoreSoFar all core after_core rest → IsSplitCore all core after_core
     by all stand some begins c =
         let left : c.left ≡ [] = no_words c.left rest (left_words all c.done c.low c.left body stand c.whole) c.rest_is none in
-        core_split all core behind_core rest c (rw left tt) some begins
+        core_split all core after_core rest c (rw left tt) some begins

@@ -10,7 +10,7 @@ use Rattle.std.specs.Str.{IsUtf8, str_to_ascii_lowercase}
 use Rattle.mail_wire.specs.Octets.{is_white, is_ascii, is_line_end, same_name}
 use Rattle.mail_wire.specs.Tables.{said_by}
 use Rattle.mail_wire.specs.Folds.{IsFolded}
-use Rattle.mail_wire.specs.Spans.{Stops, StopsBehind}
+use Rattle.mail_wire.specs.Spans.{Stops, StopsAfter}
 use Rattle.mail_wire.proofs.Unfolded.{unfolded-nil}
 use Rattle.mail_wire.proofs.Folded.{without_ends, unfolded-folded, IsFolded-plain}
 use Rattle.mail_wire.proofs.AllLemmas.{pass-append, pass-weaker}
@@ -21,7 +21,7 @@ use Rattle.encapsulated_fields.proofs.EncapsulatedLemmas.{words_say}
 use Rattle.field_tokens.specs.TokenOctets.{is_line_octet}
 use Rattle.field_tokens.specs.Comments.{CommentValue, IsLinePiece}
 use Rattle.utf8_fields.specs.Parts.{FieldParts, HasParts, HasValue}
-use Rattle.encoded_words.proofs.WritableUnits.{all_ascii, behind_ascii, before_ascii, BeginsAscii}
+use Rattle.encoded_words.proofs.WritableUnits.{all_ascii, following_ascii, before_ascii, BeginsAscii}
 use Rattle.field_downgrade.specs.Layout.{made_of, spaced}
 use Rattle.field_downgrade.specs.Kinds.{kind_named}
 use Rattle.field_downgrade.specs.declared.kind.Kind.TheVariants.{Unstructured, Params, Plain}
@@ -38,7 +38,7 @@ use Rattle.field_tokens.specs.Squeezed.{words_of}
 use Rattle.field_tokens.proofs.TokenLemmas.{class, kind_is}
 use Rattle.field_downgrade.specs.Stands.{IsHighField, BeginsHyphen, is_encoding_name, keeps_name, IsSameMeaning, Meaning, SaysAs, PiecesAs, IsMalformed, KeepsValue}
 use Rattle.field_downgrade.proofs.Made.{ArePieces, made-folded, made-shows, name_ascii}
-use Rattle.field_downgrade.proofs.Pieces.{behind, keeps_all}
+use Rattle.field_downgrade.proofs.Pieces.{following, keeps_all}
 use Rattle.field_downgrade.proofs.KindValues.{AreReadSo}
 
 -- line octets are no line ends
@@ -56,12 +56,12 @@ pub ArePieces-spaced : (pieces : List (List ℕ)) → AllByRecursion IsLinePiece
 ArePieces-spaced [] lines = tt
 ArePieces-spaced (p ∷ ps) lines = (record { white = refl; folded = IsFolded-plain p (no_ends p lines.0.line); ascii = lines.0.ascii }, ArePieces-spaced ps lines.1)
 
-behind-spaced : (p : List ℕ) (ps : List (List ℕ)) → AllByRecursion IsLinePiece (p ∷ ps) → behind (spaced (p ∷ ps)) ≡ 32 ∷ join_with_byte 32 (p ∷ ps)
-behind-spaced p [] lines = rw (keeps_all p (no_ends p lines.0.line)) (ap (λ r. 32 ∷ r) (append-nil p))
-behind-spaced p (q ∷ ps) lines = rw (keeps_all p (no_ends p lines.0.line)) (ap (λ r. 32 ∷ (p ++ r)) (behind-spaced q ps lines.1))
+following-spaced : (p : List ℕ) (ps : List (List ℕ)) → AllByRecursion IsLinePiece (p ∷ ps) → following (spaced (p ∷ ps)) ≡ 32 ∷ join_with_byte 32 (p ∷ ps)
+following-spaced p [] lines = rw (keeps_all p (no_ends p lines.0.line)) (ap (λ r. 32 ∷ r) (append-nil p))
+following-spaced p (q ∷ ps) lines = rw (keeps_all p (no_ends p lines.0.line)) (ap (λ r. 32 ∷ (p ++ r)) (following-spaced q ps lines.1))
 
 -- the value of a body of such pieces
-pub HasValue-spaced : (pieces : List (List ℕ)) → AllByRecursion IsLinePiece pieces → Stops is_white (join_with_byte 32 pieces) → StopsBehind is_white (join_with_byte 32 pieces)
+pub HasValue-spaced : (pieces : List (List ℕ)) → AllByRecursion IsLinePiece pieces → Stops is_white (join_with_byte 32 pieces) → StopsAfter is_white (join_with_byte 32 pieces)
     → HasValue (made_body (spaced pieces)) (join_with_byte 32 pieces)
 HasValue-spaced [] lines begins ends = record { lead = []; trail = []; lead_passes = refl; trail_passes = refl; begins = tt; ends = tt; whole = unfolded-nil }
 HasValue-spaced (p ∷ ps) lines begins ends =
@@ -73,7 +73,7 @@ HasValue-spaced (p ∷ ps) lines begins ends =
       trail_passes = refl;
       begins = begins;
       ends = ends;
-      whole = unfolded-folded (made_body (spaced (p ∷ ps))) (made-folded (spaced (p ∷ ps)) are) ∙ made-shows (spaced (p ∷ ps)) are ∙ behind-spaced p ps lines
+      whole = unfolded-folded (made_body (spaced (p ∷ ps))) (made-folded (spaced (p ∷ ps)) are) ∙ made-shows (spaced (p ∷ ps)) are ∙ following-spaced p ps lines
           ∙ ap (λ t. 32 ∷ t) (sym (append-nil (join_with_byte 32 (p ∷ ps))));
     }
 
@@ -159,7 +159,7 @@ ends_utf8 front (x ∷ xs) u = elim (cases_Bool (is_line_end x)) [
   | inl t ↦
       let small : x < 128 = end_small x t in
       let both = before_ascii front (x ∷ xs) small u in
-      rw t (ends_utf8 front xs (IsUtf8-append front xs both.front (behind_ascii x xs small both.rest)))
+      rw t (ends_utf8 front xs (IsUtf8-append front xs both.front (following_ascii x xs small both.rest)))
   | inr f ↦ rw f (rw (append_assoc front (x ∷ []) (without_ends xs)) at (ends_utf8 (front ++ x ∷ []) xs (rw (append_assoc front (x ∷ []) xs) u)))
 ]
   where
@@ -174,8 +174,8 @@ pub body_utf8 : (body value : List ℕ) → IsFolded body → IsUtf8 body → Ha
 body_utf8 body value folded utf8 has =
     let whole : without_ends body ≡ has.lead ++ (value ++ has.trail) = sym (unfolded-folded body folded) ∙ has.whole in
     let u : IsUtf8 (has.lead ++ (value ++ has.trail)) = subst IsUtf8 whole (ends_utf8 [] body utf8) in
-    let behind = all_ascii is_white white_below has.lead (value ++ has.trail) has.lead_passes u in
-    (before_ascii value has.trail (begins_white has.trail has.trail_passes) behind.rest).front
+    let following = all_ascii is_white white_below has.lead (value ++ has.trail) has.lead_passes u in
+    (before_ascii value has.trail (begins_white has.trail has.trail_passes) following.rest).front
 
 pub value_utf8 : (octets : List ℕ) (f : FieldParts) (value : List ℕ) → IsHighField octets f → HasValue f.body value → IsUtf8 value
 value_utf8 octets f value high has = body_utf8 f.body value high.is_field.body high.is_field.utf8 has
@@ -276,9 +276,9 @@ special_first text token tokens (t ∷ first) others e no_mark are =
     let solid_is : solid (t ∷ first) ≡ t ∷ solid first = rw kind refl in
     ap (is_main Content text) solid_is ∙ special_no_main text t (solid first) kind
 
-equals_octets : (text rest octets behind : List ℕ) → text ≡ 61 ∷ rest → text ≡ octets ++ behind → IsToken Mime Special octets behind → octets ≡ 61 ∷ []
-equals_octets text rest octets behind e whole is =
-    let same : 61 ∷ rest ≡ is.0 ∷ behind = sym e ∙ whole ∙ ap (λ o. o ++ behind) is.1 in
+equals_octets : (text rest octets following : List ℕ) → text ≡ 61 ∷ rest → text ≡ octets ++ following → IsToken Mime Special octets following → octets ≡ 61 ∷ []
+equals_octets text rest octets following e whole is =
+    let same : 61 ∷ rest ≡ is.0 ∷ following = sym e ∙ whole ∙ ap (λ o. o ++ following) is.1 in
     let first : 61 ≡ is.0 = cc same in
     is.1 ∙ ap (λ x. x ∷ []) (sym first)
 

@@ -8,7 +8,7 @@ use Rattle.std.specs.Char.{encode_utf8}
 use Rattle.std.specs.List.{AllByRecursion, flat_map, list_all}
 use Rattle.std.specs.Str.{bytes_eq, chars, encode_utf8_all, IsUtf8}
 use Rattle.mail_wire.specs.Octets.{is_ascii, is_white}
-use Rattle.mail_wire.specs.Spans.{Stops, StopsBehind, IsTrimmed}
+use Rattle.mail_wire.specs.Spans.{Stops, StopsAfter, IsTrimmed}
 use Rattle.mail_wire.proofs.AllLemmas.{pass-append, pass-weaker, pass-parts}
 use Rattle.address_lists.proofs.PlacesAgain.{white_ascii}
 use Rattle.field_tokens.specs.declared.Style.TheVariants.{Mime}
@@ -58,8 +58,8 @@ SaysTyped-ascii : (value type text : List ℕ) → SaysTyped value type text →
 SaysTyped-ascii value type text says h =
     let is = says.is_typed in
     let front = trimmed_ascii is.front is.type_is.atom is.type_is.atom_is (pass-weaker is_type_octet is_ascii type_ascii is.type_is.atom is.type_is.are) in
-    let behind = trimmed_ascii is.behind says.written is.written_is (WrittenSays-ascii (bytes_eq type utf8_type) says.written text says.says h) in
-    rw (is.cuts.whole) (pass-append is_ascii is.front (59 ∷ is.behind) front behind)
+    let following = trimmed_ascii is.following says.written is.written_is (WrittenSays-ascii (bytes_eq type utf8_type) says.written text says.says h) in
+    rw (is.cuts.whole) (pass-append is_ascii is.front (59 ∷ is.following) front following)
 
 high_some : (value type text : List ℕ) → SaysTyped value type text → list_all is_ascii value ≡ false → 0 < length text
 high_some value type [] says high = absurd (both_ways (list_all is_ascii value) high (SaysTyped-ascii value type [] says refl))
@@ -106,18 +106,18 @@ visible_no_white x h = grind (arith, nat_tests)
 
 -- ---- no white at the ends
 
-begins_black : (xs : List ℕ) → list_all is_visible xs ≡ true → Stops is_white xs
-begins_black [] h = tt
-begins_black (x ∷ xs) h = visible_no_white x (and_parts (is_visible x) (list_all is_visible xs) h).0
+begins_nonwhite : (xs : List ℕ) → list_all is_visible xs ≡ true → Stops is_white xs
+begins_nonwhite [] h = tt
+begins_nonwhite (x ∷ xs) h = visible_no_white x (and_parts (is_visible x) (list_all is_visible xs) h).0
 
-ends_black : (xs : List ℕ) → list_all is_visible xs ≡ true → StopsBehind is_white xs
-ends_black [] h = tt
-ends_black (x ∷ []) h = visible_no_white x (and_parts (is_visible x) true h).0
-ends_black (x ∷ y ∷ xs) h = ends_black (y ∷ xs) (and_parts (is_visible x) (list_all is_visible (y ∷ xs)) h).1
+ends_nonwhite : (xs : List ℕ) → list_all is_visible xs ≡ true → StopsAfter is_white xs
+ends_nonwhite [] h = tt
+ends_nonwhite (x ∷ []) h = visible_no_white x (and_parts (is_visible x) true h).0
+ends_nonwhite (x ∷ y ∷ xs) h = ends_nonwhite (y ∷ xs) (and_parts (is_visible x) (list_all is_visible (y ∷ xs)) h).1
 
-ends_behind : (x : ℕ) (xs : List ℕ) → 0 < length xs → StopsBehind is_white xs → StopsBehind is_white (x ∷ xs)
-ends_behind x [] some ends = absurd (omega (arith, some))
-ends_behind x (y ∷ xs) some ends = ends
+ends_after : (x : ℕ) (xs : List ℕ) → 0 < length xs → StopsAfter is_white xs → StopsAfter is_white (x ∷ xs)
+ends_after x [] some ends = absurd (omega (arith, some))
+ends_after x (y ∷ xs) some ends = ends
 
 -- ---- read back
 
@@ -127,8 +127,8 @@ trimmed_form form h = record {
   trail = [];
   lead_passes = refl;
   trail_passes = refl;
-  begins = begins_black form h;
-  ends = ends_black form h;
+  begins = begins_nonwhite form h;
+  ends = ends_nonwhite form h;
   whole = ap (λ t. 32 ∷ t) (sym (append-nil form));
 }
 
@@ -146,7 +146,7 @@ form_says text u = record {
   written = xtext_form text;
   is_typed = record {
     front = codes "utf-8";
-    behind = 32 ∷ xtext_form text;
+    following = 32 ∷ xtext_form text;
     cuts = record { whole = refl; first = refl };
     type_is = utf8_written;
     written_is = trimmed_form (xtext_form text) (chars_visible (chars text));
@@ -160,7 +160,7 @@ form_again text u some =
     record {
       says = form_says text u;
       begins = refl;
-      ends = ends_behind 32 (xtext_form text) (form_some text u some) (ends_black (xtext_form text) visible);
+      ends = ends_after 32 (xtext_form text) (form_some text u some) (ends_nonwhite (xtext_form text) visible);
       are_pieces = (
         record {
           some = omega arith;

@@ -11,7 +11,7 @@ use Rattle.field_downgrade.proofs.TypedReads.{decide_reads}
 use Rattle.field_downgrade.proofs.TypedLemmas.{cuts_once, not-IsTyped-cut, IsTyped-once, is_semicolon}
 
 -- a value has a first `;`, or none
-decide_cut : (value : List ℕ) → ((front : List ℕ) × (behind : List ℕ) × CutsType value front behind) ⊎ (list_all is_no_semicolon value ≡ true)
+decide_cut : (value : List ℕ) → ((front : List ℕ) × (following : List ℕ) × CutsType value front following) ⊎ (list_all is_no_semicolon value ≡ true)
 decide_cut [] = inr refl
 decide_cut (x ∷ xs) = elim (cases_Bool (is_no_semicolon x)) [
   | inr is ↦ inl ([], xs, record { whole = ap (λ y. y ∷ xs) (is_semicolon x is); first = refl })
@@ -46,8 +46,8 @@ decide_is_typed value = elim (decide_cut value) [
   | inl cut ↦ elim (decide_type cut.0) [
     | inl found ↦
         let written = trimmed is_white cut.1 in
-        inl (found.0, written.0, record { front = cut.0; behind = cut.1; cuts = cut.2; type_is = found.1; written_is = written.1 })
-    | inr none ↦ inr (λ type written is. none type (rw ((cuts_once value cut.0 cut.1 is.front is.behind cut.2 is.cuts).0) is.type_is))
+        inl (found.0, written.0, record { front = cut.0; following = cut.1; cuts = cut.2; type_is = found.1; written_is = written.1 })
+    | inr none ↦ inr (λ type written is. none type (rw ((cuts_once value cut.0 cut.1 is.front is.following cut.2 is.cuts).0) is.type_is))
   ]
 ]
 

@@ -22,17 +22,17 @@ use Rattle.field_downgrade.specs.Typed.{is_no_semicolon, is_type_octet, utf8_typ
 
 -- ---- the first `;`
 
-pub cuts_once : (value front behind front' behind' : List ℕ) → CutsType value front behind → CutsType value front' behind' → (front ≡ front') × (behind ≡ behind')
-cuts_once value front behind front' behind' p q =
-    let once = span_once is_no_semicolon front front' (59 ∷ behind) (59 ∷ behind') p.first q.first refl refl (sym p.whole ∙ q.whole) in
-    let rest : 59 ∷ behind ≡ 59 ∷ behind' = once.1 in
+pub cuts_once : (value front following front' behind' : List ℕ) → CutsType value front following → CutsType value front' behind' → (front ≡ front') × (following ≡ behind')
+cuts_once value front following front' behind' p q =
+    let once = span_once is_no_semicolon front front' (59 ∷ following) (59 ∷ behind') p.first q.first refl refl (sym p.whole ∙ q.whole) in
+    let rest : 59 ∷ following ≡ 59 ∷ behind' = once.1 in
     (once.0, cc rest)
 
-pub no_cut : (value front behind : List ℕ) → list_all is_no_semicolon value ≡ true → CutsType value front behind → ⊥
-no_cut value front behind none cuts =
-    let all : list_all is_no_semicolon (front ++ 59 ∷ behind) ≡ true = subst (λ v. list_all is_no_semicolon v ≡ true) cuts.whole none in
-    let rest = (and_parts (list_all is_no_semicolon front) (list_all is_no_semicolon (59 ∷ behind)) (sym (list_all-append is_no_semicolon front (59 ∷ behind)) ∙ all)).1 in
-    both_ways (is_no_semicolon 59) refl (and_parts (is_no_semicolon 59) (list_all is_no_semicolon behind) rest).0
+pub no_cut : (value front following : List ℕ) → list_all is_no_semicolon value ≡ true → CutsType value front following → ⊥
+no_cut value front following none cuts =
+    let all : list_all is_no_semicolon (front ++ 59 ∷ following) ≡ true = subst (λ v. list_all is_no_semicolon v ≡ true) cuts.whole none in
+    let rest = (and_parts (list_all is_no_semicolon front) (list_all is_no_semicolon (59 ∷ following)) (sym (list_all-append is_no_semicolon front (59 ∷ following)) ∙ all)).1 in
+    both_ways (is_no_semicolon 59) refl (and_parts (is_no_semicolon 59) (list_all is_no_semicolon following) rest).0
 
 semicolon_opposite : Opposite is_no_semicolon (λ x. x == 59)
 semicolon_opposite x = refl
@@ -40,14 +40,14 @@ semicolon_opposite x = refl
 pub is_semicolon : (x : ℕ) → is_no_semicolon x ≡ false → x ≡ 59
 is_semicolon x h = grind (arith, nat_tests)
 
-pub cuts_found : (value front rest behind : List ℕ) (x at : ℕ) → position (λ y. y == 59) value ≡ Some at → front ≡ take at value → rest ≡ drop at value → rest ≡ x ∷ behind
-    → CutsType value front behind
-cuts_found value front rest behind x at e front_is rest_is begins =
+pub cuts_found : (value front rest following : List ℕ) (x at : ℕ) → position (λ y. y == 59) value ≡ Some at → front ≡ take at value → rest ≡ drop at value → rest ≡ x ∷ following
+    → CutsType value front following
+cuts_found value front rest following x at e front_is rest_is begins =
     let span = (IsSpan-found is_no_semicolon (λ y. y == 59) value at semicolon_opposite e).1 in
-    let same : drop at value ≡ x ∷ behind = sym rest_is ∙ begins in
-    let stops : Stops is_no_semicolon (x ∷ behind) = subst (Stops is_no_semicolon) same span.stops in
+    let same : drop at value ≡ x ∷ following = sym rest_is ∙ begins in
+    let stops : Stops is_no_semicolon (x ∷ following) = subst (Stops is_no_semicolon) same span.stops in
     record {
-      whole = span.whole ∙ rw (front_is, same) (ap (λ y. take at value ++ y ∷ behind) (is_semicolon x stops));
+      whole = span.whole ∙ rw (front_is, same) (ap (λ y. take at value ++ y ∷ following) (is_semicolon x stops));
       first = rw (front_is) span.passes;
     }
 
@@ -94,31 +94,31 @@ WritesType-once : (octets type other : List ℕ) → WritesType octets type → 
 WritesType-once octets type other p q =
     p.lower ∙ ap str_to_ascii_lowercase (IsTrimmed-once is_white octets p.atom q.atom p.atom_is q.atom_is) ∙ sym q.lower
 
-pub IsTyped-utf8 : (value front behind atom written : List ℕ) → CutsType value front behind → IsTrimmed is_white front atom → same_name atom utf8_type ≡ true → IsTrimmed is_white behind written
+pub IsTyped-utf8 : (value front following atom written : List ℕ) → CutsType value front following → IsTrimmed is_white front atom → same_name atom utf8_type ≡ true → IsTrimmed is_white following written
     → IsTyped value utf8_type written
 unfolding same_name
-IsTyped-utf8 value front behind atom written cuts atom_is same written_is =
-    record { front = front; behind = behind; cuts = cuts; type_is = writes_utf8 front atom atom_is ((bytes_eq-Decides (str_to_ascii_lowercase atom) utf8_type).0 same); written_is = written_is }
+IsTyped-utf8 value front following atom written cuts atom_is same written_is =
+    record { front = front; following = following; cuts = cuts; type_is = writes_utf8 front atom atom_is ((bytes_eq-Decides (str_to_ascii_lowercase atom) utf8_type).0 same); written_is = written_is }
 
-pub not-IsTyped-utf8 : (value front behind atom : List ℕ) → CutsType value front behind → IsTrimmed is_white front atom → same_name atom utf8_type ≡ false
+pub not-IsTyped-utf8 : (value front following atom : List ℕ) → CutsType value front following → IsTrimmed is_white front atom → same_name atom utf8_type ≡ false
     → (written : List ℕ) → IsTyped value utf8_type written → ⊥
 unfolding same_name
-not-IsTyped-utf8 value front behind atom cuts atom_is other written is =
-    let once = cuts_once value front behind is.front is.behind cuts is.cuts in
+not-IsTyped-utf8 value front following atom cuts atom_is other written is =
+    let once = cuts_once value front following is.front is.following cuts is.cuts in
     let same_atom : atom ≡ is.type_is.atom = IsTrimmed-once is_white front atom is.type_is.atom atom_is (rw (once.0) is.type_is.atom_is) in
     let lower : str_to_ascii_lowercase atom ≡ utf8_type = ap str_to_ascii_lowercase same_atom ∙ sym is.type_is.lower in
     both_ways (bytes_eq (str_to_ascii_lowercase atom) utf8_type) other ((bytes_eq-Decides (str_to_ascii_lowercase atom) utf8_type).1 lower)
 
 pub not-IsTyped-cut : (value : List ℕ) → list_all is_no_semicolon value ≡ true → (type written : List ℕ) → IsTyped value type written → ⊥
-not-IsTyped-cut value none type written is = no_cut value is.front is.behind none is.cuts
+not-IsTyped-cut value none type written is = no_cut value is.front is.following none is.cuts
 
 -- ---- one meaning
 
 pub IsTyped-once : (value type other written other_written : List ℕ) → IsTyped value type written → IsTyped value other other_written → (type ≡ other) × (written ≡ other_written)
 IsTyped-once value type other written other_written p q =
-    let once = cuts_once value p.front p.behind q.front q.behind p.cuts q.cuts in (
+    let once = cuts_once value p.front p.following q.front q.following p.cuts q.cuts in (
       WritesType-once p.front type other p.type_is (rw (once.0) q.type_is),
-      IsTrimmed-once is_white p.behind written other_written p.written_is (rw (once.1) q.written_is),
+      IsTrimmed-once is_white p.following written other_written p.written_is (rw (once.1) q.written_is),
     )
 
 WrittenSays-once : (b : Bool) (written text other : List ℕ) → WrittenSays b written text → WrittenSays b written other → text ≡ other

@@ -8,7 +8,7 @@ use Rattle.std.specs.List.{list_all}
 use Rattle.std.specs.Str.{IsUtf8, is_utf8, chars, encode_utf8_all, all_scalars}
 use lib.Utf8.{scalar}
 use Rattle.mail_wire.specs.Spans.{IsSpan}
-use Rattle.encoded_words.proofs.WritableUnits.{behind_ascii}
+use Rattle.encoded_words.proofs.WritableUnits.{following_ascii}
 use Rattle.utf8_fields.proofs.AllSpans.{span_of}
 use Rattle.encapsulated_fields.specs.Xtext.{is_hex_digit, hex_value, AreDigits, XtextItem, Plain, Escape, IsXtextItem, item_spelling, ReadsAs, BeginsCharacter, BeginsEscape}
 use Rattle.encapsulated_fields.proofs.XtextLemmas.{ReadsTo, ReadsTo-none, ReadsTo-push, ReadsAs-read, not-ReadsAs, ReadsAs-utf8, BeginsWith-plain, BeginsWith-escape, BeginsWith-shortens, BeginsEscape-made, not-BeginsEscape-brace, not-BeginsEscape-digits, not-BeginsWith-escape, digit_small}
@@ -30,9 +30,9 @@ decide_digits ds hex = elim (cases_lt (length ds) 2) [
 abbrev Escaped : List ℕ → Type 0
 Escaped text = ((character : ℕ) × (rest : List ℕ) × BeginsEscape text character rest) ⊎ ((character : ℕ) (rest : List ℕ) → ¬ BeginsEscape text character rest)
 
-behind_digits : (text after digits closing : List ℕ) → text ≡ 120 ∷ 123 ∷ after → IsSpan is_hex_digit after digits closing → Escaped text
-behind_digits text after digits [] e span = inr (not-BeginsEscape-brace text after digits [] e span (λ rest f. cc f))
-behind_digits text after digits (x ∷ closing) e span = elim (cases_eq x 125) [
+after_digits : (text after digits closing : List ℕ) → text ≡ 120 ∷ 123 ∷ after → IsSpan is_hex_digit after digits closing → Escaped text
+after_digits text after digits [] e span = inr (not-BeginsEscape-brace text after digits [] e span (λ rest f. cc f))
+after_digits text after digits (x ∷ closing) e span = elim (cases_eq x 125) [
   | inr other ↦ inr (not-BeginsEscape-brace text after digits (x ∷ closing) e span (λ rest f. other (cc f)))
   | inl brace ↦ elim (decide_digits digits span.passes) [
     | inr none ↦ inr (not-BeginsEscape-digits text after digits (x ∷ closing) e span none)
@@ -50,7 +50,7 @@ decide_escape (x ∷ y ∷ after) = elim (cases_eq x 120) [
     | inl is_brace ↦
         let span = span_of is_hex_digit after in
         let e : x ∷ y ∷ after ≡ 120 ∷ 123 ∷ after = cc (is_x, is_brace) in
-        behind_digits (x ∷ y ∷ after) after span.0 span.1 e span.2
+        after_digits (x ∷ y ∷ after) after span.0 span.1 e span.2
   ]
 ]
 
@@ -89,20 +89,20 @@ decide_begins text some u =
     ]
 
 -- what is behind an item
-utf8_behind : (text rest : List ℕ) (character : ℕ) → IsUtf8 text → BeginsCharacter text character rest → IsUtf8 rest
-utf8_behind text rest character u begins = by begins.item begins.is_item begins.spelled
+utf8_after : (text rest : List ℕ) (character : ℕ) → IsUtf8 text → BeginsCharacter text character rest → IsUtf8 rest
+utf8_after text rest character u begins = by begins.item begins.is_item begins.spelled
   where
     low : (ds : List ℕ) → list_all is_hex_digit ds ≡ true → IsUtf8 (ds ++ 125 ∷ rest) → IsUtf8 rest
-    low [] hex v = behind_ascii 125 rest (omega arith) v
+    low [] hex v = following_ascii 125 rest (omega arith) v
     low (d ∷ ds) hex v =
         let parts = and_parts (is_hex_digit d) (list_all is_hex_digit ds) hex in
-        low ds parts.1 (behind_ascii d (ds ++ 125 ∷ rest) (digit_small d parts.0) v)
+        low ds parts.1 (following_ascii d (ds ++ 125 ∷ rest) (digit_small d parts.0) v)
 
     by : (item : XtextItem) → IsXtextItem item → text ≡ item_spelling item ++ rest → IsUtf8 rest
     by (Plain c) is e = IsUtf8-past_char text rest c u e
     by (Escape ds) is e =
         let v : IsUtf8 (92 ∷ 120 ∷ 123 ∷ ((ds ++ 125 ∷ []) ++ rest)) = subst IsUtf8 e u in
-        let w = behind_ascii 123 ((ds ++ 125 ∷ []) ++ rest) (omega arith) (behind_ascii 120 (123 ∷ ((ds ++ 125 ∷ []) ++ rest)) (omega arith) (behind_ascii 92 (120 ∷ 123 ∷ ((ds ++ 125 ∷ []) ++ rest)) (omega arith) v)) in
+        let w = following_ascii 123 ((ds ++ 125 ∷ []) ++ rest) (omega arith) (following_ascii 120 (123 ∷ ((ds ++ 125 ∷ []) ++ rest)) (omega arith) (following_ascii 92 (120 ∷ 123 ∷ ((ds ++ 125 ∷ []) ++ rest)) (omega arith) v)) in
         low ds is.hex (subst IsUtf8 (append_assoc ds (125 ∷ []) rest) w)
 
 -- the text is read as some address, or as none
@@ -117,7 +117,7 @@ read_by (suc fuel) text address (b ∷ rest) reads u enough = elim (decide_begin
   | inl found ↦
       let less = BeginsWith-shortens (b ∷ rest) found.1 found.0 found.2 in
       read_by fuel text (address ++ encode_utf8 found.0) found.1 (ReadsTo-push text address (b ∷ rest) found.1 (address ++ encode_utf8 found.0) found.0 reads found.2 refl)
-      (utf8_behind (b ∷ rest) found.1 found.0 u found.2) (omega (arith, less, enough))
+      (utf8_after (b ∷ rest) found.1 found.0 u found.2) (omega (arith, less, enough))
 ]
 
 pub decide_reads : (text : List ℕ) → Read text

@@ -5,7 +5,7 @@ use Rattle.std.proofs.lemmas.Bool.Decides.{nat_tests}
 use Rattle.std.proofs.lemmas.List.{append_assoc, append-nil, length-append, nil_from_length}
 use Rattle.std.specs.List.{list_all, flat_map}
 use Rattle.std.specs.Str.{IsUtf8}
-use Rattle.mail_wire.specs.Octets.{is_white, is_black, is_line_end, is_ascii}
+use Rattle.mail_wire.specs.Octets.{is_white, is_nonwhite, is_line_end, is_ascii}
 use Rattle.mail_wire.specs.Folds.{IsFolded}
 use Rattle.mail_wire.proofs.Folded.{BeginsText, IsFolded-cut, IsFolded-drop_plain, unfolded-folded, without_ends-some}
 use Rattle.mail_wire.specs.Spans.{Stops, IsSpan}
@@ -55,7 +55,7 @@ pub word_no_end : (xs : List ℕ) → list_all is_word_octet xs ≡ true → lis
 word_no_end [] h = refl
 word_no_end (x ∷ xs) h =
     let parts = and_parts (is_word_octet x) (list_all is_word_octet xs) h in
-    and_from (not (is_line_end x)) (list_all (λ x. not (is_line_end x)) xs) (and_parts (is_black x) (not (is_line_end x)) parts.0).1 (word_no_end xs parts.1)
+    and_from (not (is_line_end x)) (list_all (λ x. not (is_line_end x)) xs) (and_parts (is_nonwhite x) (not (is_line_end x)) parts.0).1 (word_no_end xs parts.1)
 
 -- what a gap is cut from
 pub record HasGap (octets gap rest : List ℕ) : Type 0 where
@@ -119,7 +119,7 @@ divides after (x ∷ gap) rest (v ∷ ws) stops span is are e w gap_is =
 pub Reads-step : (body : List ℕ) (done : List Word) (rest octets after gap next : List ℕ) (encoded : Bool) → Reads body done rest → 0 < length rest
     → IsSpan is_word_octet rest octets after → IsSpan is_gap_octet after gap next → TellsEncoded encoded octets
     → Reads body (done ++ record { octets = octets; is_encoded = encoded; gap = gap } ∷ []) next
-Reads-step body done rest octets after gap next encoded reads some word_span gap_span tells =
+Reads-step body done rest octets after gap next encoded reads some word_span gap_span observed =
     let w : Word = record { octets = octets; is_encoded = encoded; gap = gap } in
     let cut = before_ascii octets after (stops_word after word_span.stops) (subst IsUtf8 word_span.whole reads.utf8) in
     let folded = IsFolded-drop_plain octets after (word_no_end octets word_span.passes) (subst IsFolded word_span.whole reads.folded) in
@@ -127,7 +127,7 @@ Reads-step body done rest octets after gap next encoded reads some word_span gap
     let is : IsWord w = record {
       some = word_some rest octets after some reads.stops word_span;
       octets = word_span.passes;
-      encoded = tells;
+      encoded = observed;
       gap = has.is_gap;
     } in
     record {

@@ -19,9 +19,9 @@ use Rattle.field_downgrade.proofs.Pieces.{AreWords-front, AreWords-back, AreUtf8
 use Rattle.field_downgrade.proofs.ReadBack.{left_white, right_white}
 
 high_plain : (b : Bool) (octets : List ℕ) → TellsEncoded b octets → not (list_all is_ascii octets) ≡ true → b ≡ false
-high_plain false octets tells high = refl
-high_plain true octets tells high =
-    let low = encoded_ascii octets tells.0 tells.1 in
+high_plain false octets observed high = refl
+high_plain true octets observed high =
+    let low = encoded_ascii octets observed.0 observed.1 in
     absurd (both_ways (list_all is_ascii octets) (not-true (list_all is_ascii octets) high) low)
 
 pub BeginsCore-from : (ws : List Word) → AreWords ws → BeginsHigh ws → BeginsCore ws
@@ -127,13 +127,13 @@ Parts-from low after copied next (t ∷ ss) e is stops begins next_is segs = par
     some [] more h = cc h
     some (k ∷ ks) more h = omega arith
 
-rest_words : (core behind copied next rest : List Word) → rest ≡ core ++ behind → behind ≡ copied ++ next → rest ≡ (core ++ copied) ++ next
-rest_words core behind copied next rest e f = e ∙ rw f (sym (append_assoc core copied next))
+rest_words : (core following copied next rest : List Word) → rest ≡ core ++ following → following ≡ copied ++ next → rest ≡ (core ++ copied) ++ next
+rest_words core following copied next rest e f = e ∙ rw f (sym (append_assoc core copied next))
 
-pub WritesOn-step : (words copied rest core behind next_copied next : List Word) (start made new : List ℕ) → WritesOn words start made copied rest → SplitsCore rest core behind
-    → SplitsCopied behind next_copied next → WritesSegment copied core next_copied made new → WritesOn words start new next_copied next
-WritesOn-step words copied rest core behind next_copied next start made new on split_core split_copied writes =
-    let whole = rest_words core behind next_copied next rest split_core.whole split_copied.whole in
+pub WritesOn-step : (words copied rest core following next_copied next : List Word) (start made new : List ℕ) → WritesOn words start made copied rest → SplitsCore rest core following
+    → SplitsCopied following next_copied next → WritesSegment copied core next_copied made new → WritesOn words start new next_copied next
+WritesOn-step words copied rest core following next_copied next start made new on split_core split_copied writes =
+    let whole = rest_words core following next_copied next rest split_core.whole split_copied.whole in
     let are_rest : AreWords ((core ++ next_copied) ++ next) = subst AreWords whole (AreWords-back copied rest on.are) in
     let u_rest : AreUtf8 ((core ++ next_copied) ++ next) = subst AreUtf8 whole on.utf8 in
     let are_next : AreWords (next_copied ++ next) = AreWords-back core (next_copied ++ next) (subst AreWords (append_assoc core next_copied next) are_rest) in
@@ -153,14 +153,14 @@ WritesOn-step words copied rest core behind next_copied next start made new on s
           );
     }
 
-pub CanWrite-from : (words copied rest core behind next_copied next : List Word) (start made : List ℕ) → WritesOn words start made copied rest → SplitsCore rest core behind
-    → SplitsCopied behind next_copied next → CanWrite copied core next_copied
-CanWrite-from words copied rest core behind next_copied next start made on split_core split_copied =
-    let whole = rest_words core behind next_copied next rest split_core.whole split_copied.whole in
+pub CanWrite-from : (words copied rest core following next_copied next : List Word) (start made : List ℕ) → WritesOn words start made copied rest → SplitsCore rest core following
+    → SplitsCopied following next_copied next → CanWrite copied core next_copied
+CanWrite-from words copied rest core following next_copied next start made on split_core split_copied =
+    let whole = rest_words core following next_copied next rest split_core.whole split_copied.whole in
     let are : AreWords ((copied ++ (core ++ next_copied)) ++ next) = rw (append_assoc copied (core ++ next_copied) next) (subst (λ ws. AreWords (copied ++ ws)) whole on.are) in
     record {
       are_words = AreWords-front (copied ++ (core ++ next_copied)) next are;
-      are_utf8 = AreUtf8-front core behind (subst AreUtf8 split_core.whole on.utf8);
+      are_utf8 = AreUtf8-front core following (subst AreUtf8 split_core.whole on.utf8);
       begins = split_core.begins;
     }
 
@@ -173,10 +173,10 @@ WritesOn-end words copied rest start made on none =
     record { pieces = all.0; have = all.1; added = sym (append-nil made) ∙ all.2 }
 
 -- a core is not empty
-pub shorter : (rest core behind copied next : List Word) → SplitsCore rest core behind → SplitsCopied behind copied next → length next < length rest
-shorter rest [] behind copied next split_core split_copied = let begins = split_core.begins in cc begins
-shorter rest (k ∷ core) behind copied next split_core split_copied =
-    omega (arith, ap length split_core.whole, ap length split_copied.whole, length-append core behind, length-append copied next)
+pub shorter : (rest core following copied next : List Word) → SplitsCore rest core following → SplitsCopied following copied next → length next < length rest
+shorter rest [] following copied next split_core split_copied = let begins = split_core.begins in cc begins
+shorter rest (k ∷ core) following copied next split_core split_copied =
+    omega (arith, ap length split_core.whole, ap length split_copied.whole, length-append core following, length-append copied next)
 
 pub CutsLeft-at : (s t : Side) (r q part : List ℕ) (white : ℕ) → s ≡ t → r ≡ q → CutsLeft s r part white → CutsLeft t q part white
 CutsLeft-at s t r q part white e f cuts = rw (← e, ← f) cuts

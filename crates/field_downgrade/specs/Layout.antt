@@ -1,6 +1,7 @@
 -- The layout of an unstructured field (RFC 6857, 3).
 use Rattle.std.specs.Prelude.{◌≡◌, ℕ, Bool, true, false, not, if◌then◌else◌, List, [], ◌∷◌, ◌++◌, map}
 use Rattle.std.specs.List.{list_all, list_any, flat_map}
+use Rattle.mail_wire.specs.Characters.{space}
 use Rattle.encoded_words.specs.Pieces.{AreBWords}
 use Rattle.encoded_words.specs.Folding.{Piece, made_body, word_pieces}
 use Rattle.utf8_fields.specs.Parts.{FieldParts}
@@ -10,7 +11,7 @@ use Rattle.field_downgrade.specs.Words.{Word, HasWords, copied_octets, plain_tex
 
 -- pieces on lines of their own, each behind a space
 abbrev pub spaced : List (List ℕ) → List Piece
-spaced pieces = map (λ octets. record { white = 32; octets = octets }) pieces
+spaced pieces = map (λ octets. record { white = space; octets = octets }) pieces
 
 -- name, colon, the pieces, and CRLF where the original has it
 abbrev pub made_of : FieldParts → List Piece → FieldParts
@@ -34,14 +35,14 @@ last_side (w ∷ v ∷ ws) = last_side (v ∷ ws)
 -- The part of the run before a core that goes into the core's text, and the white octet before the first B word:
 -- beside another word the octet farthest from the core is left out, and chosen.
 abbrev pub CutsLeft : Side → List ℕ → List ℕ → ℕ → Type 0
-CutsLeft Edge run part white = (part ≡ []) × (white ≡ 32)
-CutsLeft Encoded run part white = (part ≡ run) × (white ≡ 32)
+CutsLeft Edge run part white = (part ≡ []) × (white ≡ space)
+CutsLeft Encoded run part white = (part ≡ run) × (white ≡ space)
 CutsLeft Plain run part white = run ≡ white ∷ part
 
 -- the part of the run behind a core, and the white octet before the copied piece that follows
 abbrev pub CutsRight : Side → List ℕ → List ℕ → ℕ → Type 0
-CutsRight Edge run part white = (part ≡ []) × (white ≡ 32)
-CutsRight Encoded run part white = (part ≡ run) × (white ≡ 32)
+CutsRight Edge run part white = (part ≡ []) × (white ≡ space)
+CutsRight Encoded run part white = (part ≡ run) × (white ≡ space)
 CutsRight Plain run part white = run ≡ part ++ white ∷ []
 
 -- a core, and the words behind it that are copied, up to the next core or the end
@@ -117,7 +118,7 @@ pub record HavePieces (words : List Word) (pieces : List Piece) : Type 0 where
   pub copied : IsCopied front
   pub are_segments : AreSegments segments
   pub give : GiveAll (last_side front) (last_run front) segments more
-  pub pieces_are : pieces ≡ copied_pieces 32 front ++ more
+  pub pieces_are : pieces ≡ copied_pieces space front ++ more
 
 -- the layout of an unstructured field with an octet above 127
 pub record HasUnstructuredLayout (f g : FieldParts) : Type 0 where

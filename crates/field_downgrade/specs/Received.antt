@@ -2,6 +2,7 @@
 use Rattle.std.specs.Prelude.{◌≡◌, ℕ, Bool, true, not, ◌&&◌, ◌||◌, ◌==◌, cond, codes, List, [], ◌∷◌, ◌++◌, map, Option, Some, None}
 use Rattle.std.specs.List.{AllByRecursion, list_all, list_any, flat_map, slice_split}
 use Rattle.std.specs.Str.{bytes_eq, str_to_ascii_lowercase}
+use Rattle.mail_wire.specs.Characters.{space, dot, semicolon as semicolon_octet}
 use Rattle.mail_wire.specs.Octets.{is_ascii, same_name}
 use Rattle.field_tokens.specs.declared.Style.TheVariants.{Mail}
 use Rattle.field_tokens.specs.declared.TokenKind.TheVariants.{Special}
@@ -24,7 +25,7 @@ starts_clause token = is_atom_kind token.kind && is_clause_word token.octets
 
 -- a semicolon ends the clauses
 abbrev pub is_semicolon : TokenValue → Bool
-is_semicolon token = is_special_kind token.kind && bytes_eq token.octets (59 ∷ [])
+is_semicolon token = is_special_kind token.kind && bytes_eq token.octets (semicolon_octet ∷ [])
 
 -- any other token may stand within a clause
 abbrev pub is_inner : TokenValue → Bool
@@ -33,16 +34,16 @@ is_inner token = not (starts_clause token) && not (is_semicolon token)
 -- a clause: the token that starts it, and the tokens behind it
 pub record ClauseTokens : Type 0 where
   pub word : TokenValue
-  pub behind : List TokenValue
+  pub following : List TokenValue
 
 -- The first token may start a clause, and those behind it start no other and end none (RFC 5321, 4.4).
 pub record IsClause (clause : ClauseTokens) : Type 0 where
   pub starts : starts_clause clause.word ≡ true
-  pub inner : list_all is_inner clause.behind ≡ true
+  pub inner : list_all is_inner clause.following ≡ true
 
 -- The token that starts a clause, and those behind it.
 abbrev pub clause_tokens : ClauseTokens → List TokenValue
-clause_tokens clause = clause.word ∷ clause.behind
+clause_tokens clause = clause.word ∷ clause.following
 
 -- what stands before the first clause, the clauses, and what stands behind the semicolon, where there is one
 pub record ReceivedParts : Type 0 where
@@ -52,7 +53,7 @@ pub record ReceivedParts : Type 0 where
 
 -- The semicolon before the date of a Received field (RFC 5322, 3.6.7).
 abbrev pub semicolon : TokenValue
-semicolon = record { kind = Special; octets = 59 ∷ [] }
+semicolon = record { kind = Special; octets = semicolon_octet ∷ [] }
 
 -- The semicolon and the tokens of the date, where there is one (RFC 5322, 3.6.7).
 abbrev pub date_tokens : Option (List TokenValue) → List TokenValue
@@ -89,7 +90,7 @@ pub record Clause : Type 0 where
 
 -- The word of a clause in lower case, and the text behind it without comments.
 abbrev pub clause_of : ClauseTokens → Clause
-clause_of clause = record { word = str_to_ascii_lowercase clause.word.octets; text = squeezed_values clause.behind }
+clause_of clause = record { word = str_to_ascii_lowercase clause.word.octets; text = squeezed_values clause.following }
 
 -- The text of a date without comments, where there is one.
 abbrev pub date_of : Option (List TokenValue) → Option (List ℕ)
@@ -113,7 +114,7 @@ is_host_word word = same_name word (codes "from") || same_name word (codes "by")
 
 -- one of the labels starts a clause
 abbrev pub holds_clause_word : List ℕ → Bool
-holds_clause_word form = list_any is_clause_word (slice_split (λ x. x == 46) form)
+holds_clause_word form = list_any is_clause_word (slice_split (λ x. x == dot) form)
 
 -- The form of a host's name, unless a label of it would start a clause.
 abbrev pub unless_word : Option (List ℕ) → Option (List ℕ)
@@ -138,7 +139,7 @@ served_clauses clauses = flat_map (λ (clause : Clause). clause_with clause.word
 -- a text behind a space, where there is one
 abbrev pub with_space_before : List ℕ → List ℕ
 with_space_before [] = []
-with_space_before (x ∷ xs) = 32 ∷ x ∷ xs
+with_space_before (x ∷ xs) = space ∷ x ∷ xs
 
 -- The word of a clause and its text, or nothing where the text can't be served.
 abbrev pub served_piece : List ℕ → Option (List ℕ) → List (List ℕ)
@@ -148,8 +149,8 @@ served_piece word (Some text) = (word ++ with_space_before text) ∷ []
 -- the pieces of a clause: the clause as it is served, with its word as it is written, and its comments
 pub record ClausePieces (clause : ClauseTokens) (pieces : List (List ℕ)) : Type 0 where
   pub comments : List (List ℕ)
-  pub comments_are : CommentsPieces (comments_of clause.behind) comments
-  pub pieces_are : pieces ≡ served_piece clause.word.octets (served_text clause.word.octets (squeezed_values clause.behind)) ++ comments
+  pub comments_are : CommentsPieces (comments_of clause.following) comments
+  pub pieces_are : pieces ≡ served_piece clause.word.octets (served_text clause.word.octets (squeezed_values clause.following)) ++ comments
 
 -- The pieces of the clauses, one clause after another.
 abbrev pub ClausesPieces : List ClauseTokens → List (List ℕ) → Type 0
@@ -159,7 +160,7 @@ ClausesPieces (clause ∷ clauses) pieces = (first more : List (List ℕ)) × (p
 -- the pieces of a date: the semicolon with the date's text, and its comments
 abbrev pub DatePieces : Option (List TokenValue) → List (List ℕ) → Type 0
 DatePieces None pieces = pieces ≡ []
-DatePieces (Some tokens) pieces = (comments : List (List ℕ)) × CommentsPieces (comments_of tokens) comments × (pieces ≡ (59 ∷ with_space_before (squeezed_values tokens)) ∷ comments)
+DatePieces (Some tokens) pieces = (comments : List (List ℕ)) × CommentsPieces (comments_of tokens) comments × (pieces ≡ (semicolon_octet ∷ with_space_before (squeezed_values tokens)) ∷ comments)
 
 -- the pieces of the comments before the clauses, of the clauses, and of the date
 pub record PartsPieces (parts : ReceivedParts) (pieces : List (List ℕ)) : Type 0 where

@@ -3,6 +3,7 @@
 use Rattle.std.specs.Prelude.{◌≡◌, ℕ, Bool, true, false, ◌||◌, List, [], ◌∷◌, codes, Option, Some, None}
 use Rattle.std.specs.List.{AllZip, list_all}
 use Rattle.std.specs.Str.{bytes_eq}
+use Rattle.mail_wire.specs.Characters.{space, dash}
 use Rattle.mail_wire.specs.Octets.{is_ascii, same_name}
 use Rattle.mail_wire.specs.Message.{IsNul}
 use Rattle.encoded_words.specs.Words.{UnitValue, Text}
@@ -44,7 +45,7 @@ pub record IsAsciiField (octets : List ℕ) (f : FieldParts) : Type 0 where
 -- the name begins with `-`
 abbrev pub BeginsHyphen : List ℕ → Type 0
 BeginsHyphen [] = ⊥
-BeginsHyphen (x ∷ xs) = x ≡ 45
+BeginsHyphen (x ∷ xs) = x ≡ dash
 
 -- The field Content-Transfer-Encoding (RFC 2045, 6).
 unfoldable pub is_encoding_name : List ℕ → Bool
@@ -140,9 +141,9 @@ pub data HasHighLayout (open_global : Bool) (f g : FieldParts) : Type 0 where
   -- another field is made of its pieces
   OfPieces : (value : List ℕ) (pieces : List (List ℕ)) → HasValue f.body value → PiecesAs (kind_named f.name) open_global f.name value pieces → g ≡ made_of f (spaced pieces) → HasHighLayout open_global f g
   -- one that can't be is kept under another name
-  Encapsulated : (value : List ℕ) (words : List (List ℕ)) → IsKeptAside f → HasValue f.body value → AreBWords value words → g ≡ downgraded_of f (word_pieces 32 words) → HasHighLayout open_global f g
+  Encapsulated : (value : List ℕ) (words : List (List ℕ)) → IsKeptAside f → HasValue f.body value → AreBWords value words → g ≡ downgraded_of f (word_pieces space words) → HasHighLayout open_global f g
   -- one that tells how a body is read keeps its name
-  KeptMalformed : (value : List ℕ) (words : List (List ℕ)) → IsMalformed f → keeps_name f.name ≡ true → HasValue f.body value → AreBWords value words → g ≡ made_of f (word_pieces 32 words)
+  KeptMalformed : (value : List ℕ) (words : List (List ℕ)) → IsMalformed f → keeps_name f.name ≡ true → HasValue f.body value → AreBWords value words → g ≡ made_of f (word_pieces space words)
       → HasHighLayout open_global f g
 
 -- The field with this body.

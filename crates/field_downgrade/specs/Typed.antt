@@ -2,8 +2,9 @@
 use Rattle.std.specs.Prelude.{◌≡◌, ◌<◌, ℕ, ◌==◌, Bool, true, false, ◌&&◌, not, List, [], ◌∷◌, ◌++◌, length, codes}
 use Rattle.std.specs.List.{AllByRecursion, join_with_byte, list_all}
 use Rattle.std.specs.Str.{bytes_eq, str_to_ascii_lowercase}
+use Rattle.mail_wire.specs.Characters.{space, semicolon}
 use Rattle.mail_wire.specs.Octets.{is_ascii, is_white}
-use Rattle.mail_wire.specs.Spans.{Stops, StopsBehind, IsTrimmed}
+use Rattle.mail_wire.specs.Spans.{Stops, StopsAfter, IsTrimmed}
 use Rattle.field_tokens.specs.declared.Style.TheVariants.{Mime}
 use Rattle.field_tokens.specs.TokenOctets.{is_atom_octet}
 use Rattle.field_tokens.specs.Comments.{IsLinePiece}
@@ -12,7 +13,7 @@ use Rattle.encapsulated_fields.specs.Xtext.{ReadsAs}
 
 -- no `;`
 abbrev pub is_no_semicolon : ℕ → Bool
-is_no_semicolon x = not (x == 59)
+is_no_semicolon x = not (x == semicolon)
 
 -- an octet of a type
 abbrev pub is_type_octet : ℕ → Bool
@@ -23,8 +24,8 @@ abbrev pub utf8_type : List ℕ
 utf8_type = codes "utf-8"
 
 -- the value is cut at its first `;`
-pub record CutsType (value front behind : List ℕ) : Type 0 where
-  pub whole : value ≡ front ++ 59 ∷ behind
+pub record CutsType (value front following : List ℕ) : Type 0 where
+  pub whole : value ≡ front ++ semicolon ∷ following
   pub first : list_all is_no_semicolon front ≡ true
 
 -- The octets write this type: an ASCII atom, with white around it, in any case.
@@ -38,10 +39,10 @@ pub record WritesType (octets type : List ℕ) : Type 0 where
 -- a type, and an address that is written so behind the first `;`
 pub record IsTyped (value type written : List ℕ) : Type 0 where
   pub front : List ℕ
-  pub behind : List ℕ
-  pub cuts : CutsType value front behind
+  pub following : List ℕ
+  pub cuts : CutsType value front following
   pub type_is : WritesType front type
-  pub written_is : IsTrimmed is_white behind written
+  pub written_is : IsTrimmed is_white following written
 
 -- a UTF-8 address is what its escapes name, and another one stands as it is
 abbrev pub WrittenSays : Bool → List ℕ → List ℕ → Type 0
@@ -62,8 +63,8 @@ pub record TypedPieces (value : List ℕ) (pieces : List (List ℕ)) : Type 0 wh
 
 -- The pieces, with a space between any two, say the same type and address. Each can stand on a line of its own.
 pub record IsTypedAgain (type text : List ℕ) (pieces : List (List ℕ)) : Type 0 where
-  pub says : SaysTyped (join_with_byte 32 pieces) type text
-  pub begins : Stops is_white (join_with_byte 32 pieces)
-  pub ends : StopsBehind is_white (join_with_byte 32 pieces)
+  pub says : SaysTyped (join_with_byte space pieces) type text
+  pub begins : Stops is_white (join_with_byte space pieces)
+  pub ends : StopsAfter is_white (join_with_byte space pieces)
   pub are_pieces : AllByRecursion IsLinePiece pieces
   pub some : 0 < length pieces

@@ -37,7 +37,7 @@ fn split_lead(body: &[u8]) -> (&[u8], &[u8])
 }
 
 // Where the octet stands behind so many others, of which line ends aren't counted.
-fn place_behind(octets: &[u8], count: usize) -> usize
+fn place_following(octets: &[u8], count: usize) -> usize
     ensures bound { result ≤ length octets.now }
     ensures place { (before rest : List ℕ) (x : ℕ) → octets.now ≡ before ++ x ∷ rest → is_line_end_octet x ≡ false
         → length (filter (λ y. not (is_line_end_octet y)) before) ≡ count → result ≡ length before }
@@ -62,8 +62,8 @@ fn with_rfc822(alloc: Global, body: &[u8], at: usize) -> Result<Octets, Memory>
     requires names { (value : List ℕ) × HasValue body.now value × NamesGlobal value at }
     ensures { IfOk result (ChangesGlobal body.now) }
 {
-    let (lead, behind) = split_lead(body);
-    let (front, rest) = behind.split_at(place_behind(behind, at));
+    let (lead, following) = split_lead(body);
+    let (front, rest) = following.split_at(place_following(following, at));
     let (_, after) = rest.split_at(6);
     let mut made = Octets::from_slice(alloc, lead)?;
     made.push_slice(front)?;

@@ -11,7 +11,7 @@ pub fn layouts_are_one()
 {}
 
 /// A field has one meaning at most.
-pub fn meanings_are_one()
+pub fn oracles_are_one()
     ensures { (f : FieldParts) (meaning other : Meaning) → Means f meaning → Means f other → meaning ≡ other }
 {}
 

@@ -35,14 +35,14 @@ fn is_one_atom(tokens: Lexemes<'_, '_>) -> bool
     ensures { IsTrue result ↔ IsOneAtom (values_of tokens.entry) }
 {
     let mut rest = tokens;
-    while let Some((token, behind)) = rest.split_first() {
+    while let Some((token, following)) = rest.split_first() {
         if !is_blank(token.kind) {
             if !is_atom(token.kind) {
                 return false;
             }
-            return are_blank(behind);
+            return are_blank(following);
         }
-        rest = behind;
+        rest = following;
     }
     false
 }

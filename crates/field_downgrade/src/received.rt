@@ -5,7 +5,7 @@ ghost use Rattle.encoded_words.specs.Folding.{lines_of, AddsLines};
 ghost use Rattle.field_tokens.specs.declared.Style.TheVariants.{Mail};
 ghost use Rattle.field_tokens.specs.Lexemes.{value_of, values_of};
 ghost use Rattle.field_downgrade.specs.Received.{is_clause_word as is_clause_word_of, starts_clause as starts_clause_of, is_semicolon as is_semicolon_of, is_host_word as is_host_word_of, holds_clause_word as holds_clause_word_of, served_text as served_text_of, date_text as date_text_of, date_tokens, with_space_before, ClausePieces, DatePieces, ReceivedPieces};
-ghost use Rattle.field_downgrade.specs.private.ReceivedSteps.{AreRead, EndsOrBeginsSo, CutsTokens, CutsDate, tokens_behind, clause_at, WritesClauses};
+ghost use Rattle.field_downgrade.specs.private.ReceivedSteps.{AreRead, EndsOrBeginsSo, CutsTokens, CutsDate, tokens_after, clause_at, WritesClauses};
 ghost use Rattle.field_downgrade.specs.private.Steps.{WritesWhere};
 
 use crate::lines::begin_line;
@@ -36,7 +36,7 @@ fn starts_clause(token: Lexeme<'_>) -> bool
 
 // The tokens before the first semicolon, and those behind it, where there is one.
 fn split_head<'a, 'b>(tokens: Lexemes<'a, 'b>) -> (Lexemes<'a, 'b>, Option<Lexemes<'a, 'b>>)
-    ensures { CutsDate (values_of tokens.entry) (values_of result.0) (tokens_behind result.1) }
+    ensures { CutsDate (values_of tokens.entry) (values_of result.0) (tokens_after result.1) }
 {
     match split_at_mark(tokens, b';') {
         Some((head, date)) => (head, Some(date)),
@@ -49,11 +49,11 @@ fn split_clause<'a, 'b>(tokens: Lexemes<'a, 'b>) -> (Lexemes<'a, 'b>, Lexemes<'a
     ensures { CutsTokens starts_clause_of (values_of tokens.entry) (values_of result.0) (values_of result.1) }
 {
     let mut rest = tokens;
-    while let Some((token, behind)) = rest.split_first() {
+    while let Some((token, following)) = rest.split_first() {
         if starts_clause(token) {
             return (front_before(tokens, rest), rest);
         }
-        rest = behind;
+        rest = following;
     }
     (front_before(tokens, rest), rest)
 }
@@ -114,17 +114,17 @@ fn put_word(word: &[u8], text: &[u8], made: &mut Octets) -> Result<(), Memory>
 fn put_clause(
     alloc: Global,
     word: Lexeme<'_>,
-    behind: Lexemes<'_, '_>,
+    following: Lexemes<'_, '_>,
     made: &mut Octets,
 ) -> Result<(), Memory>
-    requires { AreRead Mail (values_of behind) }
-    ensures { OnOk result (AddsLines (ClausePieces (clause_at (value_of word.entry) (values_of behind.entry))) made.old made.new) }
+    requires { AreRead Mail (values_of following) }
+    ensures { OnOk result (AddsLines (ClausePieces (clause_at (value_of word.entry) (values_of following.entry))) made.old made.new) }
 {
-    let said = squeezed(alloc, behind)?;
+    let said = squeezed(alloc, following)?;
     if let Some(served) = served_text(alloc, word.octets, said)? {
         put_word(word.octets, served.as_slice(), made)?;
     }
-    write_comments(alloc, behind, made)
+    write_comments(alloc, following, made)
 }
 
 // Puts the pieces of clauses last.
@@ -136,8 +136,8 @@ fn put_clauses(alloc: Global, tokens: Lexemes<'_, '_>, made: &mut Octets) -> Res
 {
     let mut rest = tokens;
     while let Some((word, others)) = rest.split_first() {
-        let (behind, after) = split_clause(others);
-        put_clause(alloc, word, behind, made)?;
+        let (following, after) = split_clause(others);
+        put_clause(alloc, word, following, made)?;
         rest = after;
     }
     Ok(())
@@ -145,10 +145,10 @@ fn put_clauses(alloc: Global, tokens: Lexemes<'_, '_>, made: &mut Octets) -> Res
 
 // The text of the date behind a semicolon, or none.
 fn date_text(alloc: Global, date: Option<Lexemes<'_, '_>>) -> Result<Octets, Memory>
-    ensures { IfOk result (λ said. said ≡ date_text_of (tokens_behind date.entry)) }
+    ensures { IfOk result (λ said. said ≡ date_text_of (tokens_after date.entry)) }
 {
     match date {
-        Some(behind) => squeezed(alloc, behind),
+        Some(following) => squeezed(alloc, following),
         None => Ok(Octets::new(alloc)),
     }
 }
@@ -160,15 +160,15 @@ fn put_date(
     said: &[u8],
     made: &mut Octets,
 ) -> Result<(), Memory>
-    requires read { AreRead Mail (date_tokens (tokens_behind date)) }
-    requires said { said.now ≡ date_text_of (tokens_behind date) }
-    ensures { OnOk result (AddsLines (DatePieces (tokens_behind date.entry)) made.old made.new) }
+    requires read { AreRead Mail (date_tokens (tokens_after date)) }
+    requires said { said.now ≡ date_text_of (tokens_after date) }
+    ensures { OnOk result (AddsLines (DatePieces (tokens_after date.entry)) made.old made.new) }
 {
-    let Some(behind) = date else {
+    let Some(following) = date else {
         return Ok(());
     };
     put_word(b";", said, made)?;
-    write_comments(alloc, behind, made)
+    write_comments(alloc, following, made)
 }
 
 /// Puts the pieces of a Received field's text last, and answers whether it has any.

@@ -147,8 +147,8 @@ pub fn write_body(alloc: Global, body: &[u8], made: &mut Octets) -> Result<(), M
     let (mut copied, mut rest) = split_low(alloc, words)?;
     push_copied_line(made, b' ', copied.octets)?;
     while !rest.is_empty() {
-        let (core, behind) = split_core(alloc, rest)?;
-        let (next_copied, next) = split_low(alloc, behind)?;
+        let (core, following) = split_core(alloc, rest)?;
+        let (next_copied, next) = split_low(alloc, following)?;
         write_segment(alloc, &copied, &core, &next_copied, made)?;
         copied = next_copied;
         rest = next;

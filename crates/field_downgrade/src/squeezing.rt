@@ -7,10 +7,10 @@ use field_tokens::{Lexemes, is_blank};
 use mail_wire::{Memory, Octets};
 use std::alloc::Global;
 
-fn push_token(made: &mut Octets, is_apart: bool, octets: &[u8]) -> Result<(), Memory>
-    ensures { OnOk result (made.new ≡ made.old ++ ((if is_apart then 32 ∷ [] else []) ++ octets.now)) }
+fn push_token(made: &mut Octets, has_space_before: bool, octets: &[u8]) -> Result<(), Memory>
+    ensures { OnOk result (made.new ≡ made.old ++ ((if has_space_before then 32 ∷ [] else []) ++ octets.now)) }
 {
-    if is_apart {
+    if has_space_before {
         made.push(b' ')?;
     }
     made.push_slice(octets)
@@ -22,18 +22,18 @@ pub fn squeezed(alloc: Global, tokens: Lexemes<'_, '_>) -> Result<Octets, Memory
 {
     let mut made = Octets::new(alloc);
     // Whether a token was put, and whether what follows stands apart from it.
-    let mut is_behind = false;
-    let mut is_apart = false;
+    let mut is_after = false;
+    let mut has_space_before = false;
     let mut rest = tokens;
-    while let Some((token, behind)) = rest.split_first() {
+    while let Some((token, following)) = rest.split_first() {
         if is_blank(token.kind) {
-            is_apart = is_behind;
+            has_space_before = is_after;
         } else {
-            push_token(&mut made, is_apart, token.octets)?;
-            is_behind = true;
-            is_apart = false;
+            push_token(&mut made, has_space_before, token.octets)?;
+            is_after = true;
+            has_space_before = false;
         }
-        rest = behind;
+        rest = following;
     }
     Ok(made)
 }

@@ -28,7 +28,7 @@ fn split_type(value: &[u8]) -> Option<(&[u8], &[u8])>
     };
     let (front, rest) = value.split_at(at);
     match rest.split_first() {
-        Some((_, behind)) => Some((front, behind)),
+        Some((_, following)) => Some((front, following)),
         None => unreachable!(),
     }
 }
@@ -38,13 +38,13 @@ fn utf8_address(value: &[u8]) -> Option<&[u8]>
     ensures found { IfSome result (λ written. IsTyped value.now utf8_type written.now) }
     ensures none { IfNone result ((written : List ℕ) → ¬ IsTyped value.now utf8_type written) }
 {
-    let Some((front, behind)) = split_type(value) else {
+    let Some((front, following)) = split_type(value) else {
         return None;
     };
     if !is_same_name(trim(front), b"utf-8") {
         return None;
     }
-    Some(trim(behind))
+    Some(trim(following))
 }
 
 // Puts a UTF-8 address in its ASCII form last, on a line of its own behind its type.

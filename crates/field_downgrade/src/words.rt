@@ -112,14 +112,14 @@ pub fn split_low<'a>(alloc: Global, body: &'a [u8]) -> Result<(Stretch<'a>, &'a 
     let mut low = NO_WORDS;
     let mut rest = body;
     while !rest.is_empty() {
-        let (word, behind) = split_word(rest);
+        let (word, following) = split_word(rest);
         if !is_ascii(word) {
             return Ok((low, rest));
         }
-        let (gap, next) = split_gap(behind);
+        let (gap, next) = split_gap(following);
         let side = side_of(alloc, word)?;
         low = Stretch {
-            octets: front_before(body, behind),
+            octets: front_before(body, following),
             gap,
             first: first_of(low.first, side),
             last: side,
@@ -134,24 +134,24 @@ pub fn split_core<'a>(alloc: Global, body: &'a [u8]) -> Result<(Stretch<'a>, &'a
     ensures { IfOk result (λ x. SplitsFirst body.now x.0 x.1.now) }
 {
     let mut core = NO_WORDS;
-    let mut behind_core = body;
+    let mut after_core = body;
     let mut rest = body;
     while !rest.is_empty() {
-        let (word, behind) = split_word(rest);
+        let (word, following) = split_word(rest);
         if is_encoded(alloc, word)? {
-            return Ok((core, behind_core));
+            return Ok((core, after_core));
         }
-        let (gap, next) = split_gap(behind);
+        let (gap, next) = split_gap(following);
         if !is_ascii(word) {
             core = Stretch {
-                octets: front_before(body, behind),
+                octets: front_before(body, following),
                 gap,
                 first: Side::Plain,
                 last: Side::Plain,
             };
-            behind_core = next;
+            after_core = next;
         }
         rest = next;
     }
-    Ok((core, behind_core))
+    Ok((core, after_core))
 }

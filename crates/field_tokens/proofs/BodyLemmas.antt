@@ -15,13 +15,13 @@ body_once (Last s) (Last t) x y p q e =
     let r = text_once s t (41 ∷ x) (41 ∷ y) p q (close_stops x) (close_stops y) e in
     (ap Last r.0, cc (r.1))
 body_once (Last s) (Before t inner more) x y p q e =
-    let behind : List ℕ = body_octets inner ++ 41 ∷ (body_octets more ++ 41 ∷ y) in
-    let r = text_once s t (41 ∷ x) (40 ∷ behind) p q.0 (close_stops x) (open_stops behind) (e ∙ grouped (spelling t) (body_octets inner) (body_octets more) (41 ∷ y)) in
+    let following : List ℕ = body_octets inner ++ 41 ∷ (body_octets more ++ 41 ∷ y) in
+    let r = text_once s t (41 ∷ x) (40 ∷ following) p q.0 (close_stops x) (open_stops following) (e ∙ grouped (spelling t) (body_octets inner) (body_octets more) (41 ∷ y)) in
     let no : ◌≡◌ {A = ℕ} 41 40 = cc (r.1) in
     absurd (omega (arith, no))
 body_once (Before s inner more) (Last t) x y p q e =
-    let behind : List ℕ = body_octets inner ++ 41 ∷ (body_octets more ++ 41 ∷ x) in
-    let r = text_once s t (40 ∷ behind) (41 ∷ y) p.0 q (open_stops behind) (close_stops y) (sym (grouped (spelling s) (body_octets inner) (body_octets more) (41 ∷ x)) ∙ e) in
+    let following : List ℕ = body_octets inner ++ 41 ∷ (body_octets more ++ 41 ∷ x) in
+    let r = text_once s t (40 ∷ following) (41 ∷ y) p.0 q (open_stops following) (close_stops y) (sym (grouped (spelling s) (body_octets inner) (body_octets more) (41 ∷ x)) ∙ e) in
     let no : ◌≡◌ {A = ℕ} 40 41 = cc (r.1) in
     absurd (omega (arith, no))
 body_once (Before s a b) (Before t c d) x y p q e =
@@ -43,8 +43,8 @@ HasItems-once at (Last text) t u p q = p.2 ∙ ap (λ r. run_then r End) (GivesR
 HasItems-once at (Before text inner more) t u p q =
     let run = GivesRun-once at text p.0 q.0 p.3 q.3 in
     let nested : p.1 ≡ q.1 = HasItems-once (at + length (spelling text) + 1) inner p.1 q.1 p.4 q.4 in
-    let behind : p.2 ≡ q.2 = HasItems-once (at + length (spelling text) + length (body_octets inner) + 2) more p.2 q.2 p.5 q.5 in
-    p.6 ∙ ap (λ r. run_then r (NestedThen p.1 p.2)) run ∙ ap (λ r. run_then q.0 r) (rw (nested, behind) refl) ∙ sym q.6
+    let following : p.2 ≡ q.2 = HasItems-once (at + length (spelling text) + length (body_octets inner) + 2) more p.2 q.2 p.5 q.5 in
+    p.6 ∙ ap (λ r. run_then r (NestedThen p.1 p.2)) run ∙ ap (λ r. run_then q.0 r) (rw (nested, following) refl) ∙ sym q.6
 
 -- a comment has one tree
 pub HasComment-once : (text : List ℕ) (token : Token) (t u : Tree) → HasComment text token t → HasComment text token u → t ≡ u

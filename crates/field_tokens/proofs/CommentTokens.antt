@@ -20,8 +20,8 @@ pub record IsPlaced (style : Style) (text : List ℕ) (token : Token) : Type 0 w
 
 placed_first : (style : Style) (text front rest : List ℕ) (t : TokenValue) → text ≡ front ++ (t.octets ++ rest) → IsToken style t.kind t.octets rest → IsPlaced style text (token_at (length front) t)
 placed_first style text front rest t e is =
-    let behind : drop (length front) text ≡ t.octets ++ rest = ap (drop (length front)) e ∙ drop_at front (t.octets ++ rest) (length front) refl in
-    let octets : octets_at text (token_at (length front) t).span ≡ t.octets = rw (behind) (take_at t.octets rest (length t.octets) refl) in
+    let following : drop (length front) text ≡ t.octets ++ rest = ap (drop (length front)) e ∙ drop_at front (t.octets ++ rest) (length front) refl in
+    let octets : octets_at text (token_at (length front) t).span ≡ t.octets = rw (following) (take_at t.octets rest (length t.octets) refl) in
     record {
       rest = rest;
       within = omega (arith, ap length e, length-append front (t.octets ++ rest), length-append t.octets rest);
@@ -114,11 +114,11 @@ comment_at text token is kind =
     }
 
 -- the octets behind the opening parenthesis
-pub behind_open : (text : List ℕ) (token : Token) (mark : ℕ) (octets : List ℕ) → (c : IsCommentAt text token) → octets_at text token.span ≡ mark ∷ octets → octets ≡ body_octets c.body ++ 41 ∷ []
-behind_open text token mark octets c e = let whole : mark ∷ octets ≡ 40 ∷ (body_octets c.body ++ 41 ∷ []) = sym e ∙ c.spelled in cc whole
+pub after_open : (text : List ℕ) (token : Token) (mark : ℕ) (octets : List ℕ) → (c : IsCommentAt text token) → octets_at text token.span ≡ mark ∷ octets → octets ≡ body_octets c.body ++ 41 ∷ []
+after_open text token mark octets c e = let whole : mark ∷ octets ≡ 40 ∷ (body_octets c.body ++ 41 ∷ []) = sym e ∙ c.spelled in cc whole
 
 pub HoldsBody-comment : (text : List ℕ) (token : Token) (mark : ℕ) (octets : List ℕ) → IsCommentAt text token → octets_at text token.span ≡ mark ∷ octets → HoldsBody 64 octets
-HoldsBody-comment text token mark octets c e = record { body = c.body; behind = []; is_body = c.is_body; shallow = c.shallow; whole = behind_open text token mark octets c e }
+HoldsBody-comment text token mark octets c e = record { body = c.body; following = []; is_body = c.is_body; shallow = c.shallow; whole = after_open text token mark octets c e }
 
 pub octets_at-size : (text : List ℕ) (at len : ℕ) → at + len ≤ length text → length (take len (drop at text)) ≡ len
 octets_at-size text at len within = length-take-le len (drop at text) (rw (length-drop at text) (omega arith))
@@ -135,7 +135,7 @@ token_size text token mark octets c e =
 pub comment_found : (text : List ℕ) (token : Token) (mark : ℕ) (octets rest : List ℕ) (tree : Tree) → IsCommentAt text token → octets_at text token.span ≡ mark ∷ octets
     → ReadsBody (token.span.at + token.span.len) octets tree rest → HasComment text token tree
 comment_found text token mark octets rest tree c e r =
-    let inside = behind_open text token mark octets c e in
+    let inside = after_open text token mark octets c e in
     let same = body_once r.body c.body rest [] r.is_body c.is_body (sym r.whole ∙ inside) in
     let size = token_size text token mark octets c e in
     let at : token.span.at + token.span.len - length octets ≡ token.span.at + 1 = omega (arith, size) in

@@ -14,7 +14,7 @@ use Rattle.encoded_words.proofs.CommentLemmas.{HasCommentUnits-once}
 use Rattle.encoded_words.proofs.WritableUnits.{HasCommentUnits-writable}
 use Rattle.field_tokens.specs.Trees.{spelling, Body, Last, Before, body_octets, IsCommentBody}
 use Rattle.field_tokens.specs.Comments.{IsComment, CommentValue, End, NestedThen, HasRunOf, TextSays, units_then, BodySays, comment_of, CommentSays, RunPieces, TextPieces, White, Run, WrappedPieces, BodyPieces, CommentPieces, CommentsSay, CommentsPieces, AreWritableComments}
-use Rattle.field_tokens.proofs.Texts.{HasRunOf-once, HasRunOf-black}
+use Rattle.field_tokens.proofs.Texts.{HasRunOf-once, HasRunOf-nonwhite}
 use Rattle.field_tokens.proofs.BodyLemmas.{body_once}
 use Rattle.field_tokens.proofs.Insides.{comment_within}
 use Rattle.field_tokens.proofs.Utf8Cuts.{body_utf8, run_of_utf8, inside_utf8}
@@ -22,8 +22,8 @@ use Rattle.field_tokens.proofs.Utf8Cuts.{body_utf8, run_of_utf8, inside_utf8}
 -- What is said is one.
 TextSays-once : (text : List TextItem) (r s : Option (List UnitValue)) → TextSays text r → TextSays text s → r ≡ s
 TextSays-once text None None p q = refl
-TextSays-once text None (Some us) p q = absurd (HasRunOf-black text q.0 q.1 p)
-TextSays-once text (Some us) None p q = absurd (HasRunOf-black text p.0 p.1 q)
+TextSays-once text None (Some us) p q = absurd (HasRunOf-nonwhite text q.0 q.1 p)
+TextSays-once text (Some us) None p q = absurd (HasRunOf-nonwhite text p.0 p.1 q)
 TextSays-once text (Some us) (Some vs) p q =
     let same : p.0 ≡ q.0 = (HasRunOf-once text p.0 q.0 p.1 q.1).1 in
     ap Some (HasCommentUnits-once (spelling q.0) us vs (subst (λ r. HasCommentUnits (spelling r) us) same p.2) q.2)
@@ -33,8 +33,8 @@ BodySays-once (Last text) v w p q = p.2 ∙ ap (λ us. units_then us End) (TextS
 BodySays-once (Before text inner more) v w p q =
     let units : p.0 ≡ q.0 = TextSays-once text p.0 q.0 p.3 q.3 in
     let nested : p.1 ≡ q.1 = BodySays-once inner p.1 q.1 p.4 q.4 in
-    let behind : p.2 ≡ q.2 = BodySays-once more p.2 q.2 p.5 q.5 in
-    p.6 ∙ ap (λ us. units_then us (NestedThen p.1 p.2)) units ∙ ap (λ n. units_then q.0 n) (rw (nested, behind) refl) ∙ sym q.6
+    let following : p.2 ≡ q.2 = BodySays-once more p.2 q.2 p.5 q.5 in
+    p.6 ∙ ap (λ us. units_then us (NestedThen p.1 p.2)) units ∙ ap (λ n. units_then q.0 n) (rw (nested, following) refl) ∙ sym q.6
 
 pub one_body : (octets : List ℕ) (a b : Body) → IsCommentBody a → IsCommentBody b → octets ≡ comment_of a → octets ≡ comment_of b → a ≡ b
 one_body octets a b p q e f =
@@ -62,8 +62,8 @@ RunPieces-once false octets ps qs p q =
 
 TextPieces-once : (text : List TextItem) (ps qs : List (List ℕ)) → TextPieces text ps → TextPieces text qs → ps ≡ qs
 TextPieces-once text ps qs (White blank none) (White other nothing) = none ∙ sym nothing
-TextPieces-once text ps qs (White blank none) (Run run h has) = absurd (HasRunOf-black text run h blank)
-TextPieces-once text ps qs (Run run h has) (White blank none) = absurd (HasRunOf-black text run h blank)
+TextPieces-once text ps qs (White blank none) (Run run h has) = absurd (HasRunOf-nonwhite text run h blank)
+TextPieces-once text ps qs (Run run h has) (White blank none) = absurd (HasRunOf-nonwhite text run h blank)
 TextPieces-once text ps qs (Run run h has) (Run other k given) =
     let same : run ≡ other = (HasRunOf-once text run other h k).1 in
     RunPieces-once (list_all is_ascii (spelling other)) (spelling other) ps qs (subst (λ r. RunPieces (list_all is_ascii (spelling r)) (spelling r) ps) same has) given
@@ -78,8 +78,8 @@ BodyPieces-once (Last text) ps qs p q = TextPieces-once text ps qs p q
 BodyPieces-once (Before text inner more) ps qs p q =
     let first : p.0 ≡ q.0 = TextPieces-once text p.0 q.0 p.3 q.3 in
     let nested : p.1 ≡ q.1 = WrappedPieces-once (list_all is_ascii (comment_of inner)) (comment_of inner) (BodyPieces inner) p.1 q.1 (λ xs ys a b. BodyPieces-once inner xs ys a b) p.4 q.4 in
-    let behind : p.2 ≡ q.2 = BodyPieces-once more p.2 q.2 p.5 q.5 in
-    p.6 ∙ rw (first, nested, behind) refl ∙ sym q.6
+    let following : p.2 ≡ q.2 = BodyPieces-once more p.2 q.2 p.5 q.5 in
+    p.6 ∙ rw (first, nested, following) refl ∙ sym q.6
 
 pub CommentPieces-once : (octets : List ℕ) (ps qs : List (List ℕ)) → CommentPieces octets ps → CommentPieces octets qs → ps ≡ qs
 CommentPieces-once octets ps qs p q =
@@ -109,16 +109,16 @@ white_more i text white (OneRun run h) = OneRun run (record {
   whole = ap (λ t. i ∷ t) h.whole;
 })
 
-black_more : (i : TextItem) (text : List TextItem) → is_white_item i ≡ false → RunIn text → RunIn (i ∷ text)
-black_more i text black (AllWhite blank) = OneRun (i ∷ []) (record {
+nonwhite_more : (i : TextItem) (text : List TextItem) → is_white_item i ≡ false → RunIn text → RunIn (i ∷ text)
+nonwhite_more i text nonwhite (AllWhite blank) = OneRun (i ∷ []) (record {
   lead = [];
   trail = text;
   lead_white = refl;
   trail_white = blank;
-  is_run = record { begins = (i, [], refl, black); ends = ([], i, refl, black) };
+  is_run = record { begins = (i, [], refl, nonwhite); ends = ([], i, refl, nonwhite) };
   whole = refl;
 })
-black_more i text black (OneRun run h) =
+nonwhite_more i text nonwhite (OneRun run h) =
     let e = h.is_run.ends in
     OneRun (i ∷ (h.lead ++ run)) (record {
       lead = [];
@@ -126,7 +126,7 @@ black_more i text black (OneRun run h) =
       lead_white = refl;
       trail_white = h.trail_white;
       is_run = record {
-        begins = (i, h.lead ++ run, refl, black);
+        begins = (i, h.lead ++ run, refl, nonwhite);
         ends = (i ∷ (h.lead ++ e.0), e.1, ap (λ r. i ∷ (h.lead ++ r)) e.2 ∙ ap (λ r. i ∷ r) (sym (append_assoc h.lead e.0 (e.1 ∷ []))), e.3);
       };
       whole = ap (λ t. i ∷ t) (h.whole ∙ sym (append_assoc h.lead run h.trail));
@@ -136,7 +136,7 @@ run_in : (text : List TextItem) → RunIn text
 run_in [] = AllWhite refl
 run_in (i ∷ text) = elim (cases_Bool (is_white_item i)) [
   | inl white ↦ white_more i text white (run_in text)
-  | inr black ↦ black_more i text black (run_in text)
+  | inr nonwhite ↦ nonwhite_more i text nonwhite (run_in text)
 ]
 
 -- A comment says something.
@@ -149,8 +149,8 @@ body_said (Last text) = let t = text_said text (run_in text) in (units_then t.0 
 body_said (Before text inner more) =
     let t = text_said text (run_in text) in
     let nested = body_said inner in
-    let behind = body_said more in
-    (units_then t.0 (NestedThen nested.0 behind.0), (t.0, nested.0, behind.0, t.1, nested.1, behind.1, refl))
+    let following = body_said more in
+    (units_then t.0 (NestedThen nested.0 following.0), (t.0, nested.0, following.0, t.1, nested.1, following.1, refl))
 
 pub CommentSays-some : (octets : List ℕ) → IsComment octets → (value : CommentValue) × CommentSays octets value
 CommentSays-some octets is =
@@ -189,8 +189,8 @@ body_pieces (Before text inner more) u =
     let parts = body_utf8 text inner more u in
     let first = text_pieces text parts.of_text (run_in text) in
     let nested = wrapped_pieces (list_all is_ascii (comment_of inner)) (comment_of inner) (BodyPieces inner) (body_pieces inner parts.of_inner) in
-    let behind = body_pieces more parts.of_more in
-    (first.0 ++ (nested.0 ++ behind.0), (first.0, nested.0, behind.0, first.1, nested.1, behind.1, refl))
+    let following = body_pieces more parts.of_more in
+    (first.0 ++ (nested.0 ++ following.0), (first.0, nested.0, following.0, first.1, nested.1, following.1, refl))
 
 pub CommentPieces-some : (octets : List ℕ) → IsComment octets → IsUtf8 octets → (pieces : List (List ℕ)) × CommentPieces octets pieces
 CommentPieces-some octets is u =

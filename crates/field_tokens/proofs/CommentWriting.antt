@@ -14,7 +14,7 @@ use Rattle.encoded_words.specs.Folding.{lines_of, AddsLines}
 use Rattle.encoded_words.specs.Written.{WritesCommentText}
 use Rattle.encoded_words.proofs.LineLemmas.{lines_of-append, adds_none, adds_these, adds_as}
 use Rattle.encoded_words.proofs.PlainItems.{plain_white}
-use Rattle.encoded_words.proofs.WritableUnits.{behind_ascii}
+use Rattle.encoded_words.proofs.WritableUnits.{following_ascii}
 use Rattle.field_tokens.specs.Trees.{spelling, Body, Last, Before, body_octets, IsCommentBody, IsRun}
 use Rattle.field_tokens.specs.private.Bodies.{SplitsRun, body_depth, HoldsBody}
 use Rattle.field_tokens.specs.Comments.{IsComment, comment_of, HasRunOf, RunPieces, White, Run, WrappedPieces, BodyPieces, CommentPieces}
@@ -23,7 +23,7 @@ use Rattle.field_tokens.proofs.Texts.{spelling-append, text_once, open_stops, cl
 use Rattle.field_tokens.proofs.BodyLemmas.{grouped, body_once}
 use Rattle.field_tokens.proofs.Runs.{lead_whole, run_some}
 use Rattle.field_tokens.proofs.Insides.{comment_within}
-use Rattle.field_tokens.proofs.Utf8Cuts.{behind_white, behind_text, before_white, comment_utf8, white_spelling}
+use Rattle.field_tokens.proofs.Utf8Cuts.{following_white, after_text, before_white, comment_utf8, white_spelling}
 
 -- ---- whether octets are ASCII
 
@@ -41,11 +41,11 @@ white_ascii white all = pass-weaker is_white is_ascii (λ x e. lt-ltb x 128 (whi
 -- white at the ends of a text
 within_white : (lead run trail : List TextItem) → list_all is_white_item lead ≡ true → list_all is_white_item trail ≡ true
     → list_all is_ascii (spelling (lead ++ (run ++ trail))) ≡ list_all is_ascii (spelling run)
-within_white lead run trail before behind =
+within_white lead run trail before following =
     let all : List TextItem → Bool = λ text. list_all is_ascii (spelling text) in
     let parts : (a b : List TextItem) → list_all is_ascii (spelling (a ++ b)) ≡ (list_all is_ascii (spelling a) && list_all is_ascii (spelling b))
     = λ a b. ap (list_all is_ascii) (spelling-append a b) ∙ list_all-append is_ascii (spelling a) (spelling b) in
-    parts lead (run ++ trail) ∙ ap (λ b. b && all (run ++ trail)) (white_ascii lead before) ∙ parts run trail ∙ ap (λ b. all run && b) (white_ascii trail behind) ∙ and_true (all run)
+    parts lead (run ++ trail) ∙ ap (λ b. b && all (run ++ trail)) (white_ascii lead before) ∙ parts run trail ∙ ap (λ b. all run && b) (white_ascii trail following) ∙ and_true (all run)
 
 -- what stands between the parentheses
 comment_ascii : (inside : List ℕ) → list_all is_ascii (40 ∷ (inside ++ 41 ∷ [])) ≡ list_all is_ascii inside
@@ -67,11 +67,11 @@ some_run : (run : List TextItem) (len : ℕ) → (run ≡ []) ⊎ IsRun run → 
 some_run run len (inl none) size some = absurd (some (size ∙ rw none refl))
 some_run run len (inr is) size some = is
 
-pub WritesText-none : (octets lead behind after : List ℕ) (len : ℕ) (made : List ℕ) → IsSpan is_white octets lead behind → SplitsRun behind len after → len ≡ 0 → WritesText octets true after made made
-WritesText-none octets lead behind after len made span split none = record {
+pub WritesText-none : (octets lead following after : List ℕ) (len : ℕ) (made : List ℕ) → IsSpan is_white octets lead following → SplitsRun following len after → len ≡ 0 → WritesText octets true after made made
+WritesText-none octets lead following after len made span split none = record {
   text = map Plain lead ++ (split.run ++ split.trail);
   are_text = AreText-append (map Plain lead) (split.run ++ split.trail) (AreText-white lead span.passes) split.are_text;
-  whole = lead_whole lead behind octets after (split.run ++ split.trail) span.whole split.whole;
+  whole = lead_whole lead following octets after (split.run ++ split.trail) span.whole split.whole;
   stops = split.stops;
   ascii_is = sym (white_ascii (map Plain lead ++ (split.run ++ split.trail)) blank);
   adds = adds_none made (White blank refl);
@@ -81,29 +81,29 @@ WritesText-none octets lead behind after len made span split none = record {
     blank = rw (no_run split.run len split.is_run split.len_is none, list_all-append is_white_item (map Plain lead) split.trail, plain_white lead span.passes) split.trail_white
 
 -- the octets of the run
-pub run_octets : (behind after : List ℕ) (len : ℕ) → (split : SplitsRun behind len after) → take len behind ≡ spelling split.run
-run_octets behind after len split =
-    let whole : behind ≡ spelling split.run ++ (spelling split.trail ++ after) = split.whole ∙ ap (λ r. r ++ after) (spelling-append split.run split.trail) ∙ append_assoc (spelling split.run) (spelling split.trail) after in
+pub run_octets : (following after : List ℕ) (len : ℕ) → (split : SplitsRun following len after) → take len following ≡ spelling split.run
+run_octets following after len split =
+    let whole : following ≡ spelling split.run ++ (spelling split.trail ++ after) = split.whole ∙ ap (λ r. r ++ after) (spelling-append split.run split.trail) ∙ append_assoc (spelling split.run) (spelling split.trail) after in
     ap (take len) whole ∙ take_at (spelling split.run) (spelling split.trail ++ after) len (sym split.len_is)
 
-pub run_within : (behind after : List ℕ) (len : ℕ) → SplitsRun behind len after → len ≤ length behind
-run_within behind after len split =
+pub run_within : (following after : List ℕ) (len : ℕ) → SplitsRun following len after → len ≤ length following
+run_within following after len split =
     omega (arith, ap length split.whole, length-append (spelling (split.run ++ split.trail)) after, ap length (spelling-append split.run split.trail), length-append (spelling split.run) (spelling split.trail), split.len_is)
 
-pub run_utf8 : (octets lead behind after run : List ℕ) (len : ℕ) → IsSpan is_white octets lead behind → SplitsRun behind len after → run ≡ take len behind → IsUtf8 octets → IsUtf8 run
-run_utf8 octets lead behind after run len span split run_is u =
-    rw (run_is, run_octets behind after len split) (before_white split.run split.trail behind after split.whole split.trail_white split.stops (behind_white lead behind span.passes (subst IsUtf8 span.whole u)))
+pub run_utf8 : (octets lead following after run : List ℕ) (len : ℕ) → IsSpan is_white octets lead following → SplitsRun following len after → run ≡ take len following → IsUtf8 octets → IsUtf8 run
+run_utf8 octets lead following after run len span split run_is u =
+    rw (run_is, run_octets following after len split) (before_white split.run split.trail following after split.whole split.trail_white split.stops (following_white lead following span.passes (subst IsUtf8 span.whole u)))
 
-pub WritesText-some : (octets lead behind after run : List ℕ) (len : ℕ) (ascii : Bool) (old new : List ℕ) → IsSpan is_white octets lead behind → SplitsRun behind len after → len ≢ 0 → run ≡ take len behind
+pub WritesText-some : (octets lead following after run : List ℕ) (len : ℕ) (ascii : Bool) (old new : List ℕ) → IsSpan is_white octets lead following → SplitsRun following len after → len ≢ 0 → run ≡ take len following
     → WritesRun run ascii old new → WritesText octets ascii after old new
-WritesText-some octets lead behind after run len ascii old new span split some run_is writes = record {
+WritesText-some octets lead following after run len ascii old new span split some run_is writes = record {
   text = map Plain lead ++ (split.run ++ split.trail);
   are_text = AreText-append (map Plain lead) (split.run ++ split.trail) (AreText-white lead span.passes) split.are_text;
-  whole = lead_whole lead behind octets after (split.run ++ split.trail) span.whole split.whole;
+  whole = lead_whole lead following octets after (split.run ++ split.trail) span.whole split.whole;
   stops = split.stops;
-  ascii_is = writes.ascii_is ∙ ap (list_all is_ascii) (run_is ∙ run_octets behind after len split)
+  ascii_is = writes.ascii_is ∙ ap (list_all is_ascii) (run_is ∙ run_octets following after len split)
       ∙ sym (within_white (map Plain lead) split.run split.trail (plain_white lead span.passes) split.trail_white);
-  adds = adds_as (λ pieces given. Run split.run has (subst (λ r. RunPieces (list_all is_ascii r) r pieces) (run_is ∙ run_octets behind after len split) given)) writes.adds;
+  adds = adds_as (λ pieces given. Run split.run has (subst (λ r. RunPieces (list_all is_ascii r) r pieces) (run_is ∙ run_octets following after len split) given)) writes.adds;
 }
   where
     has : HasRunOf (map Plain lead ++ (split.run ++ split.trail)) split.run
@@ -115,70 +115,70 @@ WritesText-some octets lead behind after run len ascii old new span split some r
 pub record OpensMore (levels : ℕ) (octets : List ℕ) : Type 0 where
   pub inner : Body
   pub more : Body
-  pub behind : List ℕ
+  pub following : List ℕ
   pub is_inner : IsCommentBody inner
   pub is_more : IsCommentBody more
   pub inner_shallow : body_depth inner + 1 < levels
   pub more_shallow : body_depth more < levels
-  pub whole : octets ≡ 40 ∷ (body_octets inner ++ 41 ∷ (body_octets more ++ 41 ∷ behind))
+  pub whole : octets ≡ 40 ∷ (body_octets inner ++ 41 ∷ (body_octets more ++ 41 ∷ following))
 
 pub data Follows (levels : ℕ) (after : List ℕ) : Type 0 where
-  Closes : (behind : List ℕ) → after ≡ 41 ∷ behind → Follows levels after
+  Closes : (following : List ℕ) → after ≡ 41 ∷ following → Follows levels after
   Opens : OpensMore levels after → Follows levels after
 
 pub follows : (levels : ℕ) (rest : List ℕ) (ascii : Bool) (after old new : List ℕ) → HoldsBody levels rest → WritesText rest ascii after old new → Follows levels after
 follows levels rest ascii after old new holds w = by holds.body holds.is_body holds.shallow holds.whole
   where
-    by : (body : Body) → IsCommentBody body → body_depth body < levels → rest ≡ body_octets body ++ 41 ∷ holds.behind → Follows levels after
-    by (Last text) is deep e = Closes holds.behind (text_once w.text text after (41 ∷ holds.behind) w.are_text is w.stops (close_stops holds.behind) (sym w.whole ∙ e)).1
+    by : (body : Body) → IsCommentBody body → body_depth body < levels → rest ≡ body_octets body ++ 41 ∷ holds.following → Follows levels after
+    by (Last text) is deep e = Closes holds.following (text_once w.text text after (41 ∷ holds.following) w.are_text is w.stops (close_stops holds.following) (sym w.whole ∙ e)).1
     by (Before text inner more) is deep e =
-        let behind : List ℕ = body_octets inner ++ 41 ∷ (body_octets more ++ 41 ∷ holds.behind) in
-        let whole : rest ≡ spelling text ++ 40 ∷ behind = e ∙ grouped (spelling text) (body_octets inner) (body_octets more) (41 ∷ holds.behind) in
+        let following : List ℕ = body_octets inner ++ 41 ∷ (body_octets more ++ 41 ∷ holds.following) in
+        let whole : rest ≡ spelling text ++ 40 ∷ following = e ∙ grouped (spelling text) (body_octets inner) (body_octets more) (41 ∷ holds.following) in
         Opens (record {
           inner = inner;
           more = more;
-          behind = holds.behind;
+          following = holds.following;
           is_inner = is.1;
           is_more = is.2;
           inner_shallow = omega arith;
           more_shallow = omega arith;
-          whole = (text_once w.text text after (40 ∷ behind) w.are_text is.0 w.stops (open_stops behind) (sym w.whole ∙ whole)).1;
+          whole = (text_once w.text text after (40 ∷ following) w.are_text is.0 w.stops (open_stops following) (sym w.whole ∙ whole)).1;
         })
 
 pub mark_some : (levels : ℕ) (after : List ℕ) → Follows levels after → 0 < length after
-mark_some levels after (Closes behind e) = omega (arith, ap length e)
+mark_some levels after (Closes following e) = omega (arith, ap length e)
 mark_some levels after (Opens o) = omega (arith, ap length o.whole)
 
 -- another mark than a closing parenthesis opens a comment
-pub opens_more : (levels mark : ℕ) (after behind : List ℕ) → Follows levels after → after ≡ mark ∷ behind → mark ≢ 41 → OpensMore levels after
-opens_more levels mark after behind (Closes rest e) is other = let whole : mark ∷ behind ≡ 41 ∷ rest = sym is ∙ e in absurd (other (cc whole))
-opens_more levels mark after behind (Opens o) is other = o
+pub opens_more : (levels mark : ℕ) (after following : List ℕ) → Follows levels after → after ≡ mark ∷ following → mark ≢ 41 → OpensMore levels after
+opens_more levels mark after following (Closes rest e) is other = let whole : mark ∷ following ≡ 41 ∷ rest = sym is ∙ e in absurd (other (cc whole))
+opens_more levels mark after following (Opens o) is other = o
 
 -- the comment that is opened
 pub OpensMore-begins : (levels : ℕ) (after : List ℕ) → OpensMore levels after → BeginsComment (levels - 1) after
 OpensMore-begins levels after o =
-    record { body = o.inner; behind = body_octets o.more ++ 41 ∷ o.behind; is_body = o.is_inner; shallow = omega (arith, o.inner_shallow); whole = o.whole }
+    record { body = o.inner; following = body_octets o.more ++ 41 ∷ o.following; is_body = o.is_inner; shallow = omega (arith, o.inner_shallow); whole = o.whole }
 
 pub OpensMore-some : (levels : ℕ) (after : List ℕ) → OpensMore levels after → 1 ≤ levels
 OpensMore-some levels after o = omega (arith, o.inner_shallow)
 
 -- a comment with what follows it
-behind_comment : (body : Body) (rest : List ℕ) → comment_of body ++ rest ≡ 40 ∷ (body_octets body ++ 41 ∷ rest)
-behind_comment body rest = ap (λ r. 40 ∷ r) (append_assoc (body_octets body) (41 ∷ []) rest)
+following_comment : (body : Body) (rest : List ℕ) → comment_of body ++ rest ≡ 40 ∷ (body_octets body ++ 41 ∷ rest)
+following_comment body rest = ap (λ r. 40 ∷ r) (append_assoc (body_octets body) (41 ∷ []) rest)
 
 -- what was written as a comment
 comment_is : (octets : List ℕ) (ascii : Bool) (rest old new : List ℕ) → (w : WritesComment octets ascii rest old new) → octets ≡ 40 ∷ (body_octets w.adds.holds.body ++ 41 ∷ rest)
-comment_is octets ascii rest old new w = w.whole ∙ ap (λ c. c ++ rest) w.adds.holds.spelled ∙ behind_comment w.adds.holds.body rest
+comment_is octets ascii rest old new w = w.whole ∙ ap (λ c. c ++ rest) w.adds.holds.spelled ∙ following_comment w.adds.holds.body rest
 
 -- what is left behind the comment
-left_behind : (levels : ℕ) (after : List ℕ) (ascii : Bool) (next old new : List ℕ) → OpensMore levels after → WritesComment after ascii next old new → HoldsBody levels next
-left_behind levels after ascii next old new o w =
-    let whole : 40 ∷ (body_octets w.adds.holds.body ++ 41 ∷ next) ≡ 40 ∷ (body_octets o.inner ++ 41 ∷ (body_octets o.more ++ 41 ∷ o.behind)) = sym (comment_is after ascii next old new w) ∙ o.whole in
-    let same = body_once w.adds.holds.body o.inner next (body_octets o.more ++ 41 ∷ o.behind) w.adds.holds.is_body o.is_inner (cc whole) in
-    record { body = o.more; behind = o.behind; is_body = o.is_more; shallow = o.more_shallow; whole = same.1 }
+left_following : (levels : ℕ) (after : List ℕ) (ascii : Bool) (next old new : List ℕ) → OpensMore levels after → WritesComment after ascii next old new → HoldsBody levels next
+left_following levels after ascii next old new o w =
+    let whole : 40 ∷ (body_octets w.adds.holds.body ++ 41 ∷ next) ≡ 40 ∷ (body_octets o.inner ++ 41 ∷ (body_octets o.more ++ 41 ∷ o.following)) = sym (comment_is after ascii next old new w) ∙ o.whole in
+    let same = body_once w.adds.holds.body o.inner next (body_octets o.more ++ 41 ∷ o.following) w.adds.holds.is_body o.is_inner (cc whole) in
+    record { body = o.more; following = o.following; is_body = o.is_more; shallow = o.more_shallow; whole = same.1 }
 
 pub after_utf8 : (rest : List ℕ) (ascii : Bool) (after old new : List ℕ) → IsUtf8 rest → WritesText rest ascii after old new → IsUtf8 after
-after_utf8 rest ascii after old new u w = behind_text w.text rest after w.whole w.stops u
+after_utf8 rest ascii after old new u w = after_text w.text rest after w.whole w.stops u
 
 next_utf8 : (after : List ℕ) (ascii : Bool) (next old new : List ℕ) → IsUtf8 after → WritesComment after ascii next old new → IsUtf8 next
 next_utf8 after ascii next old new u w = (comment_utf8 w.adds.holds.body next (subst IsUtf8 (w.whole ∙ ap (λ c. c ++ next) w.adds.holds.spelled) u)).rest
@@ -186,10 +186,10 @@ next_utf8 after ascii next old new u w = (comment_utf8 w.adds.holds.body next (s
 -- ---- from text to comment
 
 -- the octets are a body with these pieces, a closing parenthesis and what follows it
-pub record HasPieces (octets : List ℕ) (pieces : List (List ℕ)) (behind : List ℕ) : Type 0 where
+pub record HasPieces (octets : List ℕ) (pieces : List (List ℕ)) (following : List ℕ) : Type 0 where
   pub body : Body
   pub is_body : IsCommentBody body
-  pub whole : octets ≡ body_octets body ++ 41 ∷ behind
+  pub whole : octets ≡ body_octets body ++ 41 ∷ following
   pub pieces_are : BodyPieces body pieces
 
 -- The pieces put so far stand before those of any body of the rest, and this tells whether what was passed is ASCII.
@@ -201,25 +201,25 @@ pub record WritesOn (levels : ℕ) (inside rest : List ℕ) (ascii : Bool) (old 
   pub ascii_is : ascii ≡ list_all is_ascii front
   pub made : List (List ℕ)
   pub added : new ≡ old ++ lines_of made
-  pub onward : (body : Body) (more : List (List ℕ)) (behind : List ℕ) → IsCommentBody body → rest ≡ body_octets body ++ 41 ∷ behind → BodyPieces body more → HasPieces inside (made ++ more) behind
+  pub onward : (body : Body) (more : List (List ℕ)) (following : List ℕ) → IsCommentBody body → rest ≡ body_octets body ++ 41 ∷ following → BodyPieces body more → HasPieces inside (made ++ more) following
 
 pub comment_there : (levels : ℕ) (octets : List ℕ) → BeginsComment levels octets → 0 < length octets
 comment_there levels octets b = omega (arith, ap length b.whole)
 
 pub WritesOn-none : (levels mark : ℕ) (octets inside made : List ℕ) → BeginsComment levels octets → IsUtf8 octets → octets ≡ mark ∷ inside → WritesOn levels inside inside true made made
 WritesOn-none levels mark octets inside made b u e =
-    let whole : mark ∷ inside ≡ 40 ∷ (body_octets b.body ++ 41 ∷ b.behind) = sym e ∙ b.whole in
+    let whole : mark ∷ inside ≡ 40 ∷ (body_octets b.body ++ 41 ∷ b.following) = sym e ∙ b.whole in
     let opened : mark ≡ 40 = cc whole in
-    let inside_is : inside ≡ body_octets b.body ++ 41 ∷ b.behind = cc whole in
+    let inside_is : inside ≡ body_octets b.body ++ 41 ∷ b.following = cc whole in
     record {
-      holds = record { body = b.body; behind = b.behind; is_body = b.is_body; shallow = b.shallow; whole = inside_is };
-      utf8 = behind_ascii mark inside (omega (arith, opened)) (subst IsUtf8 e u);
+      holds = record { body = b.body; following = b.following; is_body = b.is_body; shallow = b.shallow; whole = inside_is };
+      utf8 = following_ascii mark inside (omega (arith, opened)) (subst IsUtf8 e u);
       front = [];
       passed = refl;
       ascii_is = refl;
       made = [];
       added = sym (append-nil made);
-      onward = λ body more behind is_body whole has. record { body = body; is_body = is_body; whole = whole; pieces_are = has };
+      onward = λ body more following is_body whole has. record { body = body; is_body = is_body; whole = whole; pieces_are = has };
     }
 
 -- lines behind lines
@@ -239,75 +239,75 @@ WritesOn-turn levels inside rest after next ascii ascii_text ascii_nested old ne
     let one = passed_more inside on.front rest (spelling w.text) after ascii ascii_text on.passed w.whole on.ascii_is w.ascii_is in
     let two = passed_more inside (on.front ++ spelling w.text) after c.comment next (ascii && ascii_text) ascii_nested one.0 c.whole one.1 c.ascii_is in
     record {
-      holds = left_behind levels after ascii_nested next mid last o c;
+      holds = left_following levels after ascii_nested next mid last o c;
       utf8 = next_utf8 after ascii_nested next mid last (after_utf8 rest ascii_text after new mid on.utf8 w) c;
       front = (on.front ++ spelling w.text) ++ c.comment;
       passed = two.0;
       ascii_is = two.1;
       made = (on.made ++ w.adds.pieces) ++ c.adds.pieces;
       added = put_more old mid last (on.made ++ w.adds.pieces) c.adds.pieces (put_more old new mid on.made w.adds.pieces on.added w.adds.added) c.adds.added;
-      onward = λ body more behind is e has.
+      onward = λ body more following is e has.
           let wrapped : WrappedPieces (list_all is_ascii (comment_of p.body)) (comment_of p.body) (BodyPieces p.body) c.adds.pieces = subst (λ x. WrappedPieces (list_all is_ascii x) x (BodyPieces p.body) c.adds.pieces) p.spelled p.pieces_are in
-          let after_is : after ≡ 40 ∷ (body_octets p.body ++ 41 ∷ (body_octets body ++ 41 ∷ behind))
+          let after_is : after ≡ 40 ∷ (body_octets p.body ++ 41 ∷ (body_octets body ++ 41 ∷ following))
           = comment_is after ascii_nested next mid last c ∙ ap (λ r. 40 ∷ (body_octets p.body ++ 41 ∷ r)) e in
-          let whole : rest ≡ body_octets (Before w.text p.body body) ++ 41 ∷ behind
-          = w.whole ∙ ap (λ r. spelling w.text ++ r) after_is ∙ sym (grouped (spelling w.text) (body_octets p.body) (body_octets body) (41 ∷ behind)) in
-          let h = on.onward (Before w.text p.body body) (w.adds.pieces ++ (c.adds.pieces ++ more)) behind (w.are_text, p.is_body, is) whole (w.adds.pieces, c.adds.pieces, more, w.adds.holds, wrapped, has, refl) in
+          let whole : rest ≡ body_octets (Before w.text p.body body) ++ 41 ∷ following
+          = w.whole ∙ ap (λ r. spelling w.text ++ r) after_is ∙ sym (grouped (spelling w.text) (body_octets p.body) (body_octets body) (41 ∷ following)) in
+          let h = on.onward (Before w.text p.body body) (w.adds.pieces ++ (c.adds.pieces ++ more)) following (w.are_text, p.is_body, is) whole (w.adds.pieces, c.adds.pieces, more, w.adds.holds, wrapped, has, refl) in
           let same : on.made ++ (w.adds.pieces ++ (c.adds.pieces ++ more)) ≡ ((on.made ++ w.adds.pieces) ++ c.adds.pieces) ++ more
           = sym (append_assoc on.made w.adds.pieces (c.adds.pieces ++ more)) ∙ sym (append_assoc (on.made ++ w.adds.pieces) c.adds.pieces more) in
-          subst (λ r. HasPieces inside r behind) same h;
+          subst (λ r. HasPieces inside r following) same h;
     }
 
 -- the octets of a comment that ends here
-pub ends_so : (octets inside after behind comment : List ℕ) (mark : ℕ) (text : List TextItem) (front rest : List ℕ) → octets ≡ mark ∷ inside → inside ≡ front ++ rest → rest ≡ spelling text ++ after → after ≡ 41 ∷ behind
-    → comment ≡ take (length octets - length behind) octets → comment ≡ mark ∷ ((front ++ spelling text) ++ 41 ∷ [])
-ends_so octets inside after behind comment mark text front rest e f g h cut =
+pub ends_so : (octets inside after following comment : List ℕ) (mark : ℕ) (text : List TextItem) (front rest : List ℕ) → octets ≡ mark ∷ inside → inside ≡ front ++ rest → rest ≡ spelling text ++ after → after ≡ 41 ∷ following
+    → comment ≡ take (length octets - length following) octets → comment ≡ mark ∷ ((front ++ spelling text) ++ 41 ∷ [])
+ends_so octets inside after following comment mark text front rest e f g h cut =
     let all : List ℕ = mark ∷ ((front ++ spelling text) ++ 41 ∷ []) in
-    let whole : octets ≡ all ++ behind
-    = e ∙ ap (λ r. mark ∷ r) (f ∙ ap (λ r. front ++ r) (g ∙ ap (λ r. spelling text ++ r) h) ∙ sym (append_assoc front (spelling text) (41 ∷ behind)) ∙ sym (append_assoc (front ++ spelling text) (41 ∷ []) behind)) in
-    let size : length all ≡ length octets - length behind = omega (arith, ap length whole, length-append all behind) in
-    cut ∙ ap (take (length octets - length behind)) whole ∙ take_at all behind (length octets - length behind) size
+    let whole : octets ≡ all ++ following
+    = e ∙ ap (λ r. mark ∷ r) (f ∙ ap (λ r. front ++ r) (g ∙ ap (λ r. spelling text ++ r) h) ∙ sym (append_assoc front (spelling text) (41 ∷ following)) ∙ sym (append_assoc (front ++ spelling text) (41 ∷ []) following)) in
+    let size : length all ≡ length octets - length following = omega (arith, ap length whole, length-append all following) in
+    cut ∙ ap (take (length octets - length following)) whole ∙ take_at all following (length octets - length following) size
 
 -- the closing parenthesis ends the comment
-pub WritesComment-end : (levels mark : ℕ) (octets inside rest after behind comment : List ℕ) (close start_len : ℕ) (ascii ascii_text : Bool) (start old new mid last : List ℕ) → BeginsComment levels octets
-    → octets ≡ mark ∷ inside → old ≡ start ++ lines_of ((40 ∷ []) ∷ []) → start_len ≡ length start → WritesOn levels inside rest ascii old new → WritesText rest ascii_text after new mid → after ≡ close ∷ behind → close ≡ 41
-    → comment ≡ take (length octets - length behind) octets
-    → last ≡ (if ascii && ascii_text then take start_len mid ++ lines_of (comment ∷ []) else mid ++ lines_of ((41 ∷ []) ∷ [])) → WritesComment octets (ascii && ascii_text) behind start last
-WritesComment-end levels mark octets inside rest after behind comment close start_len ascii ascii_text start old new mid last b e opened len_is on w close_is closes cut put = record {
+pub WritesComment-end : (levels mark : ℕ) (octets inside rest after following comment : List ℕ) (close start_len : ℕ) (ascii ascii_text : Bool) (start old new mid last : List ℕ) → BeginsComment levels octets
+    → octets ≡ mark ∷ inside → old ≡ start ++ lines_of ((40 ∷ []) ∷ []) → start_len ≡ length start → WritesOn levels inside rest ascii old new → WritesText rest ascii_text after new mid → after ≡ close ∷ following → close ≡ 41
+    → comment ≡ take (length octets - length following) octets
+    → last ≡ (if ascii && ascii_text then take start_len mid ++ lines_of (comment ∷ []) else mid ++ lines_of ((41 ∷ []) ∷ [])) → WritesComment octets (ascii && ascii_text) following start last
+WritesComment-end levels mark octets inside rest after following comment close start_len ascii ascii_text start old new mid last b e opened len_is on w close_is closes cut put = record {
   comment = comment;
   whole = by_parts;
   ascii_is = ascii_comment;
   adds = of_kind (ascii && ascii_text) refl;
 }
   where
-    after_is : after ≡ 41 ∷ behind
-    after_is = close_is ∙ ap (λ r. r ∷ behind) closes
+    after_is : after ≡ 41 ∷ following
+    after_is = close_is ∙ ap (λ r. r ∷ following) closes
 
     mark_is : mark ≡ 40
-    mark_is = let whole : mark ∷ inside ≡ 40 ∷ (body_octets b.body ++ 41 ∷ b.behind) = sym e ∙ b.whole in cc whole
+    mark_is = let whole : mark ∷ inside ≡ 40 ∷ (body_octets b.body ++ 41 ∷ b.following) = sym e ∙ b.whole in cc whole
 
     inner : List ℕ
     inner = on.front ++ spelling w.text
 
     comment_octets : comment ≡ 40 ∷ (inner ++ 41 ∷ [])
-    comment_octets = ends_so octets inside after behind comment mark w.text on.front rest e on.passed w.whole after_is cut ∙ ap (λ m. m ∷ (inner ++ 41 ∷ [])) mark_is
+    comment_octets = ends_so octets inside after following comment mark w.text on.front rest e on.passed w.whole after_is cut ∙ ap (λ m. m ∷ (inner ++ 41 ∷ [])) mark_is
 
     passed : (inside ≡ inner ++ after) × ((ascii && ascii_text) ≡ list_all is_ascii inner)
     passed = passed_more inside on.front rest (spelling w.text) after ascii ascii_text on.passed w.whole on.ascii_is w.ascii_is
 
-    by_parts : octets ≡ comment ++ behind
-    by_parts = e ∙ ap (λ m. m ∷ inside) mark_is ∙ ap (λ r. 40 ∷ r) (passed.0 ∙ ap (λ r. inner ++ r) after_is ∙ sym (append_assoc inner (41 ∷ []) behind)) ∙ ap (λ r. r ++ behind) (sym comment_octets)
+    by_parts : octets ≡ comment ++ following
+    by_parts = e ∙ ap (λ m. m ∷ inside) mark_is ∙ ap (λ r. 40 ∷ r) (passed.0 ∙ ap (λ r. inner ++ r) after_is ∙ sym (append_assoc inner (41 ∷ []) following)) ∙ ap (λ r. r ++ following) (sym comment_octets)
 
     ascii_comment : (ascii && ascii_text) ≡ list_all is_ascii comment
     ascii_comment = passed.1 ∙ sym (ap (list_all is_ascii) comment_octets ∙ comment_ascii inner)
 
-    has : HasPieces inside (on.made ++ w.adds.pieces) behind
-    has = on.onward (Last w.text) w.adds.pieces behind w.are_text (w.whole ∙ ap (λ r. spelling w.text ++ r) after_is) w.adds.holds
+    has : HasPieces inside (on.made ++ w.adds.pieces) following
+    has = on.onward (Last w.text) w.adds.pieces following w.are_text (w.whole ∙ ap (λ r. spelling w.text ++ r) after_is) w.adds.holds
 
     spelled : comment ≡ comment_of has.body
     spelled =
-        let whole : inner ++ 41 ∷ behind ≡ body_octets has.body ++ 41 ∷ behind = ap (λ r. inner ++ r) (sym after_is) ∙ sym passed.0 ∙ has.whole in
-        comment_octets ∙ ap (λ r. 40 ∷ (r ++ 41 ∷ [])) (append_cancel_right inner (body_octets has.body) (41 ∷ behind) whole)
+        let whole : inner ++ 41 ∷ following ≡ body_octets has.body ++ 41 ∷ following = ap (λ r. inner ++ r) (sym after_is) ∙ sym passed.0 ∙ has.whole in
+        comment_octets ∙ ap (λ r. 40 ∷ (r ++ 41 ∷ [])) (append_cancel_right inner (body_octets has.body) (41 ∷ following) whole)
 
     mid_is : mid ≡ start ++ lines_of ((40 ∷ []) ∷ (on.made ++ w.adds.pieces))
     mid_is = put_more start old mid ((40 ∷ []) ∷ []) (on.made ++ w.adds.pieces) opened (put_more old new mid on.made w.adds.pieces on.added w.adds.added)
@@ -328,7 +328,7 @@ WritesComment-end levels mark octets inside rest after behind comment close star
 pub comment_begins : (octets : List ℕ) → IsComment octets → BeginsComment 64 octets
 comment_begins octets is =
     let c = comment_within octets is in
-    record { body = c.body; behind = []; is_body = c.is_body; shallow = c.shallow; whole = c.spelled }
+    record { body = c.body; following = []; is_body = c.is_body; shallow = c.shallow; whole = c.spelled }
 
 -- an ASCII comment is one piece
 pub comment_kept : (comment old new : List ℕ) → IsComment comment → list_all is_ascii comment ≡ true → new ≡ old ++ lines_of (comment ∷ []) → AddsLines (CommentPieces comment) old new

@@ -15,31 +15,31 @@ pub record CommentsLeft (all rest : List TokenValue) (old made : List ℕ) : Typ
 pub CommentsLeft-all : (all : List TokenValue) (old : List ℕ) → AreWritableComments (comments_of all) → CommentsLeft all all old old
 CommentsLeft-all all old can = record { can = can; onward = λ new adds. adds }
 
-first_comment : (rest behind : List TokenValue) (token : TokenValue) → rest ≡ token ∷ behind → is_comment token.kind ≡ true → comments_of rest ≡ token.octets ∷ comments_of behind
-first_comment rest behind token cut is = ap comments_of cut ∙ rw is refl
+first_comment : (rest following : List TokenValue) (token : TokenValue) → rest ≡ token ∷ following → is_comment token.kind ≡ true → comments_of rest ≡ token.octets ∷ comments_of following
+first_comment rest following token cut is = ap comments_of cut ∙ rw is refl
 
-other_first : (rest behind : List TokenValue) (token : TokenValue) → rest ≡ token ∷ behind → is_comment token.kind ≡ false → comments_of rest ≡ comments_of behind
-other_first rest behind token cut other = ap comments_of cut ∙ rw other refl
+other_first : (rest following : List TokenValue) (token : TokenValue) → rest ≡ token ∷ following → is_comment token.kind ≡ false → comments_of rest ≡ comments_of following
+other_first rest following token cut other = ap comments_of cut ∙ rw other refl
 
-pub comment_next : (all rest behind : List TokenValue) (token : TokenValue) (old made : List ℕ) → CommentsLeft all rest old made → rest ≡ token ∷ behind → is_comment token.kind ≡ true
+pub comment_next : (all rest following : List TokenValue) (token : TokenValue) (old made : List ℕ) → CommentsLeft all rest old made → rest ≡ token ∷ following → is_comment token.kind ≡ true
     → IsComment token.octets × IsUtf8 token.octets
-comment_next all rest behind token old made left cut is = let can = subst AreWritableComments (first_comment rest behind token cut is) left.can in (can.0, can.1)
+comment_next all rest following token old made left cut is = let can = subst AreWritableComments (first_comment rest following token cut is) left.can in (can.0, can.1)
 
-pub CommentsLeft-put : (all rest behind : List TokenValue) (token : TokenValue) (old made put : List ℕ) → CommentsLeft all rest old made → rest ≡ token ∷ behind → is_comment token.kind ≡ true
-    → AddsLines (CommentPieces token.octets) made put → CommentsLeft all behind old put
-CommentsLeft-put all rest behind token old made put left cut is adds =
-    let first = first_comment rest behind token cut is in
+pub CommentsLeft-put : (all rest following : List TokenValue) (token : TokenValue) (old made put : List ℕ) → CommentsLeft all rest old made → rest ≡ token ∷ following → is_comment token.kind ≡ true
+    → AddsLines (CommentPieces token.octets) made put → CommentsLeft all following old put
+CommentsLeft-put all rest following token old made put left cut is adds =
+    let first = first_comment rest following token cut is in
     record {
       can = (subst AreWritableComments first left.can).2;
       onward = λ new more.
-          let both : AddsLines (CommentsPieces (token.octets ∷ comments_of behind)) made new = adds_both (λ xs ys p q. (xs, ys, refl, p, q)) adds more in
+          let both : AddsLines (CommentsPieces (token.octets ∷ comments_of following)) made new = adds_both (λ xs ys p q. (xs, ys, refl, p, q)) adds more in
           left.onward new (subst (λ comments. AddsLines (CommentsPieces comments) made new) (sym first) both);
     }
 
-pub CommentsLeft-other : (all rest behind : List TokenValue) (token : TokenValue) (old made : List ℕ) → CommentsLeft all rest old made → rest ≡ token ∷ behind → is_comment token.kind ≡ false
-    → CommentsLeft all behind old made
-CommentsLeft-other all rest behind token old made left cut other =
-    let same = other_first rest behind token cut other in
+pub CommentsLeft-other : (all rest following : List TokenValue) (token : TokenValue) (old made : List ℕ) → CommentsLeft all rest old made → rest ≡ token ∷ following → is_comment token.kind ≡ false
+    → CommentsLeft all following old made
+CommentsLeft-other all rest following token old made left cut other =
+    let same = other_first rest following token cut other in
     record { can = subst AreWritableComments same left.can; onward = λ new more. left.onward new (subst (λ comments. AddsLines (CommentsPieces comments) made new) (sym same) more) }
 
 pub CommentsLeft-end : (all rest : List TokenValue) (old made : List ℕ) → CommentsLeft all rest old made → rest ≡ [] → AddsLines (CommentsPieces (comments_of all)) old made

@@ -151,15 +151,15 @@ abbrev pub Tokenized : Style → List ℕ → Type 0
 Tokenized style text = ((values : List TokenValue) × AreTokens style values text) ⊎ ((values : List TokenValue) → ¬ AreTokens style values text)
 
 -- what follows the first token decides
-behind_first : (style : Style) (text : List ℕ) (kind : TokenKind) (rest : List ℕ) → 0 < length text → BeginsToken style kind text rest → Tokenized style rest → Tokenized style text
-behind_first style text kind rest some b (inl found) = inl (record { kind = kind; octets = b.octets } ∷ found.0, (rest, b.whole, b.is_token, found.1))
-behind_first style text kind rest some b (inr none) = inr (λ values are. let u = (ReadsTokens-push style kind text text rest [] (ReadsTokens-none style text) some b).back values are in none u.0 u.1)
+after_first : (style : Style) (text : List ℕ) (kind : TokenKind) (rest : List ℕ) → 0 < length text → BeginsToken style kind text rest → Tokenized style rest → Tokenized style text
+after_first style text kind rest some b (inl found) = inl (record { kind = kind; octets = b.octets } ∷ found.0, (rest, b.whole, b.is_token, found.1))
+after_first style text kind rest some b (inr none) = inr (λ values are. let u = (ReadsTokens-push style kind text text rest [] (ReadsTokens-none style text) some b).back values are in none u.0 u.1)
 
 tokens_by : (fuel : ℕ) (style : Style) (text : List ℕ) → length text ≤ fuel → Tokenized style text
 tokens_by fuel style [] enough = inl ([], refl)
 tokens_by zero style (b ∷ after) enough = absurd (omega arith)
 tokens_by (suc fuel) style (b ∷ after) enough = elim (first_by style b after) [
-  | inl first ↦ behind_first style (b ∷ after) first.0 first.1 (omega arith) first.2 (tokens_by fuel style first.1 (omega (arith, enough, token_some style first.0 (b ∷ after) first.1 first.2)))
+  | inl first ↦ after_first style (b ∷ after) first.0 first.1 (omega arith) first.2 (tokens_by fuel style first.1 (omega (arith, enough, token_some style first.0 (b ∷ after) first.1 first.2)))
   | inr none ↦ inr (no_tokens style (b ∷ after) (b ∷ after) [] (ReadsTokens-none style (b ∷ after)) (omega arith) none)
 ]
 

@@ -46,11 +46,11 @@ Step-inside m d (Pair b more) after marks is deep =
     Step-more m (suc d) (suc d) d _ _ _ (Step-pair m d b (inside_octets m more ++ m.close_mark ∷ after) marks is.0) (Step-inside m d more after marks is.1 deep)
 Step-inside m d (Nested x more) after marks is deep =
     let other : m.open_mark ≢ m.close_mark = λ e. let one : m.limit ≡ 1 = marks.differ e in omega arith in
-    let behind : List ℕ = inside_octets m more ++ m.close_mark ∷ after in
-    let first = Step-open m d (inside_octets m x ++ m.close_mark ∷ behind) marks other in
-    let second = Step-inside m (suc d) x behind marks is.0 (omega arith) in
+    let following : List ℕ = inside_octets m more ++ m.close_mark ∷ after in
+    let first = Step-open m d (inside_octets m x ++ m.close_mark ∷ following) marks other in
+    let second = Step-inside m (suc d) x following marks is.0 (omega arith) in
     let third = Step-inside m d more after marks is.1 (omega arith) in
-    let grouped : inside_octets m (Nested x more) ++ m.close_mark ∷ after ≡ m.open_mark ∷ (inside_octets m x ++ m.close_mark ∷ behind)
+    let grouped : inside_octets m (Nested x more) ++ m.close_mark ∷ after ≡ m.open_mark ∷ (inside_octets m x ++ m.close_mark ∷ following)
     = ap (λ r. m.open_mark ∷ r) (append_assoc (inside_octets m x) (m.close_mark ∷ inside_octets m more) (m.close_mark ∷ after)) in
     rw grouped (Step-more m (suc d) (suc (suc d)) d _ _ _ first (Step-more m (suc (suc d)) (suc d) d _ _ _ second third))
 

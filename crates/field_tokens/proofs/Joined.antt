@@ -16,8 +16,8 @@ join_from style text front rest (t ∷ ts) e are =
     let onward : text ≡ (front ++ t.octets) ++ are.0 = e ∙ ap (λ r. front ++ r) are.1 ∙ sym (append_assoc front t.octets are.0) in
     let more = join_from style text (front ++ t.octets) are.0 ts onward are.3 in
     let place : length (front ++ t.octets) ≡ length front + length t.octets = length-append front t.octets in
-    let behind : drop (length front) text ≡ rest = ap (drop (length front)) e ∙ drop_at front rest (length front) refl in
-    let head : octets_at text (token_at (length front) t).span ≡ t.octets = rw (behind) (ap (take (length t.octets)) are.1 ∙ take_at t.octets are.0 (length t.octets) refl) in
+    let following : drop (length front) text ≡ rest = ap (drop (length front)) e ∙ drop_at front rest (length front) refl in
+    let head : octets_at text (token_at (length front) t).span ≡ t.octets = rw (following) (ap (take (length t.octets)) are.1 ∙ take_at t.octets are.0 (length t.octets) refl) in
     rw (head) (ap (λ r. t.octets ++ r) (rw (place) at more) ∙ sym are.1)
 
 pub HasTokens-join : (style : Style) (text : List ℕ) (tokens : List Token) → HasTokens style text tokens → flat_map (λ token. octets_at text token.span) tokens ≡ text

@@ -96,10 +96,10 @@ Step-open m d after marks other = record {
     back (Plain x more) ys xs z same is deep e l = let h : m.open_mark ∷ after ≡ x ∷ ((inside_octets m more ++ m.close_mark ∷ ys) ++ z) = rw e at same in absurd (is.0 (sym (cc h)))
     back (Pair x more) ys xs z same is deep e l = let h : m.open_mark ∷ after ≡ 92 ∷ x ∷ ((inside_octets m more ++ m.close_mark ∷ ys) ++ z) = rw e at same in absurd (marks.open_is (cc h))
     back (Nested x more) ys xs z same is deep e l =
-        let behind : List ℕ = inside_octets m x ++ m.close_mark ∷ (inside_octets m more ++ m.close_mark ∷ ys) in
-        let grouped : xs ≡ m.open_mark ∷ behind = e ∙ ap (λ r. m.open_mark ∷ r) (append_assoc (inside_octets m x) (m.close_mark ∷ inside_octets m more) (m.close_mark ∷ ys)) in
-        let h : m.open_mark ∷ after ≡ m.open_mark ∷ (behind ++ z) = rw grouped at same in
-        (behind, cc h, (x, inside_octets m more ++ m.close_mark ∷ ys, is.0, omega arith, refl, (more, ys, is.1, omega arith, refl, l)), grouped)
+        let following : List ℕ = inside_octets m x ++ m.close_mark ∷ (inside_octets m more ++ m.close_mark ∷ ys) in
+        let grouped : xs ≡ m.open_mark ∷ following = e ∙ ap (λ r. m.open_mark ∷ r) (append_assoc (inside_octets m x) (m.close_mark ∷ inside_octets m more) (m.close_mark ∷ ys)) in
+        let h : m.open_mark ∷ after ≡ m.open_mark ∷ (following ++ z) = rw grouped at same in
+        (following, cc h, (x, inside_octets m more ++ m.close_mark ∷ ys, is.0, omega arith, refl, (more, ys, is.1, omega arith, refl, l)), grouped)
 
 -- where as many are open as may be, an open mark leads nowhere
 pub NeverCloses-deep : (m : Marks) (d : ℕ) (after : List ℕ) → AreMarks m → m.open_mark ≢ m.close_mark → m.limit ≤ suc d → NeverCloses m (suc d) (m.open_mark ∷ after)

@@ -69,8 +69,8 @@ run_holds : (q : ℕ → Bool) → HoldsInPlain q → (b : Bool) (text run : Lis
     → list_all is_ascii (spelling run) ≡ b → RunPieces b (spelling run) pieces → AllByRecursion (HoldsPiece q) pieces
 run_holds q in_plain true text run pieces are u all h ascii has =
     let whole : spelling text ≡ spelling h.lead ++ (spelling run ++ spelling h.trail) = ap spelling h.whole ∙ spelling-append h.lead (run ++ h.trail) ∙ ap (λ r. spelling h.lead ++ r) (spelling-append run h.trail) in
-    let behind = pass-parts q (spelling h.lead) (spelling run ++ spelling h.trail) (subst (λ t. list_all q t ≡ true) whole all) in
-    rw has (record { some = run_some run h.is_run; ascii = ascii; holds = (pass-parts q (spelling run) (spelling h.trail) behind.1).0 }, tt)
+    let following = pass-parts q (spelling h.lead) (spelling run ++ spelling h.trail) (subst (λ t. list_all q t ≡ true) whole all) in
+    rw has (record { some = run_some run h.is_run; ascii = ascii; holds = (pass-parts q (spelling run) (spelling h.trail) following.1).0 }, tt)
 run_holds q in_plain false text run pieces are u all h other has =
     plain_hold q in_plain pieces (run_plain run has.0 pieces (run_text text run h are) (run_of_utf8 text run h u) has.1 has.2)
 

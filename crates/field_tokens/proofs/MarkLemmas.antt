@@ -10,17 +10,17 @@ use Rattle.field_tokens.specs.Lexemes.{marked_kind, marked_len, lexemes_in}
 use Rattle.field_tokens.proofs.TokenLists.{ReadsTokens, ReadsTokens-none, ReadsTokens-push, no_tokens, all_tokens, token_some}
 
 -- what stands behind the tokens of marks
-abbrev pub behind_marks : List ℕ → List Mark → List ℕ
-behind_marks text [] = text
-behind_marks text (m ∷ ms) = behind_marks (drop (marked_len m) text) ms
+abbrev pub after_marks : List ℕ → List Mark → List ℕ
+after_marks text [] = text
+after_marks text (m ∷ ms) = after_marks (drop (marked_len m) text) ms
 
-lexemes_in-append : (text : List ℕ) (ms ns : List Mark) → lexemes_in text (ms ++ ns) ≡ lexemes_in text ms ++ lexemes_in (behind_marks text ms) ns
+lexemes_in-append : (text : List ℕ) (ms ns : List Mark) → lexemes_in text (ms ++ ns) ≡ lexemes_in text ms ++ lexemes_in (after_marks text ms) ns
 lexemes_in-append text [] ns = refl
 lexemes_in-append text (m ∷ ms) ns = ap (λ r. record { kind = marked_kind m; octets = take (marked_len m) text } ∷ r) (lexemes_in-append (drop (marked_len m) text) ms ns)
 
-behind_marks-append : (text : List ℕ) (ms ns : List Mark) → behind_marks text (ms ++ ns) ≡ behind_marks (behind_marks text ms) ns
-behind_marks-append text [] ns = refl
-behind_marks-append text (m ∷ ms) ns = behind_marks-append (drop (marked_len m) text) ms ns
+after_marks-append : (text : List ℕ) (ms ns : List Mark) → after_marks text (ms ++ ns) ≡ after_marks (after_marks text ms) ns
+after_marks-append text [] ns = refl
+after_marks-append text (m ∷ ms) ns = after_marks-append (drop (marked_len m) text) ms ns
 
 pub lexemes_in-length : (text : List ℕ) (ms : List Mark) → length (lexemes_in text ms) ≡ length ms
 lexemes_in-length text [] = refl
@@ -35,7 +35,7 @@ lexemes_in-take zero text ms = refl
 lexemes_in-take (suc n) text [] = refl
 lexemes_in-take (suc n) text (m ∷ ms) = ap (λ r. record { kind = marked_kind m; octets = take (marked_len m) text } ∷ r) (lexemes_in-take n (drop (marked_len m) text) ms)
 
-lexemes_in-drop : (n : ℕ) (text : List ℕ) (ms : List Mark) → lexemes_in (behind_marks text (take n ms)) (drop n ms) ≡ drop n (lexemes_in text ms)
+lexemes_in-drop : (n : ℕ) (text : List ℕ) (ms : List Mark) → lexemes_in (after_marks text (take n ms)) (drop n ms) ≡ drop n (lexemes_in text ms)
 lexemes_in-drop zero text ms = refl
 lexemes_in-drop (suc n) text [] = refl
 lexemes_in-drop (suc n) text (m ∷ ms) = lexemes_in-drop n (drop (marked_len m) text) ms
@@ -45,28 +45,28 @@ pub front_marks : (n k : ℕ) (text : List ℕ) (ms front : List Mark) → k ≡
 front_marks n k text ms front k_is e = ap (lexemes_in text) (e ∙ ap (λ j. take j ms) k_is ∙ take_min n ms) ∙ lexemes_in-take n text ms
 
 -- and those behind them of those behind
-pub later_marks : (n k : ℕ) (text : List ℕ) (ms front behind : List Mark) (rest : List ℕ) (i : ℕ) → length front ≤ i → k ≡ min n (length ms) → front ≡ take k ms → behind ≡ drop k ms
-    → rest ≡ behind_marks text (take i front) → lexemes_in rest behind ≡ drop n (lexemes_in text ms)
-later_marks n k text ms front behind rest i all k_is e f r =
-    let text_is : rest ≡ behind_marks text (take n ms) = r ∙ ap (behind_marks text) (take_all i front all ∙ e ∙ ap (λ j. take j ms) k_is ∙ take_min n ms) in
-    let marks_are : behind ≡ drop n ms = f ∙ ap (λ j. drop j ms) k_is ∙ drop_min n ms in
+pub later_marks : (n k : ℕ) (text : List ℕ) (ms front following : List Mark) (rest : List ℕ) (i : ℕ) → length front ≤ i → k ≡ min n (length ms) → front ≡ take k ms → following ≡ drop k ms
+    → rest ≡ after_marks text (take i front) → lexemes_in rest following ≡ drop n (lexemes_in text ms)
+later_marks n k text ms front following rest i all k_is e f r =
+    let text_is : rest ≡ after_marks text (take n ms) = r ∙ ap (after_marks text) (take_all i front all ∙ e ∙ ap (λ j. take j ms) k_is ∙ take_min n ms) in
+    let marks_are : following ≡ drop n ms = f ∙ ap (λ j. drop j ms) k_is ∙ drop_min n ms in
     rw (text_is, marks_are) (lexemes_in-drop n text ms)
 
 -- one mark more
-pub behind_marks-turn : (text : List ℕ) (ms : List Mark) (i : ℕ) (d : Mark) (rest after : List ℕ) (len k : ℕ) → i < length ms → len ≡ marked_len (get_or ms i d) → rest ≡ behind_marks text (take i ms)
-    → k ≡ min len (length rest) → after ≡ drop k rest → after ≡ behind_marks text (take (i + 1) ms)
-behind_marks-turn text ms i d rest after len k h len_is e k_is cut =
+pub after_marks-turn : (text : List ℕ) (ms : List Mark) (i : ℕ) (d : Mark) (rest after : List ℕ) (len k : ℕ) → i < length ms → len ≡ marked_len (get_or ms i d) → rest ≡ after_marks text (take i ms)
+    → k ≡ min len (length rest) → after ≡ drop k rest → after ≡ after_marks text (take (i + 1) ms)
+after_marks-turn text ms i d rest after len k h len_is e k_is cut =
     let m : Mark = get_or ms i d in
     let left : after ≡ drop (marked_len m) rest = cut ∙ ap (λ j. drop j rest) k_is ∙ drop_min len rest ∙ ap (λ j. drop j rest) len_is in
-    left ∙ ap (drop (marked_len m)) e ∙ sym (ap (behind_marks text) (take_more ms i d h) ∙ behind_marks-append text (take i ms) (m ∷ []))
+    left ∙ ap (drop (marked_len m)) e ∙ sym (ap (after_marks text) (take_more ms i d h) ∙ after_marks-append text (take i ms) (m ∷ []))
 
 -- the marks of the tokens before rest
 pub record ReadsMarks (style : Style) (text : List ℕ) (marks : List Mark) (rest : List ℕ) : Type 0 where
   pub reads : ReadsTokens style text (lexemes_in text marks) rest
-  pub behind : behind_marks text marks ≡ rest
+  pub following : after_marks text marks ≡ rest
 
 pub ReadsMarks-none : (style : Style) (text : List ℕ) (marks : List Mark) → marks ≡ [] → ReadsMarks style text marks text
-ReadsMarks-none style text marks e = rw e (record { reads = ReadsTokens-none style text; behind = refl })
+ReadsMarks-none style text marks e = rw e (record { reads = ReadsTokens-none style text; following = refl })
 
 pub ReadsMarks-turn : (style : Style) (text rest after : List ℕ) (old new : List Mark) (m : Mark) (kind : TokenKind) → ReadsMarks style text old rest → 0 < length rest
     → BeginsToken style kind rest after → marked_kind m ≡ kind → marked_len m ≡ length rest - length after → new ≡ old ++ m ∷ [] → ReadsMarks style text new after
@@ -74,13 +74,13 @@ ReadsMarks-turn style text rest after old new m kind r some b kind_is len_is pus
     let size : length b.octets ≡ marked_len m = omega (arith, ap length b.whole, length-append b.octets after, len_is) in
     let octets : take (marked_len m) rest ≡ b.octets = ap (take (marked_len m)) b.whole ∙ take_at b.octets after (marked_len m) size in
     let left : drop (marked_len m) rest ≡ after = ap (drop (marked_len m)) b.whole ∙ drop_at b.octets after (marked_len m) size in
-    let value : lexemes_in (behind_marks text old) (m ∷ []) ≡ record { kind = kind; octets = b.octets } ∷ []
-    = rw (r.behind, octets, kind_is) refl in
+    let value : lexemes_in (after_marks text old) (m ∷ []) ≡ record { kind = kind; octets = b.octets } ∷ []
+    = rw (r.following, octets, kind_is) refl in
     let values : lexemes_in text new ≡ lexemes_in text old ++ record { kind = kind; octets = b.octets } ∷ []
     = ap (lexemes_in text) pushed ∙ lexemes_in-append text old (m ∷ []) ∙ ap (λ r. lexemes_in text old ++ r) value in
     record {
       reads = subst (λ done. ReadsTokens style text done after) (sym values) (ReadsTokens-push style kind text rest after (lexemes_in text old) r.reads some b);
-      behind = ap (behind_marks text) pushed ∙ behind_marks-append text old (m ∷ []) ∙ ap (drop (marked_len m)) r.behind ∙ left;
+      following = ap (after_marks text) pushed ∙ after_marks-append text old (m ∷ []) ∙ ap (drop (marked_len m)) r.following ∙ left;
     }
 
 pub never_marks : (style : Style) (text rest : List ℕ) (marks : List Mark) → ReadsMarks style text marks rest → 0 < length rest → ((kind : TokenKind) (after : List ℕ) → BeginsToken style kind rest after → ⊥)

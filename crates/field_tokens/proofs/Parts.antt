@@ -8,7 +8,7 @@ use Rattle.std.proofs.lemmas.List.Elements.{filter-append}
 use Rattle.std.proofs.lemmas.List.Splits.{length-slice_split, slice_split-cons_yes}
 use Rattle.std.specs.List.{AllByRecursion, list_all, flat_map, join_with_byte, slice_split, onto_first}
 use Rattle.mail_wire.specs.Octets.{is_white}
-use Rattle.mail_wire.specs.Spans.{Stops, StopsBehind}
+use Rattle.mail_wire.specs.Spans.{Stops, StopsAfter}
 use Rattle.field_tokens.specs.declared.Style.{Style}
 use Rattle.field_tokens.specs.declared.Style.TheVariants.{Mail, Mime}
 use Rattle.field_tokens.specs.declared.TokenKind.{TokenKind}
@@ -17,7 +17,7 @@ use Rattle.field_tokens.specs.declared.groups.Marks.{Marks}
 use Rattle.field_tokens.specs.TokenOctets.{is_special, is_mark, is_control, is_atom_octet}
 use Rattle.field_tokens.specs.Groups.{IsEnclosed, inside_octets}
 use Rattle.field_tokens.specs.Tokens.{comment_marks, quoted_marks, literal_marks, IsToken, BeginsToken, TokenValue, AreTokens}
-use Rattle.field_tokens.specs.Squeezed.{is_blank, is_there, runs_of, octets_of, is_comment, comments_of, words_of, is_gap, space, apart, IsPart}
+use Rattle.field_tokens.specs.Squeezed.{is_blank, is_there, runs_of, octets_of, is_comment, comments_of, words_of, is_gap, space, joined_by_spaces, IsPart}
 use Rattle.field_tokens.proofs.TokenLists.{token_octets_some}
 use Rattle.field_tokens.proofs.TokenLemmas.{kind_is}
 
@@ -72,12 +72,12 @@ stops_front p (b ∷ x) more stops = stops
 
 -- a token that is no gap, before what begins with no octet of atoms
 pub IsToken-before : (style : Style) (kind : TokenKind) (octets next : List ℕ) → is_gap kind ≡ false → Stops (is_atom_octet style) next → IsToken style kind octets [] → IsToken style kind octets next
-IsToken-before style Gap octets next black stops is = cc black
-IsToken-before style Atom octets next black stops is = (is.0, record { whole = refl; passes = is.1.passes; stops = stops })
-IsToken-before style Special octets next black stops is = is
-IsToken-before style Comment octets next black stops is = is
-IsToken-before style Quoted octets next black stops is = is
-IsToken-before style Literal octets next black stops is = is
+IsToken-before style Gap octets next nonwhite stops is = cc nonwhite
+IsToken-before style Atom octets next nonwhite stops is = (is.0, record { whole = refl; passes = is.1.passes; stops = stops })
+IsToken-before style Special octets next nonwhite stops is = is
+IsToken-before style Comment octets next nonwhite stops is = is
+IsToken-before style Quoted octets next nonwhite stops is = is
+IsToken-before style Literal octets next nonwhite stops is = is
 
 pub tokens_some : (style : Style) (t : TokenValue) (ts : List TokenValue) (text : List ℕ) → AreTokens style (t ∷ ts) text → 0 < length text
 tokens_some style t ts text are = omega (arith, ap length are.1, length-append t.octets are.0, token_octets_some style t.kind t.octets are.0 are.2)
@@ -94,58 +94,58 @@ AreTokens-append style (t ∷ u ∷ ts) b x y are ends stops more =
     (are.0 ++ y, ap (λ r. r ++ y) are.1 ∙ append_assoc t.octets are.0 y, IsToken-alike style t.kind t.octets are.0 (are.0 ++ y) (λ p. stops_more p are.0 y some) are.2, AreTokens-append style (u ∷ ts) b are.0 y are.3 ends stops more)
 
 -- a token that is no gap begins with no white octet
-first_black : (style : Style) (kind : TokenKind) (b : ℕ) (after octets rest : List ℕ) → b ∷ after ≡ octets ++ rest → IsToken style kind octets rest → is_gap kind ≡ false → is_white b ≡ false
-first_black style kind b after octets rest e is black = elim (cases_Bool (is_white b)) [
+first_nonwhite : (style : Style) (kind : TokenKind) (b : ℕ) (after octets rest : List ℕ) → b ∷ after ≡ octets ++ rest → IsToken style kind octets rest → is_gap kind ≡ false → is_white b ≡ false
+first_nonwhite style kind b after octets rest e is nonwhite = elim (cases_Bool (is_white b)) [
   | inl white ↦
       let begins : BeginsToken style kind (b ∷ after) rest = record { octets = octets; whole = e; is_token = is } in
       let class = kind_is style kind b (b ∷ after) after rest refl begins in
       let both = rw (white) at class in
       let same : Gap ≡ kind = cc both in
-      cc (ap is_gap same, black)
+      cc (ap is_gap same, nonwhite)
   | inr other ↦ other
 ]
 
 pub AreTokens-begin : (style : Style) (ts : List TokenValue) (text : List ℕ) → AreTokens style ts text → BeginsNoGap ts → Stops is_white text
 AreTokens-begin style ts [] are begins = tt
 AreTokens-begin style [] (b ∷ text) are begins = absurd (omega (arith, ap length are))
-AreTokens-begin style (t ∷ ts) (b ∷ text) are begins = first_black style t.kind b text t.octets are.0 are.1 are.2 begins
+AreTokens-begin style (t ∷ ts) (b ∷ text) are begins = first_nonwhite style t.kind b text t.octets are.0 are.1 are.2 begins
 
-pub StopsBehind-append : (p : ℕ → Bool) (xs ys : List ℕ) → 0 < length ys → StopsBehind p ys → StopsBehind p (xs ++ ys)
-StopsBehind-append p [] ys some h = h
-StopsBehind-append p (x ∷ []) [] some h = absurd (omega (arith, some))
-StopsBehind-append p (x ∷ []) (y ∷ ys) some h = h
-StopsBehind-append p (x ∷ z ∷ xs) ys some h = StopsBehind-append p (z ∷ xs) ys some h
+pub StopsAfter-append : (p : ℕ → Bool) (xs ys : List ℕ) → 0 < length ys → StopsAfter p ys → StopsAfter p (xs ++ ys)
+StopsAfter-append p [] ys some h = h
+StopsAfter-append p (x ∷ []) [] some h = absurd (omega (arith, some))
+StopsAfter-append p (x ∷ []) (y ∷ ys) some h = h
+StopsAfter-append p (x ∷ z ∷ xs) ys some h = StopsAfter-append p (z ∷ xs) ys some h
 
-all_behind : (p q : ℕ → Bool) (xs : List ℕ) → ((x : ℕ) → p x ≡ true → q x ≡ false) → list_all p xs ≡ true → StopsBehind q xs
-all_behind p q [] apart all = tt
-all_behind p q (x ∷ []) apart all = apart x (and_parts (p x) true all).0
-all_behind p q (x ∷ y ∷ xs) apart all = all_behind p q (y ∷ xs) apart (and_parts (p x) (list_all p (y ∷ xs)) all).1
+all_after : (p q : ℕ → Bool) (xs : List ℕ) → ((x : ℕ) → p x ≡ true → q x ≡ false) → list_all p xs ≡ true → StopsAfter q xs
+all_after p q [] joined_by_spaces all = tt
+all_after p q (x ∷ []) joined_by_spaces all = joined_by_spaces x (and_parts (p x) true all).0
+all_after p q (x ∷ y ∷ xs) joined_by_spaces all = all_after p q (y ∷ xs) joined_by_spaces (and_parts (p x) (list_all p (y ∷ xs)) all).1
 
-atom_black : (style : Style) (x : ℕ) → is_atom_octet style x ≡ true → is_white x ≡ false
-atom_black style x h = not-true (is_white x) (and_parts (not (is_white x)) (not (is_special style x) && (not (is_mark style x) && not (is_control x))) h).0
+atom_nonwhite : (style : Style) (x : ℕ) → is_atom_octet style x ≡ true → is_white x ≡ false
+atom_nonwhite style x h = not-true (is_white x) (and_parts (not (is_white x)) (not (is_special style x) && (not (is_mark style x) && not (is_control x))) h).0
 
-special_black : (style : Style) (x : ℕ) → is_special style x ≡ true → is_white x ≡ false
-special_black Mail x h = grind (arith, nat_tests)
-special_black Mime x h = grind (arith, nat_tests)
+special_nonwhite : (style : Style) (x : ℕ) → is_special style x ≡ true → is_white x ≡ false
+special_nonwhite Mail x h = grind (arith, nat_tests)
+special_nonwhite Mime x h = grind (arith, nat_tests)
 
-group_black : (m : Marks) (octets : List ℕ) → is_white m.close_mark ≡ false → IsEnclosed m octets → StopsBehind is_white octets
-group_black m octets black g = rw (g.spelled) (StopsBehind-append is_white (m.open_mark ∷ inside_octets m g.inside) (m.close_mark ∷ []) (omega arith) black)
+group_nonwhite : (m : Marks) (octets : List ℕ) → is_white m.close_mark ≡ false → IsEnclosed m octets → StopsAfter is_white octets
+group_nonwhite m octets nonwhite g = rw (g.spelled) (StopsAfter-append is_white (m.open_mark ∷ inside_octets m g.inside) (m.close_mark ∷ []) (omega arith) nonwhite)
 
 -- a token that is no gap ends with no white octet
-last_black : (style : Style) (kind : TokenKind) (octets rest : List ℕ) → is_gap kind ≡ false → IsToken style kind octets rest → StopsBehind is_white octets
-last_black style Gap octets rest black is = cc black
-last_black style Atom octets rest black is = all_behind (is_atom_octet style) is_white octets (atom_black style) is.1.passes
-last_black style Special octets rest black is = rw (is.1) (special_black style is.0 is.2)
-last_black style Comment octets rest black is = group_black comment_marks octets refl is
-last_black style Quoted octets rest black is = group_black quoted_marks octets refl is
-last_black style Literal octets rest black is = group_black literal_marks octets refl is.1
+last_nonwhite : (style : Style) (kind : TokenKind) (octets rest : List ℕ) → is_gap kind ≡ false → IsToken style kind octets rest → StopsAfter is_white octets
+last_nonwhite style Gap octets rest nonwhite is = cc nonwhite
+last_nonwhite style Atom octets rest nonwhite is = all_after (is_atom_octet style) is_white octets (atom_nonwhite style) is.1.passes
+last_nonwhite style Special octets rest nonwhite is = rw (is.1) (special_nonwhite style is.0 is.2)
+last_nonwhite style Comment octets rest nonwhite is = group_nonwhite comment_marks octets refl is
+last_nonwhite style Quoted octets rest nonwhite is = group_nonwhite quoted_marks octets refl is
+last_nonwhite style Literal octets rest nonwhite is = group_nonwhite literal_marks octets refl is.1
 
-pub AreTokens-end : (style : Style) (ts : List TokenValue) (text : List ℕ) → AreTokens style ts text → EndsNoGap ts → StopsBehind is_white text
+pub AreTokens-end : (style : Style) (ts : List TokenValue) (text : List ℕ) → AreTokens style ts text → EndsNoGap ts → StopsAfter is_white text
 AreTokens-end style [] text are ends = rw (are) tt
 AreTokens-end style (t ∷ []) text are ends =
     let whole : text ≡ t.octets = are.1 ∙ ap (λ r. t.octets ++ r) are.3 ∙ append-nil t.octets in
-    rw (whole) (last_black style t.kind t.octets are.0 ends are.2)
-AreTokens-end style (t ∷ u ∷ ts) text are ends = rw (are.1) (StopsBehind-append is_white t.octets are.0 (tokens_some style u ts are.0 are.3) (AreTokens-end style (u ∷ ts) are.0 are.3 ends))
+    rw (whole) (last_nonwhite style t.kind t.octets are.0 ends are.2)
+AreTokens-end style (t ∷ u ∷ ts) text are ends = rw (are.1) (StopsAfter-append is_white t.octets are.0 (tokens_some style u ts are.0 are.3) (AreTokens-end style (u ∷ ts) are.0 are.3 ends))
 
 -- a space between tokens
 pub AreTokens-space : (style : Style) (a b : List TokenValue) (x y : List ℕ) → AreTokens style a x → EndsNoGap a → AreTokens style b y → BeginsNoGap b → AreTokens style (a ++ space ∷ b) (x ++ 32 ∷ y)
@@ -153,30 +153,30 @@ AreTokens-space style a b x y are ends more begins =
     let gap : IsToken style Gap (32 ∷ []) y = (omega arith, record { whole = refl; passes = refl; stops = AreTokens-begin style b y more begins }) in
     AreTokens-append style a (space ∷ b) x (32 ∷ y) are ends refl (y, refl, gap, more)
 
-pub apart_begins : (style : Style) (parts : List (List TokenValue)) → AllByRecursion (IsPart style) parts → BeginsNoGap (apart parts)
-apart_begins style [] all = tt
-apart_begins style (part ∷ []) all = part_begins style part all.0
-apart_begins style (part ∷ next ∷ parts) all = rw (all.0.begins.2) all.0.begins.3
+pub joined_begins : (style : Style) (parts : List (List TokenValue)) → AllByRecursion (IsPart style) parts → BeginsNoGap (joined_by_spaces parts)
+joined_begins style [] all = tt
+joined_begins style (part ∷ []) all = part_begins style part all.0
+joined_begins style (part ∷ next ∷ parts) all = rw (all.0.begins.2) all.0.begins.3
 
 -- something is there
-pub apart_some : (style : Style) (part : List TokenValue) (parts : List (List TokenValue)) → AllByRecursion (IsPart style) (part ∷ parts) → 0 < length (apart (part ∷ parts))
-apart_some style part [] all = rw (all.0.begins.2) (omega arith)
-apart_some style part (next ∷ parts) all = omega (arith, length-append part (space ∷ apart (next ∷ parts)))
+pub joined_some : (style : Style) (part : List TokenValue) (parts : List (List TokenValue)) → AllByRecursion (IsPart style) (part ∷ parts) → 0 < length (joined_by_spaces (part ∷ parts))
+joined_some style part [] all = rw (all.0.begins.2) (omega arith)
+joined_some style part (next ∷ parts) all = omega (arith, length-append part (space ∷ joined_by_spaces (next ∷ parts)))
 
-pub apart_ends : (style : Style) (parts : List (List TokenValue)) → AllByRecursion (IsPart style) parts → EndsNoGap (apart parts)
-apart_ends style [] all = tt
-apart_ends style (part ∷ []) all = part_ends style part all.0
-apart_ends style (part ∷ next ∷ parts) all =
-    let behind : EndsNoGap (space ∷ apart (next ∷ parts)) = EndsNoGap-append (space ∷ []) (apart (next ∷ parts)) (apart_some style next parts all.1) (apart_ends style (next ∷ parts) all.1) in
-    EndsNoGap-append part (space ∷ apart (next ∷ parts)) (omega arith) behind
+pub joined_ends : (style : Style) (parts : List (List TokenValue)) → AllByRecursion (IsPart style) parts → EndsNoGap (joined_by_spaces parts)
+joined_ends style [] all = tt
+joined_ends style (part ∷ []) all = part_ends style part all.0
+joined_ends style (part ∷ next ∷ parts) all =
+    let following : EndsNoGap (space ∷ joined_by_spaces (next ∷ parts)) = EndsNoGap-append (space ∷ []) (joined_by_spaces (next ∷ parts)) (joined_some style next parts all.1) (joined_ends style (next ∷ parts) all.1) in
+    EndsNoGap-append part (space ∷ joined_by_spaces (next ∷ parts)) (omega arith) following
 
 -- parts with a space between any two are the tokens of their texts with a space between any two
-pub AreTokens-apart : (style : Style) (parts : List (List TokenValue)) → AllByRecursion (IsPart style) parts → AreTokens style (apart parts) (join_with_byte 32 (map octets_of parts))
-AreTokens-apart style [] all = refl
-AreTokens-apart style (part ∷ []) all = all.0.are_tokens
-AreTokens-apart style (part ∷ next ∷ parts) all =
-    AreTokens-space style part (apart (next ∷ parts)) (octets_of part) (join_with_byte 32 (map octets_of (next ∷ parts))) all.0.are_tokens (part_ends style part all.0)
-    (AreTokens-apart style (next ∷ parts) all.1) (apart_begins style (next ∷ parts) all.1)
+pub AreTokens-joined_by_spaces : (style : Style) (parts : List (List TokenValue)) → AllByRecursion (IsPart style) parts → AreTokens style (joined_by_spaces parts) (join_with_byte 32 (map octets_of parts))
+AreTokens-joined_by_spaces style [] all = refl
+AreTokens-joined_by_spaces style (part ∷ []) all = all.0.are_tokens
+AreTokens-joined_by_spaces style (part ∷ next ∷ parts) all =
+    AreTokens-space style part (joined_by_spaces (next ∷ parts)) (octets_of part) (join_with_byte 32 (map octets_of (next ∷ parts))) all.0.are_tokens (part_ends style part all.0)
+    (AreTokens-joined_by_spaces style (next ∷ parts) all.1) (joined_begins style (next ∷ parts) all.1)
 
 -- the octets of its tokens are the text
 pub octets_of-tokens : (style : Style) (tokens : List TokenValue) (text : List ℕ) → AreTokens style tokens text → octets_of tokens ≡ text
@@ -213,20 +213,20 @@ octets_of-append a b = flat_map-append (λ (token : TokenValue). token.octets) a
 pub words_of-append : (a b : List TokenValue) → words_of (a ++ b) ≡ words_of a ++ words_of b
 words_of-append a b = filter-append (λ (token : TokenValue). not (is_blank token.kind)) a b
 
-pub runs_of-apart : (parts : List (List TokenValue)) → runs_of (apart parts) ≡ flat_map runs_of parts
-runs_of-apart [] = refl
-runs_of-apart (part ∷ []) = sym (append-nil (runs_of part))
-runs_of-apart (part ∷ next ∷ parts) = runs_of-space part (apart (next ∷ parts)) ∙ ap (λ r. runs_of part ++ r) (runs_of-apart (next ∷ parts))
+pub runs_of-joined_by_spaces : (parts : List (List TokenValue)) → runs_of (joined_by_spaces parts) ≡ flat_map runs_of parts
+runs_of-joined_by_spaces [] = refl
+runs_of-joined_by_spaces (part ∷ []) = sym (append-nil (runs_of part))
+runs_of-joined_by_spaces (part ∷ next ∷ parts) = runs_of-space part (joined_by_spaces (next ∷ parts)) ∙ ap (λ r. runs_of part ++ r) (runs_of-joined_by_spaces (next ∷ parts))
 
-pub comments_of-apart : (parts : List (List TokenValue)) → comments_of (apart parts) ≡ flat_map comments_of parts
-comments_of-apart [] = refl
-comments_of-apart (part ∷ []) = sym (append-nil (comments_of part))
-comments_of-apart (part ∷ next ∷ parts) = comments_of-append part (space ∷ apart (next ∷ parts)) ∙ ap (λ r. comments_of part ++ r) (comments_of-apart (next ∷ parts))
+pub comments_of-joined_by_spaces : (parts : List (List TokenValue)) → comments_of (joined_by_spaces parts) ≡ flat_map comments_of parts
+comments_of-joined_by_spaces [] = refl
+comments_of-joined_by_spaces (part ∷ []) = sym (append-nil (comments_of part))
+comments_of-joined_by_spaces (part ∷ next ∷ parts) = comments_of-append part (space ∷ joined_by_spaces (next ∷ parts)) ∙ ap (λ r. comments_of part ++ r) (comments_of-joined_by_spaces (next ∷ parts))
 
-pub words_of-apart : (parts : List (List TokenValue)) → words_of (apart parts) ≡ flat_map words_of parts
-words_of-apart [] = refl
-words_of-apart (part ∷ []) = sym (append-nil (words_of part))
-words_of-apart (part ∷ next ∷ parts) = words_of-append part (space ∷ apart (next ∷ parts)) ∙ ap (λ r. words_of part ++ r) (words_of-apart (next ∷ parts))
+pub words_of-joined_by_spaces : (parts : List (List TokenValue)) → words_of (joined_by_spaces parts) ≡ flat_map words_of parts
+words_of-joined_by_spaces [] = refl
+words_of-joined_by_spaces (part ∷ []) = sym (append-nil (words_of part))
+words_of-joined_by_spaces (part ∷ next ∷ parts) = words_of-append part (space ∷ joined_by_spaces (next ∷ parts)) ∙ ap (λ r. words_of part ++ r) (words_of-joined_by_spaces (next ∷ parts))
 
 -- comments as parts
 abbrev pub comment_part : List ℕ → List TokenValue

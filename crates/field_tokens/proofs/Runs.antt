@@ -9,17 +9,17 @@ use Rattle.encoded_words.specs.CommentUnits.{TextItem, Plain, Pair, item_spellin
 use Rattle.encoded_words.proofs.PlainItems.{plain_white}
 use Rattle.field_tokens.specs.Trees.{AreText, spelling, IsRun}
 use Rattle.field_tokens.specs.private.Bodies.{BeginsNoItem, BeginsItem, SplitsRun, SplitsText}
-use Rattle.field_tokens.proofs.Texts.{AreText-append, spelling-append, AreText-white, spelling-white, item_black}
+use Rattle.field_tokens.proofs.Texts.{AreText-append, spelling-append, AreText-white, spelling-white, item_nonwhite}
 
 -- the last item is not white
-abbrev pub EndsBlack : List TextItem → Type 0
-EndsBlack run = (others : List TextItem) × (last : TextItem) × (run ≡ others ++ last ∷ []) × (is_white_item last ≡ false)
+abbrev pub EndsNonwhite : List TextItem → Type 0
+EndsNonwhite run = (others : List TextItem) × (last : TextItem) × (run ≡ others ++ last ∷ []) × (is_white_item last ≡ false)
 
 -- the octets are a run so far, of this length, and rest
 pub record RunsTo (octets : List ℕ) (len : ℕ) (rest : List ℕ) : Type 0 where
   pub run : List TextItem
   pub are_text : AreText run
-  pub ends : (run ≡ []) ⊎ EndsBlack run
+  pub ends : (run ≡ []) ⊎ EndsNonwhite run
   pub whole : octets ≡ spelling run ++ rest
   pub len_is : len ≡ length (spelling run)
 
@@ -46,18 +46,18 @@ RunsTo-turn octets rest white next after old new r span item new_is =
     record {
       run = front ++ item.item ∷ [];
       are_text = AreText-append front (item.item ∷ []) text (item.stands, tt);
-      ends = inr (front, item.item, refl, item_black item.item next after span.stops item.whole);
+      ends = inr (front, item.item, refl, item_nonwhite item.item next after span.stops item.whole);
       whole = whole;
       len_is = omega (arith, ap length whole, length-append (spelling (front ++ item.item ∷ [])) after);
     }
 
 -- a run that ends so, and begins with no white
-run_is : (run : List TextItem) (octets rest : List ℕ) → Stops is_white octets → octets ≡ spelling run ++ rest → (run ≡ []) ⊎ EndsBlack run → (run ≡ []) ⊎ IsRun run
+run_is : (run : List TextItem) (octets rest : List ℕ) → Stops is_white octets → octets ≡ spelling run ++ rest → (run ≡ []) ⊎ EndsNonwhite run → (run ≡ []) ⊎ IsRun run
 run_is [] octets rest stops e ends = inl refl
 run_is (i ∷ run) octets rest stops e (inl none) = cc none
 run_is (i ∷ run) octets rest stops e (inr ends) =
-    let black : is_white_item i ≡ false = item_black i octets (spelling run ++ rest) stops (e ∙ append_assoc (item_spelling i) (spelling run) rest) in
-    inr (record { begins = (i, run, refl, black); ends = ends })
+    let nonwhite : is_white_item i ≡ false = item_nonwhite i octets (spelling run ++ rest) stops (e ∙ append_assoc (item_spelling i) (spelling run) rest) in
+    inr (record { begins = (i, run, refl, nonwhite); ends = ends })
 
 pub RunsTo-end : (octets rest white next : List ℕ) (len : ℕ) → Stops is_white octets → RunsTo octets len rest → IsSpan is_white rest white next → BeginsNoItem next → SplitsRun octets len next
 RunsTo-end octets rest white next len stops r span none = record {
@@ -72,8 +72,8 @@ RunsTo-end octets rest white next len stops r span none = record {
 }
 
 -- white, a run and more as one text
-pub lead_whole : (lead behind octets after : List ℕ) (text : List TextItem) → octets ≡ lead ++ behind → behind ≡ spelling text ++ after → octets ≡ spelling (map Plain lead ++ text) ++ after
-lead_whole lead behind octets after text e f =
+pub lead_whole : (lead following octets after : List ℕ) (text : List TextItem) → octets ≡ lead ++ following → following ≡ spelling text ++ after → octets ≡ spelling (map Plain lead ++ text) ++ after
+lead_whole lead following octets after text e f =
     e ∙ ap (λ r. lead ++ r) f ∙ sym (append_assoc lead (spelling text) after) ∙ ap (λ r. (r ++ spelling text) ++ after) (sym (spelling-white lead)) ∙ ap (λ r. r ++ after) (sym (spelling-append (map Plain lead) text))
 
 item_some : (i : TextItem) → 0 < length (item_spelling i)
@@ -85,11 +85,11 @@ run_some run is =
     let b = is.begins in
     rw (b.2) (omega (arith, item_some b.0, length-append (item_spelling b.0) (spelling b.1)))
 
-pub SplitsText-none : (end : ℕ) (octets lead behind after : List ℕ) (len : ℕ) → IsSpan is_white octets lead behind → SplitsRun behind len after → len ≡ 0 → SplitsText end octets None after
-SplitsText-none end octets lead behind after len span split none = record {
+pub SplitsText-none : (end : ℕ) (octets lead following after : List ℕ) (len : ℕ) → IsSpan is_white octets lead following → SplitsRun following len after → len ≡ 0 → SplitsText end octets None after
+SplitsText-none end octets lead following after len span split none = record {
   text = map Plain lead ++ (split.run ++ split.trail);
   are_text = AreText-append (map Plain lead) (split.run ++ split.trail) (AreText-white lead span.passes) split.are_text;
-  whole = lead_whole lead behind octets after (split.run ++ split.trail) span.whole split.whole;
+  whole = lead_whole lead following octets after (split.run ++ split.trail) span.whole split.whole;
   stops = split.stops;
   gives = blank split.is_run;
 }
@@ -98,12 +98,12 @@ SplitsText-none end octets lead behind after len span split none = record {
     blank (inl e) = rw (e, list_all-append is_white_item (map Plain lead) split.trail, plain_white lead span.passes) split.trail_white
     blank (inr is) = absurd (omega (arith, run_some split.run is, split.len_is))
 
-pub SplitsText-some : (end : ℕ) (octets lead behind after : List ℕ) (len at : ℕ) → IsSpan is_white octets lead behind → SplitsRun behind len after → len ≢ 0 → length octets ≤ end → at ≡ end - length behind
+pub SplitsText-some : (end : ℕ) (octets lead following after : List ℕ) (len at : ℕ) → IsSpan is_white octets lead following → SplitsRun following len after → len ≢ 0 → length octets ≤ end → at ≡ end - length following
     → SplitsText end octets (Some (record { at = at; len = len })) after
-SplitsText-some end octets lead behind after len at span split some bound at_is = record {
+SplitsText-some end octets lead following after len at span split some bound at_is = record {
   text = map Plain lead ++ (split.run ++ split.trail);
   are_text = AreText-append (map Plain lead) (split.run ++ split.trail) (AreText-white lead span.passes) split.are_text;
-  whole = lead_whole lead behind octets after (split.run ++ split.trail) span.whole split.whole;
+  whole = lead_whole lead following octets after (split.run ++ split.trail) span.whole split.whole;
   stops = split.stops;
   gives = record {
     lead = map Plain lead;
@@ -111,13 +111,13 @@ SplitsText-some end octets lead behind after len at span split some bound at_is 
     trail = split.trail;
     lead_white = plain_white lead span.passes;
     trail_white = split.trail_white;
-    is_run = black split.is_run;
+    is_run = nonwhite split.is_run;
     whole = refl;
-    at_is = rw (spelling-white) (omega (arith, ap length span.whole, length-append lead behind));
+    at_is = rw (spelling-white) (omega (arith, ap length span.whole, length-append lead following));
     len_is = split.len_is;
   };
 }
   where
-    black : (split.run ≡ []) ⊎ IsRun split.run → IsRun split.run
-    black (inl e) = absurd (some (split.len_is ∙ rw (e) refl))
-    black (inr is) = is
+    nonwhite : (split.run ≡ []) ⊎ IsRun split.run → IsRun split.run
+    nonwhite (inl e) = absurd (some (split.len_is ∙ rw (e) refl))
+    nonwhite (inr is) = is

@@ -5,7 +5,7 @@ use Rattle.std.proofs.lemmas.List.{append_assoc, append-nil, length-append, map-
 use Rattle.std.proofs.lemmas.List.Folds.{flat_map-map}
 use Rattle.std.specs.List.{AllByRecursion, flat_map, join_with_byte, slice_split, onto_first}
 use Rattle.mail_wire.specs.Octets.{is_white}
-use Rattle.mail_wire.specs.Spans.{Stops, StopsBehind}
+use Rattle.mail_wire.specs.Spans.{Stops, StopsAfter}
 use Rattle.mail_wire.proofs.AllLemmas.{all-append}
 use Rattle.field_tokens.specs.declared.Style.{Style}
 use Rattle.field_tokens.specs.declared.Token.{Token}
@@ -13,9 +13,9 @@ use Rattle.field_tokens.specs.declared.TokenKind.{TokenKind}
 use Rattle.field_tokens.specs.declared.TokenKind.TheVariants.{Atom, Quoted, Literal, Special, Gap, Comment}
 use Rattle.field_tokens.specs.Groups.{IsEnclosed}
 use Rattle.field_tokens.specs.Tokens.{comment_marks, IsToken, TokenValue, AreTokens, tokens_from, octets_at}
-use Rattle.field_tokens.specs.Squeezed.{is_blank, run_octets, is_there, squeezed_text, runs_of, octets_of, squeezed_values, is_comment, comments_of, words_of, is_gap, apart, IsPart}
+use Rattle.field_tokens.specs.Squeezed.{is_blank, run_octets, is_there, squeezed_text, runs_of, octets_of, squeezed_values, is_comment, comments_of, words_of, is_gap, joined_by_spaces, IsPart}
 use Rattle.field_tokens.proofs.TokenLists.{token_at}
-use Rattle.field_tokens.proofs.Parts.{BeginsNoGap, EndsNoGap, part_of, IsToken-alike, stops_front, AreTokens-begin, AreTokens-end, AreTokens-apart, apart_begins, apart_ends, runs_of-apart, comments_of-apart, words_of-apart, comment_parts, comments_are_parts, comment_parts-runs, comment_parts-comments, comment_parts-words, comment_parts-octets}
+use Rattle.field_tokens.proofs.Parts.{BeginsNoGap, EndsNoGap, part_of, IsToken-alike, stops_front, AreTokens-begin, AreTokens-end, AreTokens-joined_by_spaces, joined_begins, joined_ends, runs_of-joined_by_spaces, comments_of-joined_by_spaces, words_of-joined_by_spaces, comment_parts, comments_are_parts, comment_parts-runs, comment_parts-comments, comment_parts-words, comment_parts-octets}
 
 -- a token of the text by its octets
 abbrev pub value_at : List ℕ → Token → TokenValue
@@ -58,8 +58,8 @@ values_from style text front rest (t ∷ ts) e are =
     let onward : text ≡ (front ++ t.octets) ++ are.0 = e ∙ ap (λ r. front ++ r) are.1 ∙ sym (append_assoc front t.octets are.0) in
     let more = values_from style text (front ++ t.octets) are.0 ts onward are.3 in
     let place : length (front ++ t.octets) ≡ length front + length t.octets = length-append front t.octets in
-    let behind : drop (length front) text ≡ rest = ap (drop (length front)) e ∙ drop_at front rest (length front) refl in
-    let head : octets_at text (token_at (length front) t).span ≡ t.octets = rw (behind) (ap (take (length t.octets)) are.1 ∙ take_at t.octets are.0 (length t.octets) refl) in
+    let following : drop (length front) text ≡ rest = ap (drop (length front)) e ∙ drop_at front rest (length front) refl in
+    let head : octets_at text (token_at (length front) t).span ≡ t.octets = rw (following) (ap (take (length t.octets)) are.1 ∙ take_at t.octets are.0 (length t.octets) refl) in
     rw (head) (ap (λ r. t ∷ r) (rw (place) at more))
 
 pub values_at : (style : Style) (text : List ℕ) (values : List TokenValue) → AreTokens style values text → map (value_at text) (tokens_from 0 values) ≡ values
@@ -223,42 +223,42 @@ squeezed_and tokens comments = join_with_byte 32 (map octets_of (runs_and tokens
 -- what the squeezed text of tokens is read as, with comments behind it
 pub record IsSqueezedAgain (style : Style) (tokens : List TokenValue) (comments : List (List ℕ)) : Type 0 where
   pub are_parts : AllByRecursion (IsPart style) (runs_and tokens comments)
-  pub are_tokens : AreTokens style (apart (runs_and tokens comments)) (squeezed_and tokens comments)
+  pub are_tokens : AreTokens style (joined_by_spaces (runs_and tokens comments)) (squeezed_and tokens comments)
   pub pieces_are : map octets_of (runs_and tokens comments) ≡ map octets_of (runs_of tokens) ++ comments
-  pub runs_are : runs_of (apart (runs_and tokens comments)) ≡ runs_of tokens
-  pub squeezed_is : squeezed_values (apart (runs_and tokens comments)) ≡ squeezed_values tokens
-  pub comments_are : comments_of (apart (runs_and tokens comments)) ≡ comments
-  pub words_are : words_of (apart (runs_and tokens comments)) ≡ words_of tokens
-  pub begins : BeginsNoGap (apart (runs_and tokens comments))
-  pub ends : EndsNoGap (apart (runs_and tokens comments))
+  pub runs_are : runs_of (joined_by_spaces (runs_and tokens comments)) ≡ runs_of tokens
+  pub squeezed_is : squeezed_values (joined_by_spaces (runs_and tokens comments)) ≡ squeezed_values tokens
+  pub comments_are : comments_of (joined_by_spaces (runs_and tokens comments)) ≡ comments
+  pub words_are : words_of (joined_by_spaces (runs_and tokens comments)) ≡ words_of tokens
+  pub begins : BeginsNoGap (joined_by_spaces (runs_and tokens comments))
+  pub ends : EndsNoGap (joined_by_spaces (runs_and tokens comments))
   pub text_begins : Stops is_white (squeezed_and tokens comments)
-  pub text_ends : StopsBehind is_white (squeezed_and tokens comments)
+  pub text_ends : StopsAfter is_white (squeezed_and tokens comments)
 
 -- what the parts give, of what each gives
-runs_and-flat : {A : Type 0} (f : List TokenValue → List A) (tokens : List TokenValue) (comments : List (List ℕ)) (front behind : List A)
-    → flat_map f (runs_of tokens) ≡ front → flat_map f (comment_parts comments) ≡ behind → flat_map f (runs_and tokens comments) ≡ front ++ behind
-runs_and-flat f tokens comments front behind p q = flat_map-append f (runs_of tokens) (comment_parts comments) ∙ rw (p, q) refl
+runs_and-flat : {A : Type 0} (f : List TokenValue → List A) (tokens : List TokenValue) (comments : List (List ℕ)) (front following : List A)
+    → flat_map f (runs_of tokens) ≡ front → flat_map f (comment_parts comments) ≡ following → flat_map f (runs_and tokens comments) ≡ front ++ following
+runs_and-flat f tokens comments front following p q = flat_map-append f (runs_of tokens) (comment_parts comments) ∙ rw (p, q) refl
 
 pub squeezed_again : (style : Style) (tokens : List TokenValue) (text : List ℕ) (comments : List (List ℕ)) → AreTokens style tokens text → AllByRecursion (IsEnclosed comment_marks) comments → IsSqueezedAgain style tokens comments
 squeezed_again style tokens text comments are all =
     let parts : List (List TokenValue) = runs_and tokens comments in
     let are_parts : AllByRecursion (IsPart style) parts
     = all-append (IsPart style) (runs_of tokens) (comment_parts comments) (IsPart-runs style tokens text are) (comments_are_parts style comments all) in
-    let made : AreTokens style (apart parts) (squeezed_and tokens comments) = AreTokens-apart style parts are_parts in
-    let begins : BeginsNoGap (apart parts) = apart_begins style parts are_parts in
-    let ends : EndsNoGap (apart parts) = apart_ends style parts are_parts in
-    let runs : runs_of (apart parts) ≡ runs_of tokens
-    = runs_of-apart parts ∙ runs_and-flat runs_of tokens comments (runs_of tokens) [] (runs_of-runs tokens) (comment_parts-runs comments) ∙ append-nil (runs_of tokens) in
+    let made : AreTokens style (joined_by_spaces parts) (squeezed_and tokens comments) = AreTokens-joined_by_spaces style parts are_parts in
+    let begins : BeginsNoGap (joined_by_spaces parts) = joined_begins style parts are_parts in
+    let ends : EndsNoGap (joined_by_spaces parts) = joined_ends style parts are_parts in
+    let runs : runs_of (joined_by_spaces parts) ≡ runs_of tokens
+    = runs_of-joined_by_spaces parts ∙ runs_and-flat runs_of tokens comments (runs_of tokens) [] (runs_of-runs tokens) (comment_parts-runs comments) ∙ append-nil (runs_of tokens) in
     record {
       are_parts = are_parts;
       are_tokens = made;
       pieces_are = map-append octets_of (runs_of tokens) (comment_parts comments) ∙ ap (λ r. map octets_of (runs_of tokens) ++ r) (comment_parts-octets comments);
       runs_are = runs;
       squeezed_is = ap (λ r. join_with_byte 32 (map octets_of r)) runs;
-      comments_are = comments_of-apart parts ∙ runs_and-flat comments_of tokens comments [] comments (comments_of-runs tokens) (comment_parts-comments comments);
-      words_are = words_of-apart parts ∙ runs_and-flat words_of tokens comments (words_of tokens) [] (words_of-runs tokens) (comment_parts-words comments) ∙ append-nil (words_of tokens);
+      comments_are = comments_of-joined_by_spaces parts ∙ runs_and-flat comments_of tokens comments [] comments (comments_of-runs tokens) (comment_parts-comments comments);
+      words_are = words_of-joined_by_spaces parts ∙ runs_and-flat words_of tokens comments (words_of tokens) [] (words_of-runs tokens) (comment_parts-words comments) ∙ append-nil (words_of tokens);
       begins = begins;
       ends = ends;
-      text_begins = AreTokens-begin style (apart parts) (squeezed_and tokens comments) made begins;
-      text_ends = AreTokens-end style (apart parts) (squeezed_and tokens comments) made ends;
+      text_begins = AreTokens-begin style (joined_by_spaces parts) (squeezed_and tokens comments) made begins;
+      text_ends = AreTokens-end style (joined_by_spaces parts) (squeezed_and tokens comments) made ends;
     }

@@ -89,8 +89,8 @@ last_cut (h ∷ a) (k ∷ b) i j x y wx wy bi bj e =
     cc
 
 -- a text with a run is not white only
-pub HasRunOf-black : (text run : List TextItem) → HasRunOf text run → list_all is_white_item text ≡ true → ⊥
-HasRunOf-black text run h blank =
+pub HasRunOf-nonwhite : (text run : List TextItem) → HasRunOf text run → list_all is_white_item text ≡ true → ⊥
+HasRunOf-nonwhite text run h blank =
     let b = h.is_run.begins in
     let whole : text ≡ h.lead ++ b.0 ∷ (b.1 ++ h.trail) = h.whole ∙ rw (b.2) refl in
     both_ways (is_white_item b.0) b.3 (white_within h.lead (b.1 ++ h.trail) b.0 (rw (whole) at blank))
@@ -115,7 +115,7 @@ abbrev run_of : (at : ℕ) (text : List TextItem) (span : Span) → (h : HasRun 
 run_of at text span h = record { lead = h.lead; trail = h.trail; lead_white = h.lead_white; trail_white = h.trail_white; is_run = h.is_run; whole = h.whole }
 
 not_blank : (at : ℕ) (text : List TextItem) (span : Span) → HasRun at text span → list_all is_white_item text ≡ true → ⊥
-not_blank at text span h blank = HasRunOf-black text h.run (run_of at text span h) blank
+not_blank at text span h blank = HasRunOf-nonwhite text h.run (run_of at text span h) blank
 
 span_is : (s t : Span) → s.at ≡ t.at → s.len ≡ t.len → s ≡ t
 span_is s t p q = let eta : s ≡ record { at = t.at; len = t.len } = rw (← p, ← q) refl in eta
@@ -144,6 +144,6 @@ spelling-white [] = refl
 spelling-white (x ∷ white) = ap (λ r. x ∷ r) (spelling-white white)
 
 -- an item behind white is black
-pub item_black : (i : TextItem) (octets rest : List ℕ) → Stops is_white octets → octets ≡ item_spelling i ++ rest → is_white_item i ≡ false
-item_black (Plain x) octets rest stops e = rw (e) at stops
-item_black (Pair x) octets rest stops e = refl
+pub item_nonwhite : (i : TextItem) (octets rest : List ℕ) → Stops is_white octets → octets ≡ item_spelling i ++ rest → is_white_item i ≡ false
+item_nonwhite (Plain x) octets rest stops e = rw (e) at stops
+item_nonwhite (Pair x) octets rest stops e = refl

@@ -21,7 +21,7 @@ use Rattle.field_tokens.specs.declared.groups.Marks.{Marks}
 use Rattle.field_tokens.specs.Groups.{IsEnclosed, inside_octets}
 use Rattle.field_tokens.specs.TokenOctets.{is_special, is_atom_octet, is_line_octet}
 use Rattle.field_tokens.specs.Tokens.{comment_marks, quoted_marks, literal_marks, IsToken, TokenValue, AreTokens, tokens_from, IsLine, HasTokenValues}
-use Rattle.field_tokens.specs.Squeezed.{is_blank, is_there, squeezed_text, runs_of, octets_of, squeezed_values, is_comment, comments_of, words_of, apart}
+use Rattle.field_tokens.specs.Squeezed.{is_blank, is_there, squeezed_text, runs_of, octets_of, squeezed_values, is_comment, comments_of, words_of, joined_by_spaces}
 use Rattle.field_tokens.specs.Comments.{AreWritableComments}
 use Rattle.field_tokens.proofs.SqueezedValues.{squeezed_text-values, runs_and, squeezed_and, IsSqueezedAgain, squeezed_again}
 
@@ -160,17 +160,17 @@ alone tokens = append-nil (runs_of tokens)
 pub squeezed_by_octets : (style : Style) (text : List ℕ) (tokens : List TokenValue) → HasTokenValues style text tokens → squeezed_text text (tokens_from 0 tokens) ≡ squeezed_values tokens
 squeezed_by_octets style text tokens has = squeezed_text-values style text tokens has.are_tokens
 
-pub squeezed_has_tokens : (style : Style) (text : List ℕ) (tokens : List TokenValue) → HasTokenValues style text tokens → HasTokenValues style (squeezed_values tokens) (apart (runs_of tokens))
+pub squeezed_has_tokens : (style : Style) (text : List ℕ) (tokens : List TokenValue) → HasTokenValues style text tokens → HasTokenValues style (squeezed_values tokens) (joined_by_spaces (runs_of tokens))
 squeezed_has_tokens style text tokens has = record {
   is_line = squeezed_line style tokens text has.are_tokens has.is_line;
   are_tokens = rw (alone tokens) at (again_alone style text tokens has).are_tokens;
 }
 
-pub squeezed_once : (style : Style) (text : List ℕ) (tokens : List TokenValue) → HasTokenValues style text tokens → squeezed_values (apart (runs_of tokens)) ≡ squeezed_values tokens
+pub squeezed_once : (style : Style) (text : List ℕ) (tokens : List TokenValue) → HasTokenValues style text tokens → squeezed_values (joined_by_spaces (runs_of tokens)) ≡ squeezed_values tokens
 squeezed_once style text tokens has = rw (alone tokens) at (again_alone style text tokens has).squeezed_is
 
-pub squeezed_no_comments : (style : Style) (text : List ℕ) (tokens : List TokenValue) → HasTokenValues style text tokens → comments_of (apart (runs_of tokens)) ≡ []
+pub squeezed_no_comments : (style : Style) (text : List ℕ) (tokens : List TokenValue) → HasTokenValues style text tokens → comments_of (joined_by_spaces (runs_of tokens)) ≡ []
 squeezed_no_comments style text tokens has = rw (alone tokens) at (again_alone style text tokens has).comments_are
 
-pub squeezed_words : (style : Style) (text : List ℕ) (tokens : List TokenValue) → HasTokenValues style text tokens → words_of (apart (runs_of tokens)) ≡ words_of tokens
+pub squeezed_words : (style : Style) (text : List ℕ) (tokens : List TokenValue) → HasTokenValues style text tokens → words_of (joined_by_spaces (runs_of tokens)) ≡ words_of tokens
 squeezed_words style text tokens has = rw (alone tokens) at (again_alone style text tokens has).words_are

@@ -20,7 +20,7 @@ use Rattle.encoded_words.proofs.WrittenPieces.{is_plain, IsPlainPiece, HasCommen
 use Rattle.field_tokens.specs.Trees.{StandsInText, AreText, spelling, Body, Last, Before, body_octets, IsCommentBody, IsRun}
 use Rattle.field_tokens.specs.private.Bodies.{body_depth}
 use Rattle.field_tokens.specs.Comments.{IsComment, CommentValue, TextSays, BodySays, comment_of, CommentSays, RunPieces, TextPieces, White, Run, WrappedPieces, BodyPieces, CommentPieces, CommentsSay, CommentsPieces, AreWritableComments, IsWritten, IsAsciiComment, AreWritten}
-use Rattle.field_tokens.proofs.Texts.{AreText-append, spelling-append, HasRunOf-once, HasRunOf-black}
+use Rattle.field_tokens.proofs.Texts.{AreText-append, spelling-append, HasRunOf-once, HasRunOf-nonwhite}
 use Rattle.field_tokens.proofs.Insides.{IsComment-of, comment_within}
 use Rattle.field_tokens.proofs.Utf8Cuts.{body_utf8, run_of_utf8, inside_utf8}
 use Rattle.field_tokens.proofs.LinePieces.{AreTextItems-text, run_text, run_plain, HoldsPiece, CommentPieces-hold, CommentPieces-there}
@@ -44,8 +44,8 @@ spaced-joined [] some = absurd (omega (arith, some))
 spaced-joined (w ∷ ws) some = ap (λ r. 32 ∷ r) (sym (joined-spaced w ws))
 
 -- Plain pieces as a run.
-plain_black : (x : ℕ) → is_plain x ≡ true → is_white x ≡ false
-plain_black x h = grind (arith, nat_tests)
+plain_nonwhite : (x : ℕ) → is_plain x ≡ true → is_white x ≡ false
+plain_nonwhite x h = grind (arith, nat_tests)
 
 plain_quotes : (x : ℕ) → is_plain x ≡ true → not (x == 92) ≡ true
 plain_quotes x h = grind (arith, nat_tests)
@@ -64,27 +64,27 @@ all_weaker q imp [] all = tt
 all_weaker q imp (w ∷ ws) all = (pass-weaker is_plain q imp w all.0.plain, all_weaker q imp ws all.1)
 
 -- the last octet is not white
-record EndsBlack (octets : List ℕ) : Type 0 where
+record EndsNonwhite (octets : List ℕ) : Type 0 where
   others : List ℕ
   last : ℕ
   whole : octets ≡ others ++ last ∷ []
-  black : is_white last ≡ false
+  nonwhite : is_white last ≡ false
 
-piece_ends : (x : ℕ) (xs : List ℕ) → list_all is_plain (x ∷ xs) ≡ true → EndsBlack (x ∷ xs)
-piece_ends x [] all = record { others = []; last = x; whole = refl; black = plain_black x (and_parts (is_plain x) true all).0 }
+piece_ends : (x : ℕ) (xs : List ℕ) → list_all is_plain (x ∷ xs) ≡ true → EndsNonwhite (x ∷ xs)
+piece_ends x [] all = record { others = []; last = x; whole = refl; nonwhite = plain_nonwhite x (and_parts (is_plain x) true all).0 }
 piece_ends x (y ∷ xs) all =
     let e = piece_ends y xs (and_parts (is_plain x) (list_all is_plain (y ∷ xs)) all).1 in
-    record { others = x ∷ e.others; last = e.last; whole = ap (λ r. x ∷ r) e.whole; black = e.black }
+    record { others = x ∷ e.others; last = e.last; whole = ap (λ r. x ∷ r) e.whole; nonwhite = e.nonwhite }
 
-one_ends : (w : List ℕ) → IsPlainPiece w → EndsBlack w
+one_ends : (w : List ℕ) → IsPlainPiece w → EndsNonwhite w
 one_ends [] is = absurd (omega (arith, is.some))
 one_ends (x ∷ w) is = piece_ends x w is.plain
 
-joined_ends : (w : List ℕ) (ws : List (List ℕ)) → AllByRecursion IsPlainPiece (w ∷ ws) → EndsBlack (join_with_byte 32 (w ∷ ws))
+joined_ends : (w : List ℕ) (ws : List (List ℕ)) → AllByRecursion IsPlainPiece (w ∷ ws) → EndsNonwhite (join_with_byte 32 (w ∷ ws))
 joined_ends w [] all = one_ends w all.0
 joined_ends w (v ∷ ws) all =
     let e = joined_ends v ws all.1 in
-    record { others = w ++ 32 ∷ e.others; last = e.last; whole = ap (λ r. w ++ 32 ∷ r) e.whole ∙ sym (append_assoc w (32 ∷ e.others) (e.last ∷ [])); black = e.black }
+    record { others = w ++ 32 ∷ e.others; last = e.last; whole = ap (λ r. w ++ 32 ∷ r) e.whole ∙ sym (append_assoc w (32 ∷ e.others) (e.last ∷ [])); nonwhite = e.nonwhite }
 
 joined_run : (pieces : List (List ℕ)) → 0 < length pieces → AllByRecursion IsPlainPiece pieces → IsRun (map Plain (join_with_byte 32 pieces))
 joined_run [] some all = absurd (omega (arith, some))
@@ -92,8 +92,8 @@ joined_run ([] ∷ ws) some all = absurd (omega (arith, all.0.some))
 joined_run ((x ∷ w) ∷ ws) some all =
     let e = joined_ends (x ∷ w) ws all in
     record {
-      begins = (Plain x, map Plain (w ++ spaced ws), ap (map Plain) (joined-spaced (x ∷ w) ws), plain_black x (and_parts (is_plain x) (list_all is_plain w) all.0.plain).0);
-      ends = (map Plain e.others, Plain e.last, ap (map Plain) e.whole ∙ map-append Plain e.others (e.last ∷ []), e.black);
+      begins = (Plain x, map Plain (w ++ spaced ws), ap (map Plain) (joined-spaced (x ∷ w) ws), plain_nonwhite x (and_parts (is_plain x) (list_all is_plain w) all.0.plain).0);
+      ends = (map Plain e.others, Plain e.last, ap (map Plain) e.whole ∙ map-append Plain e.others (e.last ∷ []), e.nonwhite);
     }
 
 -- Text that is written: a space, the pieces with a space between two, and a space.
@@ -137,8 +137,8 @@ run_spaced false run units pieces is are u has given =
 
 text_spaced : (text : List TextItem) (pieces : List (List ℕ)) (says : Option (List UnitValue)) → AreText text → IsUtf8 (spelling text) → TextPieces text pieces → TextSays text says → SpacedText pieces says
 text_spaced text pieces None are u (White blank none) said = rw none (record { made = Plain 32 ∷ []; are_text = (space_stands, tt); spelled = refl; says = refl })
-text_spaced text pieces (Some units) are u (White blank none) said = absurd (HasRunOf-black text said.0 said.1 blank)
-text_spaced text pieces None are u (Run run h given) said = absurd (HasRunOf-black text run h said)
+text_spaced text pieces (Some units) are u (White blank none) said = absurd (HasRunOf-nonwhite text said.0 said.1 blank)
+text_spaced text pieces None are u (Run run h given) said = absurd (HasRunOf-nonwhite text run h said)
 text_spaced text pieces (Some units) are u (Run run h given) said =
     let same : said.0 ≡ run = (HasRunOf-once text said.0 run said.1 h).1 in
     run_spaced (list_all is_ascii (spelling run)) run units pieces h.is_run (run_text text run h are) (run_of_utf8 text run h u) (subst (λ r. HasCommentUnits (spelling r) units) same said.2) given

@@ -1,6 +1,7 @@
 -- What a comment says, and how it is written in ASCII (RFC 5322, 3.2.2; RFC 2047, 5, rule 2; RFC 6857, 3.2).
 use Rattle.std.specs.Prelude.{◌≡◌, ◌↔◌, ◌<◌, ℕ, Bool, true, false, List, [], ◌∷◌, ◌++◌, length, Option, Some, None, ⊤, IsUtf8}
 use Rattle.std.specs.List.{AllByRecursion, list_all, join_with_byte}
+use Rattle.mail_wire.specs.Characters.{space, left_parenthesis, right_parenthesis}
 use Rattle.mail_wire.specs.Octets.{is_ascii}
 use Rattle.encoded_words.specs.Words.{UnitValue}
 use Rattle.encoded_words.specs.CommentUnits.{TextItem, is_white_item, HasCommentUnits}
@@ -42,12 +43,12 @@ units_then (Some units) more = UnitsThen units more
 -- What the content of a comment says: its texts and nested comments, in their order (RFC 5322, 3.2.2).
 abbrev pub BodySays : Body → CommentValue → Type 0
 BodySays (Last text) value = (units : Option (List UnitValue)) × TextSays text units × (value ≡ units_then units End)
-BodySays (Before text inner more) value = (units : Option (List UnitValue)) × (nested behind : CommentValue) × TextSays text units × BodySays inner nested × BodySays more behind
-    × (value ≡ units_then units (NestedThen nested behind))
+BodySays (Before text inner more) value = (units : Option (List UnitValue)) × (nested following : CommentValue) × TextSays text units × BodySays inner nested × BodySays more following
+    × (value ≡ units_then units (NestedThen nested following))
 
 -- a comment with this between its parentheses
 abbrev pub comment_of : Body → List ℕ
-comment_of body = 40 ∷ (body_octets body ++ 41 ∷ [])
+comment_of body = left_parenthesis ∷ (body_octets body ++ right_parenthesis ∷ [])
 
 -- the octets are a comment that says this
 pub record CommentSays (octets : List ℕ) (value : CommentValue) : Type 0 where
@@ -69,14 +70,14 @@ pub data TextPieces (text : List TextItem) (pieces : List (List ℕ)) : Type 0 w
 -- a comment is one piece where it is ASCII, and else its parentheses are a piece each, with the pieces between them
 abbrev pub WrappedPieces : Bool → List ℕ → (List (List ℕ) → Type 0) → List (List ℕ) → Type 0
 WrappedPieces true octets Inner pieces = pieces ≡ octets ∷ []
-WrappedPieces false octets Inner pieces = (inner : List (List ℕ)) × Inner inner × (pieces ≡ (40 ∷ []) ∷ (inner ++ (41 ∷ []) ∷ []))
+WrappedPieces false octets Inner pieces = (inner : List (List ℕ)) × Inner inner × (pieces ≡ (left_parenthesis ∷ []) ∷ (inner ++ (right_parenthesis ∷ []) ∷ []))
 
 -- The pieces of a comment's content in ASCII: those of its texts and of its nested comments, in their order (RFC 2047, 5, rule 2).
 abbrev pub BodyPieces : Body → List (List ℕ) → Type 0
 BodyPieces (Last text) pieces = TextPieces text pieces
-BodyPieces (Before text inner more) pieces = (first nested behind : List (List ℕ)) × TextPieces text first
-    × WrappedPieces (list_all is_ascii (comment_of inner)) (comment_of inner) (BodyPieces inner) nested × BodyPieces more behind
-    × (pieces ≡ first ++ (nested ++ behind))
+BodyPieces (Before text inner more) pieces = (first nested following : List (List ℕ)) × TextPieces text first
+    × WrappedPieces (list_all is_ascii (comment_of inner)) (comment_of inner) (BodyPieces inner) nested × BodyPieces more following
+    × (pieces ≡ first ++ (nested ++ following))
 
 -- the pieces of a comment
 pub record CommentPieces (octets : List ℕ) (pieces : List (List ℕ)) : Type 0 where
@@ -104,9 +105,9 @@ AreWritableComments (comment ∷ comments) = IsComment comment × IsUtf8 comment
 
 -- the pieces, with a space between two, are an ASCII comment that says this
 pub record IsWritten (value : CommentValue) (pieces : List (List ℕ)) : Type 0 where
-  pub is_comment : IsComment (join_with_byte 32 pieces)
-  pub says : CommentSays (join_with_byte 32 pieces) value
-  pub ascii : list_all is_ascii (join_with_byte 32 pieces) ≡ true
+  pub is_comment : IsComment (join_with_byte space pieces)
+  pub says : CommentSays (join_with_byte space pieces) value
+  pub ascii : list_all is_ascii (join_with_byte space pieces) ≡ true
 
 -- an ASCII comment
 pub record IsAsciiComment (octets : List ℕ) : Type 0 where
@@ -119,7 +120,7 @@ pub record AreWritten (comments : List (List ℕ)) (values : List CommentValue) 
   pub made : List (List ℕ)
   pub are_comments : AllByRecursion IsAsciiComment made
   pub say : CommentsSay made values
-  pub joined : join_with_byte 32 made ≡ join_with_byte 32 pieces
+  pub joined : join_with_byte space made ≡ join_with_byte space pieces
   pub none : (made ≡ []) ↔ (comments ≡ [])
 
 -- a piece that can stand on a line of its own

@@ -1,6 +1,7 @@
 -- Squeezed text: the tokens without comments, with a space where a gap or a comment stood between two of them (RFC 5322, 3.2.2 and 3.2.3).
 use Rattle.std.specs.Prelude.{◌≡◌, ℕ, ◌⊎◌, Bool, true, false, not, List, [], ◌∷◌, ◌++◌, map, filter}
 use Rattle.std.specs.List.{flat_map, join_with_byte, slice_split}
+use Rattle.mail_wire.specs.Characters.{space as space_octet}
 use Rattle.field_tokens.specs.declared.Style.{Style}
 use Rattle.field_tokens.specs.declared.Token.{Token}
 use Rattle.field_tokens.specs.declared.TokenKind.{TokenKind}
@@ -27,7 +28,7 @@ is_there (token ∷ tokens) = true
 
 -- the runs of tokens between gaps and comments, joined by spaces
 abbrev pub squeezed_text : List ℕ → List Token → List ℕ
-squeezed_text text tokens = join_with_byte 32 (map (run_octets text) (filter is_there (slice_split (λ token. is_blank token.kind) tokens)))
+squeezed_text text tokens = join_with_byte space_octet (map (run_octets text) (filter is_there (slice_split (λ token. is_blank token.kind) tokens)))
 
 -- The tokens are neighbours among the tokens of the text.
 pub record StandTogether (text : List ℕ) (tokens : List Token) : Type 0 where
@@ -50,7 +51,7 @@ octets_of tokens = flat_map (λ token. token.octets) tokens
 
 -- The octets of tokens without comments, with a space where a gap or a comment stood between two of them.
 abbrev pub squeezed_values : List TokenValue → List ℕ
-squeezed_values tokens = join_with_byte 32 (map octets_of (runs_of tokens))
+squeezed_values tokens = join_with_byte space_octet (map octets_of (runs_of tokens))
 
 -- The token is a comment (RFC 5322, 3.2.2).
 abbrev pub is_comment : TokenKind → Bool
@@ -98,13 +99,13 @@ is_special_kind Comment = false
 
 -- one space between tokens
 abbrev pub space : TokenValue
-space = record { kind = Gap; octets = 32 ∷ [] }
+space = record { kind = Gap; octets = space_octet ∷ [] }
 
 -- lists of tokens, with a space between any two
-abbrev pub apart : List (List TokenValue) → List TokenValue
-apart [] = []
-apart (part ∷ []) = part
-apart (part ∷ next ∷ parts) = part ++ space ∷ apart (next ∷ parts)
+abbrev pub joined_by_spaces : List (List TokenValue) → List TokenValue
+joined_by_spaces [] = []
+joined_by_spaces (part ∷ []) = part
+joined_by_spaces (part ∷ next ∷ parts) = part ++ space ∷ joined_by_spaces (next ∷ parts)
 
 -- Tokens that may stand beside a space: the first one and the last one are no gaps.
 pub record IsPart (style : Style) (part : List TokenValue) : Type 0 where

@@ -1,6 +1,7 @@
 -- The tokens of an unfolded text (RFC 5322, 3.2; RFC 2045, 5.1).
 use Rattle.std.specs.Prelude.{◌≡◌, ℕ, ◌+◌, ◌<◌, true, false, List, [], ◌∷◌, ◌++◌, length, take, drop, Contains, IsUtf8}
 use Rattle.std.specs.List.{list_all}
+use Rattle.mail_wire.specs.Characters.{quote, left_parenthesis, right_parenthesis, left_bracket, right_bracket}
 use Rattle.mail_wire.specs.Octets.{is_white}
 use Rattle.mail_wire.specs.Spans.{IsSpan}
 use Rattle.mail_wire.specs.declared.values.Span.{Span}
@@ -15,15 +16,15 @@ use Rattle.field_tokens.specs.Groups.{IsEnclosed}
 
 -- A comment stands between parentheses, and comments may nest, 64 deep at most (RFC 5322, 3.2.2; the depth is a limit of this reader).
 abbrev pub comment_marks : Marks
-comment_marks = record { open_mark = 40; close_mark = 41; limit = 64; holds_controls = true }
+comment_marks = record { open_mark = left_parenthesis; close_mark = right_parenthesis; limit = 64; holds_controls = true }
 
 -- A quoted string stands between double quotes (RFC 5322, 3.2.4).
 abbrev pub quoted_marks : Marks
-quoted_marks = record { open_mark = 34; close_mark = 34; limit = 1; holds_controls = true }
+quoted_marks = record { open_mark = quote; close_mark = quote; limit = 1; holds_controls = true }
 
 -- A domain literal stands between square brackets, and controls may not stand in it (RFC 5322, 3.4.1).
 abbrev pub literal_marks : Marks
-literal_marks = record { open_mark = 91; close_mark = 93; limit = 1; holds_controls = false }
+literal_marks = record { open_mark = left_bracket; close_mark = right_bracket; limit = 1; holds_controls = false }
 
 -- The octets are a token of this kind, where rest follows. A gap is the longest run of white, and an atom the longest
 -- run of its octets. In Mime style there are no literals.

@@ -1,6 +1,7 @@
 -- Comments as trees (RFC 5322, 3.2.2).
 use Rattle.std.specs.Prelude.{◌≡◌, ◌≢◌, ℕ, ◌+◌, true, false, List, [], ◌∷◌, ◌++◌, length, Option, Some, None, ⊤}
 use Rattle.std.specs.List.{AllByRecursion, flat_map, list_all}
+use Rattle.mail_wire.specs.Characters.{left_parenthesis, right_parenthesis, backslash}
 use Rattle.mail_wire.specs.declared.values.Span.{Span}
 use Rattle.encoded_words.specs.CommentUnits.{TextItem, Plain, Pair, item_spelling, is_white_item}
 use Rattle.field_tokens.specs.declared.Token.{Token}
@@ -12,7 +13,7 @@ use Rattle.field_tokens.specs.Tokens.{octets_at}
 
 -- An octet of a comment's text that stands by itself is no parenthesis and no backslash.
 abbrev pub StandsInText : TextItem → Type 0
-StandsInText (Plain x) = (x ≢ 40) × (x ≢ 41) × (x ≢ 92)
+StandsInText (Plain x) = (x ≢ left_parenthesis) × (x ≢ right_parenthesis) × (x ≢ backslash)
 StandsInText (Pair x) = ⊤
 
 -- A comment's text: no parenthesis and no backslash, but in quoted pairs (RFC 5322, 3.2.2).
@@ -31,7 +32,7 @@ pub data Body : Type 0 where
 -- The octets of a comment's content, with the parentheses of the comments in it.
 abbrev pub body_octets : Body → List ℕ
 body_octets (Last text) = spelling text
-body_octets (Before text inner more) = spelling text ++ 40 ∷ (body_octets inner ++ 41 ∷ body_octets more)
+body_octets (Before text inner more) = spelling text ++ left_parenthesis ∷ (body_octets inner ++ right_parenthesis ∷ body_octets more)
 
 -- All texts in a comment's content are texts of comments (RFC 5322, 3.2.2).
 abbrev pub IsCommentBody : Body → Type 0
@@ -75,14 +76,14 @@ run_then (Some span) more = RunThen span more
 abbrev pub HasItems : ℕ → Body → Tree → Type 0
 HasItems at (Last text) tree = (run : Option Span) × GivesRun at text run × (tree ≡ run_then run End)
 HasItems at (Before text inner more) tree =
-    (run : Option Span) × (nested behind : Tree) × GivesRun at text run × HasItems (at + length (spelling text) + 1) inner nested
-    × HasItems (at + length (spelling text) + length (body_octets inner) + 2) more behind × (tree ≡ run_then run (NestedThen nested behind))
+    (run : Option Span) × (nested following : Tree) × GivesRun at text run × HasItems (at + length (spelling text) + 1) inner nested
+    × HasItems (at + length (spelling text) + length (body_octets inner) + 2) more following × (tree ≡ run_then run (NestedThen nested following))
 
 -- the token's octets are parentheses around a body, and the tree is the body's
 pub record HasComment (text : List ℕ) (token : Token) (tree : Tree) : Type 0 where
   pub body : Body
   pub is_body : IsCommentBody body
-  pub spelled : octets_at text token.span ≡ 40 ∷ (body_octets body ++ 41 ∷ [])
+  pub spelled : octets_at text token.span ≡ left_parenthesis ∷ (body_octets body ++ right_parenthesis ∷ [])
   pub items : HasItems (token.span.at + 1) body tree
 
 -- one item before a tree

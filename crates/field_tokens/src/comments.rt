@@ -36,12 +36,12 @@ fn write_text<'a>(
     requires { IsUtf8 octets.now }
     ensures { IfOk result (λ x. WritesText octets.now x.0 x.1.now made.old made.new) }
 {
-    let (_, behind) = split_white(octets);
-    let (len, after) = split_run(behind);
+    let (_, following) = split_white(octets);
+    let (len, after) = split_run(following);
     if len == 0 {
         return Ok((true, after));
     }
-    let (run, _) = behind.split_at(len);
+    let (run, _) = following.split_at(len);
     let ascii = write_run(alloc, run, made)?;
     Ok((ascii, after))
 }
@@ -76,12 +76,12 @@ fn write_nested<'a>(
     let mut ascii = true;
     loop {
         let (ascii_text, after) = write_text(alloc, rest, made)?;
-        let (mark, behind) = split_mark(after);
+        let (mark, following) = split_mark(after);
         if mark == b')' {
-            let (comment, _) = octets.split_at(octets.len() - behind.len());
+            let (comment, _) = octets.split_at(octets.len() - following.len());
             let ascii_comment = ascii & ascii_text;
             end_comment(comment, ascii_comment, start, made)?;
-            return Ok((ascii_comment, behind));
+            return Ok((ascii_comment, following));
         }
         let (ascii_nested, next) = write_nested(alloc, after, levels - 1, made)?;
         ascii = ascii & ascii_text & ascii_nested;
@@ -112,11 +112,11 @@ pub fn write_comments(
     ensures { OnOk result (AddsLines (CommentsPieces (comments_of (values_of lexemes.entry))) made.old made.new) }
 {
     let mut rest = lexemes;
-    while let Some((lexeme, behind)) = rest.split_first() {
+    while let Some((lexeme, following)) = rest.split_first() {
         if is_comment(lexeme.kind) {
             write_comment(alloc, lexeme.octets, made)?;
         }
-        rest = behind;
+        rest = following;
     }
     Ok(())
 }

@@ -62,13 +62,13 @@ fn group_step(marks: Marks, depth: usize, rest: &[u8]) -> Option<(usize, &[u8])>
         return None;
     };
     if *octet == b'\\' {
-        let [quoted, behind @ ..] = after else {
+        let [quoted, following @ ..] = after else {
             return None;
         };
         if !may_stand(marks, *quoted) {
             return None;
         }
-        return Some((depth, behind));
+        return Some((depth, following));
     }
     if *octet == marks.close_mark {
         return Some((depth - 1, after));

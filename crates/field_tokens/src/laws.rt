@@ -1,7 +1,7 @@
 //! Laws of texts and their tokens.
 ghost use Rattle.std.specs.Prelude.{◌≡◌, ℕ, List, [], IsUtf8};
 ghost use Rattle.std.specs.List.{flat_map};
-ghost use Rattle.field_tokens.specs.Squeezed.{squeezed_text, runs_of, squeezed_values, comments_of, words_of, apart};
+ghost use Rattle.field_tokens.specs.Squeezed.{squeezed_text, runs_of, squeezed_values, comments_of, words_of, joined_by_spaces};
 ghost use Rattle.field_tokens.specs.Tokens.{TokenValue, tokens_from, HasTokens, HasTokenValues, octets_at};
 ghost use Rattle.field_tokens.specs.Trees.{Tree, HasComment};
 ghost use Rattle.field_tokens.specs.Comments.{IsComment, CommentValue, CommentSays, CommentPieces, IsWritten};
@@ -32,13 +32,13 @@ pub fn squeezed_texts_have_tokens()
     ensures text { (style : Style) (text : List ℕ) (tokens : List TokenValue) → HasTokenValues style text tokens
         → squeezed_text text (tokens_from 0 tokens) ≡ squeezed_values tokens }
     ensures tokens { (style : Style) (text : List ℕ) (tokens : List TokenValue) → HasTokenValues style text tokens
-        → HasTokenValues style (squeezed_values tokens) (apart (runs_of tokens)) }
+        → HasTokenValues style (squeezed_values tokens) (joined_by_spaces (runs_of tokens)) }
     ensures again { (style : Style) (text : List ℕ) (tokens : List TokenValue) → HasTokenValues style text tokens
-        → squeezed_values (apart (runs_of tokens)) ≡ squeezed_values tokens }
+        → squeezed_values (joined_by_spaces (runs_of tokens)) ≡ squeezed_values tokens }
     ensures comments { (style : Style) (text : List ℕ) (tokens : List TokenValue) → HasTokenValues style text tokens
-        → comments_of (apart (runs_of tokens)) ≡ [] }
+        → comments_of (joined_by_spaces (runs_of tokens)) ≡ [] }
     ensures words { (style : Style) (text : List ℕ) (tokens : List TokenValue) → HasTokenValues style text tokens
-        → words_of (apart (runs_of tokens)) ≡ words_of tokens }
+        → words_of (joined_by_spaces (runs_of tokens)) ≡ words_of tokens }
 {}
 
 /// A comment says one thing, and has one list of pieces.

@@ -161,9 +161,9 @@ impl<'a, 'b> Lexemes<'a, 'b> {
     /// The first so many tokens, and those behind them. Where there are fewer, these are all, and none stands behind.
     pub fn split_at(self, count: usize) -> (Lexemes<'a, 'b>, Lexemes<'a, 'b>)
         ensures front { values_of result.0 ≡ take count (values_of self.entry) }
-        ensures behind { values_of result.1 ≡ drop count (values_of self.entry) }
+        ensures following { values_of result.1 ≡ drop count (values_of self.entry) }
     {
-        let (front, behind) = self.marks.split_at(count.min(self.marks.len()));
+        let (front, following) = self.marks.split_at(count.min(self.marks.len()));
         let mut rest = self.text;
         for mark in front {
             let (_, after) = rest.split_at(mark.len().min(rest.len()));
@@ -176,7 +176,7 @@ impl<'a, 'b> Lexemes<'a, 'b> {
             },
             Lexemes {
                 text: rest,
-                marks: behind,
+                marks: following,
             },
         )
     }

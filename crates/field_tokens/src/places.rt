@@ -8,8 +8,8 @@ pub fn octets_of(text: &[u8], span: Span) -> &[u8]
     requires { span.at + span.len ≤ length text.now }
     ensures { result.now ≡ octets_at text.now span }
 {
-    let (_, behind) = text.split_at(span.at);
-    let (octets, _) = behind.split_at(span.len);
+    let (_, following) = text.split_at(span.at);
+    let (octets, _) = following.split_at(span.len);
     octets
 }
 

@@ -8,10 +8,10 @@ use crate::places::octets_of;
 use mail_wire::{Memory, Octets};
 use std::alloc::Global;
 
-fn push_token(made: &mut Octets, is_apart: bool, octets: &[u8]) -> Result<(), Memory>
-    ensures { OnOk result (made.new ≡ made.old ++ ((if is_apart then 32 ∷ [] else []) ++ octets.now)) }
+fn push_token(made: &mut Octets, has_space_before: bool, octets: &[u8]) -> Result<(), Memory>
+    ensures { OnOk result (made.new ≡ made.old ++ ((if has_space_before then 32 ∷ [] else []) ++ octets.now)) }
 {
-    if is_apart {
+    if has_space_before {
         made.push(b' ')?;
     }
     made.push_slice(octets)
@@ -24,13 +24,13 @@ pub fn squeezed(alloc: Global, text: &[u8], tokens: &[Token]) -> Result<Octets, 
     ensures { IfOk result (λ made. made ≡ squeezed_text text.now tokens.now) }
 {
     let mut made = Octets::new(alloc);
-    let mut is_apart = false;
+    let mut has_space_before = false;
     for token in tokens {
         if is_blank(token.kind) {
-            is_apart = !made.is_empty();
+            has_space_before = !made.is_empty();
         } else {
-            push_token(&mut made, is_apart, octets_of(text, token.span))?;
-            is_apart = false;
+            push_token(&mut made, has_space_before, octets_of(text, token.span))?;
+            has_space_before = false;
         }
     }
     Ok(made)

@@ -21,10 +21,10 @@ fn item_rest(octets: &[u8]) -> Option<&[u8]>
         return None;
     };
     if *octet == b'\\' {
-        let [_, behind @ ..] = after else {
+        let [_, following @ ..] = after else {
             return None;
         };
-        return Some(behind);
+        return Some(following);
     }
     if *octet == b'(' || *octet == b')' {
         return None;
@@ -54,12 +54,12 @@ fn split_text(end: usize, octets: &[u8]) -> (Option<Span>, &[u8])
     requires { length octets.now ≤ end }
     ensures { SplitsText end octets.now result.0 result.1.now }
 {
-    let (_, behind) = split_white(octets);
-    let (len, after) = split_run(behind);
+    let (_, following) = split_white(octets);
+    let (len, after) = split_run(following);
     if len == 0 {
         return (None, after);
     }
-    let at = end - behind.len();
+    let at = end - following.len();
     (Some(Span { at, len }), after)
 }
 
@@ -96,11 +96,11 @@ fn read_comment(
     loop {
         let (run, after) = split_text(end, rest);
         push_run(&mut items, run)?;
-        let (mark, behind) = split_mark(after);
+        let (mark, following) = split_mark(after);
         if mark == b')' {
-            return Ok((Comment { items }, behind));
+            return Ok((Comment { items }, following));
         }
-        let (comment, next) = read_comment(alloc, end, behind, levels - 1)?;
+        let (comment, next) = read_comment(alloc, end, following, levels - 1)?;
         push_nested(&mut items, comment)?;
         rest = next;
     }

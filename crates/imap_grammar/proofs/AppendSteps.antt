@@ -21,11 +21,11 @@ use Rattle.imap_words.proofs.TableSteps.{is_table, word_never}
 use Rattle.imap_words.proofs.Starting.{or_never}
 use Rattle.imap_words.proofs.StringThen.{counted_viable}
 use Rattle.imap_words.proofs.Parting.{regroup, second_same}
-use Rattle.imap_grammar.proofs.Optional.{Followed, behind_it, before_it, told, untold, maybe_viable, maybe_avoids, avoids_at, leaves_by}
+use Rattle.imap_grammar.proofs.Optional.{Followed, following_it, before_it, told, untold, maybe_viable, maybe_avoids, avoids_at, leaves_by}
 use Rattle.imap_grammar.specs.declared.command.Command.{Command}
 use Rattle.imap_grammar.specs.Flags.{IsFlagList, HasFlags, flags_of}
 use Rattle.imap_grammar.specs.Commands.{at_octet, Announced, AppendFront, IsBareCommand, IsDataFront, IsDataEnd, IsFlagBits, IsDateAndSpace, IsAppend, some_flags, utf8_words}
-use Rattle.imap_grammar.specs.Awaiting.{IsBehindAppendName, IsBehindData}
+use Rattle.imap_grammar.specs.Awaiting.{IsAfterAppendName, IsAfterData}
 use Rattle.imap_grammar.proofs.CommandSteps.{spaced_avoids}
 use Rattle.imap_grammar.proofs.FlagSteps.{InList}
 
@@ -96,62 +96,62 @@ data_end_viable false = crlf_viable
 data_end_viable true = then_viable IsCloseParenthesis _ (octet_viable 41) (λ _. crlf_viable)
 
 module _ (mailbox : List ℕ) where
-  abbrev pub BehindFront : ℕ → Option (List ℕ) → Announced → List ℕ → Command → Type 0
-  BehindFront flags date announced = Then (IsCounted announced.size) (IsBehindData mailbox flags date announced.utf8)
+  abbrev pub AfterFront : ℕ → Option (List ℕ) → Announced → List ℕ → Command → Type 0
+  AfterFront flags date announced = Then (IsCounted announced.size) (IsAfterData mailbox flags date announced.utf8)
 
-  abbrev pub BehindDate : ℕ → Option (List ℕ) → List ℕ → Command → Type 0
-  BehindDate flags date = Then IsDataFront (BehindFront flags date)
+  abbrev pub AfterDate : ℕ → Option (List ℕ) → List ℕ → Command → Type 0
+  AfterDate flags date = Then IsDataFront (AfterFront flags date)
 
-  abbrev pub BehindFlags : ℕ → List ℕ → Command → Type 0
-  BehindFlags flags = Then IsDateAndSpace (BehindDate flags)
+  abbrev pub AfterFlags : ℕ → List ℕ → Command → Type 0
+  AfterFlags flags = Then IsDateAndSpace (AfterDate flags)
 
-  abbrev pub BehindSpace : List ℕ → Command → Type 0
-  BehindSpace = Then IsFlagBits BehindFlags
+  abbrev pub AfterSpace : List ℕ → Command → Type 0
+  AfterSpace = Then IsFlagBits AfterFlags
 
   -- the space that stands before a part is read first
-  pub spaces_turned : (text : List ℕ) → Continues (IsBehindAppendName mailbox) text (After IsSpace BehindSpace) text
+  pub spaces_turned : (text : List ℕ) → Continues (IsAfterAppendName mailbox) text (After IsSpace AfterSpace) text
   spaces_turned text =
-      and_then _ _ _ _ _ _ (second_same (Maybe (After IsSpace IsFlagList)) (λ flags. Then (Maybe (After IsSpace IsDateTime)) (λ date. After IsSpace (BehindDate (some_flags flags) date))) (λ flags. After IsSpace (BehindFlags (some_flags flags)))
-      (λ flags. behind_it IsSpace IsDateTime (BehindDate (some_flags flags))) (λ flags. before_it IsSpace IsDateTime (BehindDate (some_flags flags))) text)
-      (and_then _ _ _ _ _ _ (same_continues _ (After IsSpace (Then (Followed IsSpace IsFlagList) (λ flags. BehindFlags (some_flags flags)))) text (behind_it IsSpace IsFlagList (λ flags. BehindFlags (some_flags flags))) (before_it IsSpace IsFlagList (λ flags. BehindFlags (some_flags flags))))
-      (second_same IsSpace (λ _. Then (Followed IsSpace IsFlagList) (λ flags. BehindFlags (some_flags flags))) (λ _. BehindSpace) (λ _. told IsSpace IsFlagList some_flags flags_of (λ flags. refl) BehindFlags) (λ _. untold IsSpace IsFlagList some_flags flags_of (λ flags. refl) BehindFlags) text))
+      and_then _ _ _ _ _ _ (second_same (Maybe (After IsSpace IsFlagList)) (λ flags. Then (Maybe (After IsSpace IsDateTime)) (λ date. After IsSpace (AfterDate (some_flags flags) date))) (λ flags. After IsSpace (AfterFlags (some_flags flags)))
+      (λ flags. following_it IsSpace IsDateTime (AfterDate (some_flags flags))) (λ flags. before_it IsSpace IsDateTime (AfterDate (some_flags flags))) text)
+      (and_then _ _ _ _ _ _ (same_continues _ (After IsSpace (Then (Followed IsSpace IsFlagList) (λ flags. AfterFlags (some_flags flags)))) text (following_it IsSpace IsFlagList (λ flags. AfterFlags (some_flags flags))) (before_it IsSpace IsFlagList (λ flags. AfterFlags (some_flags flags))))
+      (second_same IsSpace (λ _. Then (Followed IsSpace IsFlagList) (λ flags. AfterFlags (some_flags flags))) (λ _. AfterSpace) (λ _. told IsSpace IsFlagList some_flags flags_of (λ flags. refl) AfterFlags) (λ _. untold IsSpace IsFlagList some_flags flags_of (λ flags. refl) AfterFlags) text))
 
-  pub name_behind : (text : List ℕ) → Leaves (IsBehindAppendName mailbox) text (After IsSpace BehindSpace) text
-  name_behind text = leaves_by (After IsSpace BehindSpace) (leaves_all (IsBehindAppendName mailbox) text) spaces_turned
+  pub name_after : (text : List ℕ) → Leaves (IsAfterAppendName mailbox) text (After IsSpace AfterSpace) text
+  name_after text = leaves_by (After IsSpace AfterSpace) (leaves_all (IsAfterAppendName mailbox) text) spaces_turned
 
-  pub data_viable : (flags : ℕ) (date : Option (List ℕ)) (announced : Announced) → IsViable (BehindFront flags date announced) []
+  pub data_viable : (flags : ℕ) (date : Option (List ℕ)) (announced : Announced) → IsViable (AfterFront flags date announced) []
   data_viable flags date announced = then_viable (IsCounted announced.size) _ (counted_viable announced.size) (λ octets. then_viable (IsDataEnd announced.utf8) _ (data_end_viable announced.utf8) (λ _. is_viable _))
 
-  pub date_viable : (flags : ℕ) (date : Option (List ℕ)) → IsViable (BehindDate flags date) []
+  pub date_viable : (flags : ℕ) (date : Option (List ℕ)) → IsViable (AfterDate flags date) []
   date_viable flags date = then_viable IsDataFront _ front_viable (data_viable flags date)
 
-  pub flags_viable : (flags : ℕ) → IsViable (BehindFlags flags) []
+  pub flags_viable : (flags : ℕ) → IsViable (AfterFlags flags) []
   flags_viable flags = then_viable IsDateAndSpace _ (maybe_viable None IsDateTime Some 34 date_only) (date_viable flags)
 
-  pub spaced_viable : IsViable BehindSpace []
+  pub spaced_viable : IsViable AfterSpace []
   spaced_viable = then_viable IsFlagBits _ (maybe_viable 0 (HasFlags IsFlagList) (λ n. n) 40 list_only) flags_viable
 
-  pub flags_avoid : (flags : ℕ) → Avoids (at_octet 40) (BehindFlags flags)
+  pub flags_avoid : (flags : ℕ) → Avoids (at_octet 40) (AfterFlags flags)
   flags_avoid flags =
-      maybe_avoids None IsDateTime Some 34 date_only (at_octet 40) (BehindDate flags) (then_avoids (at_octet 40) IsDoubleQuote _ (octet_avoids (at_octet 40) 34 refl)) (λ date. then_avoids (at_octet 40) IsDataFront _ front_avoids_open)
+      maybe_avoids None IsDateTime Some 34 date_only (at_octet 40) (AfterDate flags) (then_avoids (at_octet 40) IsDoubleQuote _ (octet_avoids (at_octet 40) 34 refl)) (λ date. then_avoids (at_octet 40) IsDataFront _ front_avoids_open)
 
-  pub date_avoids : (flags : ℕ) (date : Option (List ℕ)) → Avoids (at_octet 34) (BehindDate flags date)
+  pub date_avoids : (flags : ℕ) (date : Option (List ℕ)) → Avoids (at_octet 34) (AfterDate flags date)
   date_avoids flags date = then_avoids (at_octet 34) IsDataFront _ front_avoids_quote
 
-  pub behind_append_viable : IsViable (IsBehindAppendName mailbox) []
-  behind_append_viable = (spaces_turned []).stops never More (then_viable IsSpace _ (octet_viable 32) (λ _. spaced_viable))
+  pub after_append_viable : IsViable (IsAfterAppendName mailbox) []
+  after_append_viable = (spaces_turned []).stops never More (then_viable IsSpace _ (octet_viable 32) (λ _. spaced_viable))
 
-  pub behind_append_avoids : Avoids (passes Astring) (IsBehindAppendName mailbox)
-  behind_append_avoids a b w is begin = spaced_avoids Astring (Then (Followed IsSpace IsFlagList) (λ flags. BehindFlags (some_flags flags))) a b w (turned a w is) begin
+  pub after_append_avoids : Avoids (passes Astring) (IsAfterAppendName mailbox)
+  after_append_avoids a b w is begin = spaced_avoids Astring (Then (Followed IsSpace IsFlagList) (λ flags. AfterFlags (some_flags flags))) a b w (turned a w is) begin
     where
-      turned : Within (IsBehindAppendName mailbox) (After IsSpace (Then (Followed IsSpace IsFlagList) (λ flags. BehindFlags (some_flags flags))))
+      turned : Within (IsAfterAppendName mailbox) (After IsSpace (Then (Followed IsSpace IsFlagList) (λ flags. AfterFlags (some_flags flags))))
       turned octets v word =
-          behind_it IsSpace IsFlagList (λ flags. BehindFlags (some_flags flags)) octets v
-          (record { value = word.value; front = word.front; back = word.back; whole = word.whole; first = word.first; second = behind_it IsSpace IsDateTime (BehindDate (some_flags word.value)) word.back v word.second })
+          following_it IsSpace IsFlagList (λ flags. AfterFlags (some_flags flags)) octets v
+          (record { value = word.value; front = word.front; back = word.back; whole = word.whole; first = word.first; second = following_it IsSpace IsDateTime (AfterDate (some_flags word.value)) word.back v word.second })
 
 -- ---- the whole command, put apart at the mailbox
 
-append_to : (utf8 : Bool) → Within (IsAppend utf8) (After IsSpace (Then (IsMailboxName utf8) IsBehindAppendName))
+append_to : (utf8 : Bool) → Within (IsAppend utf8) (After IsSpace (Then (IsMailboxName utf8) IsAfterAppendName))
 append_to utf8 octets c is =
     let f = is.first in
     let m = f.second in
@@ -195,7 +195,7 @@ append_to utf8 octets c is =
                 back = is.back;
                 whole = ap (λ z. z ++ is.back) (an.whole ∙ (ap (λ z. an.front ++ z) an.second.0 ∙ append-nil an.front));
                 first = an.first;
-                second = subst (λ (z : AppendFront). Then (IsCounted z.announced.size) (IsBehindData z.mailbox (some_flags z.flags) z.date z.announced.utf8) is.back c) an.second.1 is.second;
+                second = subst (λ (z : AppendFront). Then (IsCounted z.announced.size) (IsAfterData z.mailbox (some_flags z.flags) z.date z.announced.utf8) is.back c) an.second.1 is.second;
               };
             };
           };
@@ -203,7 +203,7 @@ append_to utf8 octets c is =
       };
     }
 
-append_from : (utf8 : Bool) → Within (After IsSpace (Then (IsMailboxName utf8) IsBehindAppendName)) (IsAppend utf8)
+append_from : (utf8 : Bool) → Within (After IsSpace (Then (IsMailboxName utf8) IsAfterAppendName)) (IsAppend utf8)
 append_from utf8 octets c is =
     let m = is.second in
     let fl = m.second in
@@ -254,7 +254,7 @@ append_from utf8 octets c is =
       second = an.second;
     }
 
-pub append_begins : (utf8 : Bool) (text : List ℕ) → Leaves (IsAppend utf8) text (After IsSpace (Then (IsMailboxName utf8) IsBehindAppendName)) text
+pub append_begins : (utf8 : Bool) (text : List ℕ) → Leaves (IsAppend utf8) text (After IsSpace (Then (IsMailboxName utf8) IsAfterAppendName)) text
 append_begins utf8 text = leaves_by _ (leaves_all (IsAppend utf8) text) (λ more. same_continues (IsAppend utf8) _ more (append_to utf8) (append_from utf8))
 
 -- ---- what follows the data

@@ -15,8 +15,8 @@ use Rattle.imap_words.specs.Strings.{IsHeader, IsHeader8, IsLiteral, IsString, I
 use Rattle.imap_words.specs.Sets.{IsSetAndSpace}
 use Rattle.imap_words.specs.Dates.{IsDateTime}
 use Rattle.imap_grammar.specs.Flags.{IsFlag, IsFlagList, IsFlagsToEnd, storing_words}
-use Rattle.imap_grammar.specs.Fetching.{IsHeaderList, text_words, IsBehindWord, IsSectionPart, IsSectionSpec, IsSection, IsPartial, item_words, macro_words, IsSectionItem, IsBehindItem, IsFetchAtt, IsFetchItems}
-use Rattle.imap_grammar.specs.Commands.{Tagged, Announced, AppendFront, IsBareCommand, IsLoginCommand, IsEnable, IsNaming, IsListing, status_words, IsStatusItems, IsStatus, utf8_words, IsDataFront, IsDataEnd, IsAppendFront, IsAppend, IsFetch, IsStore, IsNotHere, uid_names, IsBehindUid, IsUid, command_names, IsBehindName, IsCommand}
+use Rattle.imap_grammar.specs.Fetching.{IsHeaderList, text_words, IsAfterWord, IsSectionPart, IsSectionSpec, IsSection, IsPartial, item_words, macro_words, IsSectionItem, IsAfterItem, IsFetchAtt, IsFetchItems}
+use Rattle.imap_grammar.specs.Commands.{Tagged, Announced, AppendFront, IsBareCommand, IsLoginCommand, IsEnable, IsNaming, IsListing, status_words, IsStatusItems, IsStatus, utf8_words, IsDataFront, IsDataEnd, IsAppendFront, IsAppend, IsFetch, IsStore, IsNotHere, uid_names, IsAfterUid, IsUid, command_names, IsAfterName, IsCommand}
 use Rattle.imap_grammar.specs.Events.{IsWholeLine, LiteralLine, IsLiteralLine, literal_line, EndsCommandLine, Announces, append_words, IsAppending, Appends}
 use Rattle.imap_grammar.specs.declared.command.Command.{Command}
 use Rattle.imap_grammar.specs.declared.words.ItemWord.{ItemWord}
@@ -102,8 +102,8 @@ pub flat_ends : (kind : Option ℕ) (a b : List ℕ) → IsFlat a → Ends kind 
 flat_ends kind a b flat e = flat_before kind a e.line e.before b flat e.whole e.each e.is_line e.has
 
 -- behind what announces a literal: the literal, and then what ends a line
-pub behind_announced : (kind : Option ℕ) (a literal b : List ℕ) (size : ℕ) → Ends (Some size) a → length literal ≡ size → Ends kind b → Ends kind (a ++ (literal ++ b))
-behind_announced kind a literal b size is sized e = record {
+pub after_announced : (kind : Option ℕ) (a literal b : List ℕ) (size : ℕ) → Ends (Some size) a → length literal ≡ size → Ends kind b → Ends kind (a ++ (literal ++ b))
+after_announced kind a literal b size is sized e = record {
   before = is.before ++ mine ∷ e.before;
   line = e.line;
   whole = rw (is.whole, e.whole) (regroup (flat_map literal_line is.before) is.line literal (flat_map literal_line e.before) e.line ∙ ap (λ z. z ++ e.line) (sym (flat_map-append literal_line is.before (mine ∷ e.before))));
@@ -220,7 +220,7 @@ header_closes a n is = one_line (Some n) a (header_line a n is) ([], a, refl, is
 -- a literal behind what announces it
 pub counted_weaves : {V : Type 0} (P : List ℕ → V → Type 0) (size : V → ℕ) → Closes (λ v. Some (size v)) P → Weaves (Then P (λ v. IsCounted (size v)))
 counted_weaves P size closes kind a b w is e =
-    subst (λ z. Ends kind z) (sym (ap (λ z. z ++ b) is.whole ∙ append_assoc is.front is.back b)) (behind_announced kind is.front is.back b (size is.value) (closes is.front is.value is.first) is.second.0 e)
+    subst (λ z. Ends kind z) (sym (ap (λ z. z ++ b) is.whole ∙ append_assoc is.front is.back b)) (after_announced kind is.front is.back b (size is.value) (closes is.front is.value is.first) is.second.0 e)
 
 literal_weaves : Weaves IsLiteral
 literal_weaves = counted_weaves _ (λ n. n) header_closes
@@ -279,20 +279,20 @@ flags_close = or_closes _ _ plain (then_closes _ _ plain flag_list_weaves (λ fl
 names_weave : (utf8 : Bool) → Weaves (IsHeaderList utf8)
 names_weave utf8 = then_weaves _ _ (octet_weaves 40 refl) (λ _. list_weaves _ _ _ space_weaves (name_weaves utf8) (octet_weaves 41 refl))
 
-behind_word_weaves : (utf8 : Bool) (w : SectionWord) → Weaves (IsBehindWord utf8 w)
-behind_word_weaves utf8 section.Header = is_weaves _
-behind_word_weaves utf8 section.Fields = then_weaves _ _ space_weaves (λ _. then_weaves _ _ (names_weave utf8) (λ names. is_weaves _))
-behind_word_weaves utf8 section.FieldsNot = then_weaves _ _ space_weaves (λ _. then_weaves _ _ (names_weave utf8) (λ names. is_weaves _))
-behind_word_weaves utf8 section.Text = is_weaves _
-behind_word_weaves utf8 section.Mime = is_weaves _
+after_word_weaves : (utf8 : Bool) (w : SectionWord) → Weaves (IsAfterWord utf8 w)
+after_word_weaves utf8 section.Header = is_weaves _
+after_word_weaves utf8 section.Fields = then_weaves _ _ space_weaves (λ _. then_weaves _ _ (names_weave utf8) (λ names. is_weaves _))
+after_word_weaves utf8 section.FieldsNot = then_weaves _ _ space_weaves (λ _. then_weaves _ _ (names_weave utf8) (λ names. is_weaves _))
+after_word_weaves utf8 section.Text = is_weaves _
+after_word_weaves utf8 section.Mime = is_weaves _
 
 part_weaves : Weaves IsSectionPart
 part_weaves = list_weaves _ _ _ (octet_weaves 46 refl) non_zero_weaves (is_weaves 0)
 
 spec_weaves : (utf8 : Bool) → Weaves (IsSectionSpec utf8)
 spec_weaves utf8 =
-    or_weaves _ _ (then_weaves _ _ (then_weaves _ _ (word_weaves (text_words false) refl) (behind_word_weaves utf8)) (λ p. is_weaves _))
-    (then_weaves _ _ part_weaves (λ numbers. or_weaves _ _ (is_weaves _) (then_weaves _ _ (octet_weaves 46 refl) (λ _. then_weaves _ _ (then_weaves _ _ (word_weaves (text_words true) refl) (behind_word_weaves utf8)) (λ p. is_weaves _)))))
+    or_weaves _ _ (then_weaves _ _ (then_weaves _ _ (word_weaves (text_words false) refl) (after_word_weaves utf8)) (λ p. is_weaves _))
+    (then_weaves _ _ part_weaves (λ numbers. or_weaves _ _ (is_weaves _) (then_weaves _ _ (octet_weaves 46 refl) (λ _. then_weaves _ _ (then_weaves _ _ (word_weaves (text_words true) refl) (after_word_weaves utf8)) (λ p. is_weaves _)))))
 
 section_weaves : (utf8 : Bool) → Weaves (IsSection utf8)
 section_weaves utf8 = then_weaves _ _ (octet_weaves 91 refl) (λ _. then_weaves _ _ (or_weaves _ _ (is_weaves _) (spec_weaves utf8)) (λ s. then_weaves _ _ (octet_weaves 93 refl) (λ _. is_weaves s)))
@@ -307,24 +307,24 @@ partial_weaves = flat_weaves _ partial_flat
 section_item_weaves : (utf8 peek : Bool) → Weaves (IsSectionItem utf8 peek)
 section_item_weaves utf8 peek = then_weaves _ _ (section_weaves utf8) (λ s. then_weaves _ _ (maybe_weaves _ partial_weaves) (λ partial. is_weaves _))
 
-behind_item_weaves : (utf8 : Bool) (w : ItemWord) → Weaves (IsBehindItem utf8 w)
-behind_item_weaves utf8 word.Flags = is_weaves _
-behind_item_weaves utf8 word.Uid = is_weaves _
-behind_item_weaves utf8 word.InternalDate = is_weaves _
-behind_item_weaves utf8 word.Size = is_weaves _
-behind_item_weaves utf8 word.Rfc822 = is_weaves _
-behind_item_weaves utf8 word.Rfc822Header = is_weaves _
-behind_item_weaves utf8 word.Rfc822Text = is_weaves _
-behind_item_weaves utf8 word.Envelope = is_weaves _
-behind_item_weaves utf8 word.BodyStructure = is_weaves _
-behind_item_weaves utf8 word.Body = or_weaves _ _ (is_weaves _) (section_item_weaves utf8 false)
-behind_item_weaves utf8 word.BodyPeek = section_item_weaves utf8 true
-behind_item_weaves utf8 word.All = λ kind a b v is e. absurd is
-behind_item_weaves utf8 word.Fast = λ kind a b v is e. absurd is
-behind_item_weaves utf8 word.Full = λ kind a b v is e. absurd is
+after_item_weaves : (utf8 : Bool) (w : ItemWord) → Weaves (IsAfterItem utf8 w)
+after_item_weaves utf8 word.Flags = is_weaves _
+after_item_weaves utf8 word.Uid = is_weaves _
+after_item_weaves utf8 word.InternalDate = is_weaves _
+after_item_weaves utf8 word.Size = is_weaves _
+after_item_weaves utf8 word.Rfc822 = is_weaves _
+after_item_weaves utf8 word.Rfc822Header = is_weaves _
+after_item_weaves utf8 word.Rfc822Text = is_weaves _
+after_item_weaves utf8 word.Envelope = is_weaves _
+after_item_weaves utf8 word.BodyStructure = is_weaves _
+after_item_weaves utf8 word.Body = or_weaves _ _ (is_weaves _) (section_item_weaves utf8 false)
+after_item_weaves utf8 word.BodyPeek = section_item_weaves utf8 true
+after_item_weaves utf8 word.All = λ kind a b v is e. absurd is
+after_item_weaves utf8 word.Fast = λ kind a b v is e. absurd is
+after_item_weaves utf8 word.Full = λ kind a b v is e. absurd is
 
 att_weaves : (utf8 : Bool) → Weaves (IsFetchAtt utf8)
-att_weaves utf8 = then_weaves _ _ (word_weaves item_words refl) (behind_item_weaves utf8)
+att_weaves utf8 = then_weaves _ _ (word_weaves item_words refl) (after_item_weaves utf8)
 
 items_weave : (utf8 : Bool) → Weaves (IsFetchItems utf8)
 items_weave utf8 =
@@ -381,7 +381,7 @@ append_closes utf8 a v is =
     let data_part = is.second in
     let ends : Ends None data_part.back = closed _ _ plain (data_end_closes is.value.announced.utf8) data_part.back v data_part.second in
     subst (λ z. Ends None z) (sym (is.whole ∙ ap (λ z. is.front ++ z) data_part.whole))
-    (behind_announced None is.front data_part.front data_part.back is.value.announced.size (append_front_closes utf8 is.front is.value is.first) data_part.first.0 ends)
+    (after_announced None is.front data_part.front data_part.back is.value.announced.size (append_front_closes utf8 is.front is.value is.first) data_part.first.0 ends)
 
 fetch_closes : (utf8 by_uid : Bool) → Closes plain (IsFetch utf8 by_uid)
 fetch_closes utf8 by_uid = then_closes _ _ plain space_weaves (λ _. then_closes _ _ plain set_weaves (λ set. then_closes _ _ plain (items_weave utf8) (λ items. bare_closes _)))
@@ -393,33 +393,33 @@ store_closes by_uid =
 not_here_closes : Closes plain IsNotHere
 not_here_closes a v is = one_line None a is.0 tt
 
-behind_uid_closes : (utf8 : Bool) (n : UidName) → Closes plain (IsBehindUid utf8 n)
-behind_uid_closes utf8 uid.Fetch = fetch_closes utf8 true
-behind_uid_closes utf8 uid.Store = store_closes true
-behind_uid_closes utf8 uid.NotHere = not_here_closes
+after_uid_closes : (utf8 : Bool) (n : UidName) → Closes plain (IsAfterUid utf8 n)
+after_uid_closes utf8 uid.Fetch = fetch_closes utf8 true
+after_uid_closes utf8 uid.Store = store_closes true
+after_uid_closes utf8 uid.NotHere = not_here_closes
 
 uid_closes : (utf8 : Bool) → Closes plain (IsUid utf8)
-uid_closes utf8 = then_closes _ _ plain space_weaves (λ _. then_closes _ _ plain (word_weaves uid_names refl) (behind_uid_closes utf8))
+uid_closes utf8 = then_closes _ _ plain space_weaves (λ _. then_closes _ _ plain (word_weaves uid_names refl) (after_uid_closes utf8))
 
-pub behind_name_closes : (utf8 : Bool) (n : Name) → Closes plain (IsBehindName utf8 n)
-behind_name_closes utf8 name.Capability = bare_closes _
-behind_name_closes utf8 name.Noop = bare_closes _
-behind_name_closes utf8 name.Check = bare_closes _
-behind_name_closes utf8 name.Logout = bare_closes _
-behind_name_closes utf8 name.Login = login_closes utf8
-behind_name_closes utf8 name.Enable = enable_closes
-behind_name_closes utf8 name.Select = naming_closes utf8 _
-behind_name_closes utf8 name.Examine = naming_closes utf8 _
-behind_name_closes utf8 name.Create = naming_closes utf8 _
-behind_name_closes utf8 name.List = listing_closes utf8
-behind_name_closes utf8 name.Status = status_closes utf8
-behind_name_closes utf8 name.Append = append_closes utf8
-behind_name_closes utf8 name.Fetch = fetch_closes utf8 false
-behind_name_closes utf8 name.Store = store_closes false
-behind_name_closes utf8 name.Uid = uid_closes utf8
-behind_name_closes utf8 name.Expunge = bare_closes _
-behind_name_closes utf8 name.Close = bare_closes _
-behind_name_closes utf8 name.NotHere = not_here_closes
+pub after_name_closes : (utf8 : Bool) (n : Name) → Closes plain (IsAfterName utf8 n)
+after_name_closes utf8 name.Capability = bare_closes _
+after_name_closes utf8 name.Noop = bare_closes _
+after_name_closes utf8 name.Check = bare_closes _
+after_name_closes utf8 name.Logout = bare_closes _
+after_name_closes utf8 name.Login = login_closes utf8
+after_name_closes utf8 name.Enable = enable_closes
+after_name_closes utf8 name.Select = naming_closes utf8 _
+after_name_closes utf8 name.Examine = naming_closes utf8 _
+after_name_closes utf8 name.Create = naming_closes utf8 _
+after_name_closes utf8 name.List = listing_closes utf8
+after_name_closes utf8 name.Status = status_closes utf8
+after_name_closes utf8 name.Append = append_closes utf8
+after_name_closes utf8 name.Fetch = fetch_closes utf8 false
+after_name_closes utf8 name.Store = store_closes false
+after_name_closes utf8 name.Uid = uid_closes utf8
+after_name_closes utf8 name.Expunge = bare_closes _
+after_name_closes utf8 name.Close = bare_closes _
+after_name_closes utf8 name.NotHere = not_here_closes
 
 tag_weaves : Weaves IsTag
 tag_weaves = flat_weaves _ tag_flat
@@ -429,7 +429,7 @@ pub command_ends : (utf8 : Bool) (octets : List ℕ) (c : Tagged) → IsCommand 
 command_ends utf8 octets c is = ends_line octets (closes octets c is)
   where
     closes : Closes plain (IsCommand utf8)
-    closes = then_closes _ _ plain tag_weaves (λ tag. then_closes _ _ plain space_weaves (λ _. then_closes _ _ plain (word_weaves command_names refl) (λ n. closed _ _ plain (behind_name_closes utf8 n))))
+    closes = then_closes _ _ plain tag_weaves (λ tag. then_closes _ _ plain space_weaves (λ _. then_closes _ _ plain (word_weaves command_names refl) (λ n. closed _ _ plain (after_name_closes utf8 n))))
 
 -- APPEND up to its data announces a literal of their size.
 pub appending_announces : (utf8 : Bool) (octets : List ℕ) (a : Appends) → IsAppending utf8 octets a → Announces octets a.front.announced.size

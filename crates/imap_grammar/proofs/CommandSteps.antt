@@ -9,7 +9,7 @@ use Rattle.imap_words.specs.declared.tokens.Kind.{Kind}
 use Rattle.imap_words.specs.declared.tokens.Kind.TheVariants.{Atom, Astring, ListMailbox, Tag, FieldName, NameAstring}
 use Rattle.imap_words.specs.Tokens.{passes, IsImapAtom, IsSpace, IsCrlf, IsOpenParenthesis, IsCloseParenthesis, is_atom_char, is_astring_char, is_list_char, is_tag_char, is_name_char}
 use Rattle.imap_words.specs.Keywords.{IsTable, IsWordOf}
-use Rattle.imap_words.specs.Strings.{IsAstring, IsListMailbox, IsHead, IsHeader, behind_head, whole, literal}
+use Rattle.imap_words.specs.Strings.{IsAstring, IsListMailbox, IsHead, IsHeader, after_head, whole, literal}
 use Rattle.imap_words.proofs.Composing.{Avoids}
 use Rattle.imap_words.proofs.TokenSteps.{octet_viable}
 use Rattle.imap_words.proofs.RunSteps.{run_viable}
@@ -25,7 +25,7 @@ use Rattle.imap_grammar.specs.declared.command.Command.{Command}
 use Rattle.imap_grammar.specs.declared.awaited.Next.{Next}
 use Rattle.imap_grammar.specs.declared.awaited.Next.TheVariants.{Whole, Awaits}
 use Rattle.imap_grammar.specs.Commands.{Announced, IsDataFront, IsBareCommand, IsAtoms, IsStatusItems, status_words}
-use Rattle.imap_grammar.specs.Awaiting.{Comes, IsAfterHeader, IsBehindUser, IsBehindReference, IsBehindStatusName}
+use Rattle.imap_grammar.specs.Awaiting.{Comes, IsAfterHeader, IsAfterUser, IsAfterReference, IsAfterStatusName}
 
 -- ---- what comes of the rest comes of the text
 
@@ -50,7 +50,7 @@ header_word {text} {word} {mid} {n} e h = record {
     same m e = cc e
 
 -- a head that is a literal's header
-pub head_header : (utf8 : Bool) (kind : Kind) {text mid : List ℕ} {n : ℕ} → Reads (IsHead utf8 kind) (behind_head kind) text (literal n) mid → IsAfterHeader text n mid
+pub head_header : (utf8 : Bool) (kind : Kind) {text mid : List ℕ} {n : ℕ} → Reads (IsHead utf8 kind) (after_head kind) text (literal n) mid → IsAfterHeader text n mid
 head_header utf8 kind {text} {mid} {n} r = by r.is_word
   where
     by : IsHead utf8 kind r.word (literal n) → IsAfterHeader text n mid
@@ -158,32 +158,32 @@ module _ (utf8 : Bool) (Q : List ℕ → List ℕ → Command → Type 0) (some 
   pattern_viable = string_viable utf8 ListMailbox (IsListMailbox utf8) (list_mailbox_parts utf8) (list_mailbox_whole utf8) Q some
 
 module _ (utf8 : Bool) (Q : List ℕ → List ℕ → Command → Type 0) (ends : EndsRun Astring Q) {P : List ℕ → Command → Type 0} {text rest : List ℕ} (l : Leaves P text (Then (IsAstring utf8) Q) rest) where
-  pub astring_stops : ((v : List ℕ) → IsViable (Q v) []) → (stop : Stop) → StopsReading (IsHead utf8 Astring) (behind_head Astring) rest stop → StopsReading P never text stop
+  pub astring_stops : ((v : List ℕ) → IsViable (Q v) []) → (stop : Stop) → StopsReading (IsHead utf8 Astring) (after_head Astring) rest stop → StopsReading P never text stop
   astring_stops some stop stops = string_stops utf8 Astring (IsAstring utf8) (astring_parts utf8) (astring_whole utf8) Q ends l some stop stops
 
-  pub astring_read : (v mid : List ℕ) → Reads (IsHead utf8 Astring) (behind_head Astring) rest (whole v) mid → Leaves P text (Q v) mid
+  pub astring_read : (v mid : List ℕ) → Reads (IsHead utf8 Astring) (after_head Astring) rest (whole v) mid → Leaves P text (Q v) mid
   astring_read v mid r = string_read utf8 Astring (IsAstring utf8) (astring_parts utf8) (astring_whole utf8) Q ends l v mid r
 
-  pub astring_awaits : (n : ℕ) (mid : List ℕ) → Reads (IsHead utf8 Astring) (behind_head Astring) rest (literal n) mid → IsAfterHeader text n mid × ⊤ × Leaves P text (Then (IsCounted n) Q) mid
+  pub astring_awaits : (n : ℕ) (mid : List ℕ) → Reads (IsHead utf8 Astring) (after_head Astring) rest (literal n) mid → IsAfterHeader text n mid × ⊤ × Leaves P text (Then (IsCounted n) Q) mid
   astring_awaits n mid r = (header_later l (head_header utf8 Astring r), tt, string_awaits utf8 Astring (IsAstring utf8) (astring_parts utf8) (astring_whole utf8) Q ends l n mid r)
 
 module _ (utf8 : Bool) (Q : List ℕ → List ℕ → Command → Type 0) (ends : EndsRun ListMailbox Q) {P : List ℕ → Command → Type 0} {text rest : List ℕ} (l : Leaves P text (Then (IsListMailbox utf8) Q) rest) where
-  pub pattern_stops : ((v : List ℕ) → IsViable (Q v) []) → (stop : Stop) → StopsReading (IsHead utf8 ListMailbox) (behind_head ListMailbox) rest stop → StopsReading P never text stop
+  pub pattern_stops : ((v : List ℕ) → IsViable (Q v) []) → (stop : Stop) → StopsReading (IsHead utf8 ListMailbox) (after_head ListMailbox) rest stop → StopsReading P never text stop
   pattern_stops some stop stops = string_stops utf8 ListMailbox (IsListMailbox utf8) (list_mailbox_parts utf8) (list_mailbox_whole utf8) Q ends l some stop stops
 
-  pub pattern_read : (v mid : List ℕ) → Reads (IsHead utf8 ListMailbox) (behind_head ListMailbox) rest (whole v) mid → Leaves P text (Q v) mid
+  pub pattern_read : (v mid : List ℕ) → Reads (IsHead utf8 ListMailbox) (after_head ListMailbox) rest (whole v) mid → Leaves P text (Q v) mid
   pattern_read v mid r = string_read utf8 ListMailbox (IsListMailbox utf8) (list_mailbox_parts utf8) (list_mailbox_whole utf8) Q ends l v mid r
 
-  pub pattern_awaits : (n : ℕ) (mid : List ℕ) → Reads (IsHead utf8 ListMailbox) (behind_head ListMailbox) rest (literal n) mid → IsAfterHeader text n mid × ⊤ × Leaves P text (Then (IsCounted n) Q) mid
+  pub pattern_awaits : (n : ℕ) (mid : List ℕ) → Reads (IsHead utf8 ListMailbox) (after_head ListMailbox) rest (literal n) mid → IsAfterHeader text n mid × ⊤ × Leaves P text (Then (IsCounted n) Q) mid
   pattern_awaits n mid r = (header_later l (head_header utf8 ListMailbox r), tt, string_awaits utf8 ListMailbox (IsListMailbox utf8) (list_mailbox_parts utf8) (list_mailbox_whole utf8) Q ends l n mid r)
 
 -- ---- the commands with strings
 
-pub behind_user_viable : (utf8 : Bool) (user : List ℕ) → IsViable (IsBehindUser utf8 user) []
-behind_user_viable utf8 user = then_viable IsSpace _ (octet_viable 32) (λ _. astring_viable utf8 _ (λ v. bare_viable _))
+pub after_user_viable : (utf8 : Bool) (user : List ℕ) → IsViable (IsAfterUser utf8 user) []
+after_user_viable utf8 user = then_viable IsSpace _ (octet_viable 32) (λ _. astring_viable utf8 _ (λ v. bare_viable _))
 
-pub behind_reference_viable : (utf8 : Bool) (reference : List ℕ) → IsViable (IsBehindReference utf8 reference) []
-behind_reference_viable utf8 reference = then_viable IsSpace _ (octet_viable 32) (λ _. pattern_viable utf8 _ (λ v. bare_viable _))
+pub after_reference_viable : (utf8 : Bool) (reference : List ℕ) → IsViable (IsAfterReference utf8 reference) []
+after_reference_viable utf8 reference = then_viable IsSpace _ (octet_viable 32) (λ _. pattern_viable utf8 _ (λ v. bare_viable _))
 
 pub atoms_follow : (begun : List (List ℕ)) → IsViable (IsMoreThan IsSpace IsImapAtom IsCrlf begun) []
 atoms_follow begun = more_viable IsSpace _ IsCrlf begun crlf_viable
@@ -201,5 +201,5 @@ status_table = is_table _ _ refl refl
 pub statuses_viable : IsViable IsStatusItems []
 statuses_viable = then_viable IsOpenParenthesis _ (octet_viable 40) (λ _. then_viable (IsWordOf status_words) _ (word_viable status_words status_table) (λ first. more_viable IsSpace (IsWordOf status_words) IsCloseParenthesis (first ∷ []) (octet_viable 41)))
 
-pub behind_status_viable : (mailbox : List ℕ) → IsViable (IsBehindStatusName mailbox) []
-behind_status_viable mailbox = then_viable IsSpace _ (octet_viable 32) (λ _. then_viable IsStatusItems _ statuses_viable (λ items. bare_viable _))
+pub after_status_viable : (mailbox : List ℕ) → IsViable (IsAfterStatusName mailbox) []
+after_status_viable mailbox = then_viable IsSpace _ (octet_viable 32) (λ _. then_viable IsStatusItems _ statuses_viable (λ items. bare_viable _))

@@ -7,8 +7,8 @@ use Rattle.imap_words.specs.Sets.{IsSeqNumber, IsSeqRange, IsSetAndSpace}
 use Rattle.imap_words.specs.Keywords.{IsWordOf}
 use Rattle.imap_words.proofs.TableSteps.{is_table}
 use Rattle.imap_grammar.specs.Flags.{IsFlag, IsFlagList, IsFlagsToEnd, storing_words}
-use Rattle.imap_grammar.specs.Fetching.{IsHeaderList, text_words, IsBehindWord, IsSectionMsgtext, IsSectionText, IsSectionPart, IsSectionSpec, IsSection, IsPartial, item_words, macro_words, IsSectionItem, IsBehindItem, IsFetchAtt, macro_items, IsFetchItems}
-use Rattle.imap_grammar.specs.Commands.{IsBareCommand, IsLoginCommand, IsEnable, IsNaming, IsListing, status_words, IsStatusItems, IsStatus, utf8_words, IsDataFront, IsDataEnd, IsAppendFront, IsAppend, IsFetch, IsStore, uid_names, IsBehindUid, IsUid, command_names, IsBehindName, IsCommand}
+use Rattle.imap_grammar.specs.Fetching.{IsHeaderList, text_words, IsAfterWord, IsSectionMsgtext, IsSectionText, IsSectionPart, IsSectionSpec, IsSection, IsPartial, item_words, macro_words, IsSectionItem, IsAfterItem, IsFetchAtt, macro_items, IsFetchItems}
+use Rattle.imap_grammar.specs.Commands.{IsBareCommand, IsLoginCommand, IsEnable, IsNaming, IsListing, status_words, IsStatusItems, IsStatus, utf8_words, IsDataFront, IsDataEnd, IsAppendFront, IsAppend, IsFetch, IsStore, uid_names, IsAfterUid, IsUid, command_names, IsAfterName, IsCommand}
 use Rattle.imap_grammar.specs.Events.{append_words, IsAppending}
 use Rattle.imap_grammar.specs.declared.command.Command.{Command}
 use Rattle.imap_grammar.specs.declared.command.Command.TheVariants as command
@@ -65,18 +65,18 @@ flags_to_end_decided = or_decided (then_decided flag_list_decided (λ flags. aft
 names_decided : (utf8 : Bool) → Decided (IsHeaderList utf8)
 names_decided utf8 = after_decided open_decided (spaced_decided (header_name_decided utf8) close_decided)
 
-behind_word_decided : (utf8 : Bool) (w : SectionWord) → Decided (IsBehindWord utf8 w)
-behind_word_decided utf8 section.Header = is_decided part.Header
-behind_word_decided utf8 section.Fields = after_decided space_decided (then_decided (names_decided utf8) (λ names. is_decided (part.Fields names false)))
-behind_word_decided utf8 section.FieldsNot = after_decided space_decided (then_decided (names_decided utf8) (λ names. is_decided (part.Fields names true)))
-behind_word_decided utf8 section.Text = is_decided part.Text
-behind_word_decided utf8 section.Mime = is_decided part.Mime
+after_word_decided : (utf8 : Bool) (w : SectionWord) → Decided (IsAfterWord utf8 w)
+after_word_decided utf8 section.Header = is_decided part.Header
+after_word_decided utf8 section.Fields = after_decided space_decided (then_decided (names_decided utf8) (λ names. is_decided (part.Fields names false)))
+after_word_decided utf8 section.FieldsNot = after_decided space_decided (then_decided (names_decided utf8) (λ names. is_decided (part.Fields names true)))
+after_word_decided utf8 section.Text = is_decided part.Text
+after_word_decided utf8 section.Mime = is_decided part.Mime
 
 msgtext_decided : (utf8 : Bool) → Decided (IsSectionMsgtext utf8)
-msgtext_decided utf8 = then_decided (word_decided (text_words false) (is_table _ _ refl refl)) (behind_word_decided utf8)
+msgtext_decided utf8 = then_decided (word_decided (text_words false) (is_table _ _ refl refl)) (after_word_decided utf8)
 
 text_decided : (utf8 : Bool) → Decided (IsSectionText utf8)
-text_decided utf8 = then_decided (word_decided (text_words true) (is_table _ _ refl refl)) (behind_word_decided utf8)
+text_decided utf8 = then_decided (word_decided (text_words true) (is_table _ _ refl refl)) (after_word_decided utf8)
 
 part_decided : Decided IsSectionPart
 part_decided = list_decided (octet_nonempty 46) (octet_decided 46) non_zero_decided (is_decided 0)
@@ -98,7 +98,7 @@ section_item_decided utf8 peek = then_decided (section_decided utf8) (λ s. then
 
 -- Behind a macro's word nothing is an item; behind each other word something is.
 abbrev ItemDecided : Bool → ItemWord → Type 1
-ItemDecided utf8 w = Known (IsBehindItem utf8 w) × (is_macro w ≡ false → IsViable (IsBehindItem utf8 w) [])
+ItemDecided utf8 w = Known (IsAfterItem utf8 w) × (is_macro w ≡ false → IsViable (IsAfterItem utf8 w) [])
 
 item_has : {V B : Type 0} {P : List ℕ → V → Type 0} → Decided P → Known P × (B → IsViable P [])
 item_has p = (p.known, λ _. p.some)
@@ -128,7 +128,7 @@ fetch_att_decided utf8 = record { known = then_known words.known (λ w. (item_de
     words : Decided (IsWordOf item_words)
     words = word_decided item_words (is_table _ _ refl refl)
 
-    leads : Leads (IsWordOf item_words) (IsBehindItem utf8)
+    leads : Leads (IsWordOf item_words) (IsAfterItem utf8)
     leads octets w is = (item_decided utf8 w).1 (item_says octets w is)
 
 fetch_items_decided : (utf8 : Bool) → Decided (IsFetchItems utf8)
@@ -183,37 +183,37 @@ store_decided : (by_uid : Bool) → Decided (IsStore by_uid)
 store_decided by_uid =
     after_decided space_decided (then_decided set_decided (λ set. then_decided (word_decided storing_words (is_table _ _ refl refl)) (λ storing. after_decided space_decided (then_decided flags_to_end_decided (λ flags. is_decided _)))))
 
-behind_uid_decided : (utf8 : Bool) (n : UidName) → Decided (IsBehindUid utf8 n)
-behind_uid_decided utf8 uid.Fetch = fetch_decided utf8 true
-behind_uid_decided utf8 uid.Store = store_decided true
-behind_uid_decided utf8 uid.NotHere = not_here_decided
+after_uid_decided : (utf8 : Bool) (n : UidName) → Decided (IsAfterUid utf8 n)
+after_uid_decided utf8 uid.Fetch = fetch_decided utf8 true
+after_uid_decided utf8 uid.Store = store_decided true
+after_uid_decided utf8 uid.NotHere = not_here_decided
 
 uid_decided : (utf8 : Bool) → Decided (IsUid utf8)
-uid_decided utf8 = after_decided space_decided (then_decided (word_decided uid_names (is_table _ _ refl refl)) (behind_uid_decided utf8))
+uid_decided utf8 = after_decided space_decided (then_decided (word_decided uid_names (is_table _ _ refl refl)) (after_uid_decided utf8))
 
-behind_name_decided : (utf8 : Bool) (n : Name) → Decided (IsBehindName utf8 n)
-behind_name_decided utf8 name.Capability = bare_decided command.Capability
-behind_name_decided utf8 name.Noop = bare_decided command.Noop
-behind_name_decided utf8 name.Check = bare_decided command.Check
-behind_name_decided utf8 name.Logout = bare_decided command.Logout
-behind_name_decided utf8 name.Login = login_decided utf8
-behind_name_decided utf8 name.Enable = enable_decided
-behind_name_decided utf8 name.Select = naming_decided utf8 command.Select
-behind_name_decided utf8 name.Examine = naming_decided utf8 command.Examine
-behind_name_decided utf8 name.Create = naming_decided utf8 command.Create
-behind_name_decided utf8 name.List = listing_decided utf8
-behind_name_decided utf8 name.Status = status_decided utf8
-behind_name_decided utf8 name.Append = append_decided utf8
-behind_name_decided utf8 name.Fetch = fetch_decided utf8 false
-behind_name_decided utf8 name.Store = store_decided false
-behind_name_decided utf8 name.Uid = uid_decided utf8
-behind_name_decided utf8 name.Expunge = bare_decided command.Expunge
-behind_name_decided utf8 name.Close = bare_decided command.Close
-behind_name_decided utf8 name.NotHere = not_here_decided
+after_name_decided : (utf8 : Bool) (n : Name) → Decided (IsAfterName utf8 n)
+after_name_decided utf8 name.Capability = bare_decided command.Capability
+after_name_decided utf8 name.Noop = bare_decided command.Noop
+after_name_decided utf8 name.Check = bare_decided command.Check
+after_name_decided utf8 name.Logout = bare_decided command.Logout
+after_name_decided utf8 name.Login = login_decided utf8
+after_name_decided utf8 name.Enable = enable_decided
+after_name_decided utf8 name.Select = naming_decided utf8 command.Select
+after_name_decided utf8 name.Examine = naming_decided utf8 command.Examine
+after_name_decided utf8 name.Create = naming_decided utf8 command.Create
+after_name_decided utf8 name.List = listing_decided utf8
+after_name_decided utf8 name.Status = status_decided utf8
+after_name_decided utf8 name.Append = append_decided utf8
+after_name_decided utf8 name.Fetch = fetch_decided utf8 false
+after_name_decided utf8 name.Store = store_decided false
+after_name_decided utf8 name.Uid = uid_decided utf8
+after_name_decided utf8 name.Expunge = bare_decided command.Expunge
+after_name_decided utf8 name.Close = bare_decided command.Close
+after_name_decided utf8 name.NotHere = not_here_decided
 
 pub command_decided : (utf8 : Bool) → Decided (IsCommand utf8)
 command_decided utf8 =
-    then_decided tag_decided (λ tag. after_decided space_decided (then_decided (word_decided command_names (is_table _ _ refl refl)) (λ n. then_decided (behind_name_decided utf8 n) (λ c. is_decided _))))
+    then_decided tag_decided (λ tag. after_decided space_decided (then_decided (word_decided command_names (is_table _ _ refl refl)) (λ n. then_decided (after_name_decided utf8 n) (λ c. is_decided _))))
 
 -- an APPEND up to its data
 pub appending_decided : (utf8 : Bool) → Decided (IsAppending utf8)

@@ -36,9 +36,9 @@ data_sized size tail = elim (cases_lt (length tail) size) [
     nothing (x ∷ octets) e = absurd (omega (arith, e))
 
 -- how many octets stand behind the data
-behind_data : (size : ℕ) (content back : List ℕ) → (length content ≡ size) ⊎ ((length content < size) × (back ≡ [])) → length back ≡ length (drop size (content ++ back))
-behind_data size content back (inl all) = omega (arith, all, length-drop size (content ++ back), length-append content back)
-behind_data size content back (inr part) = omega (arith, part.0, ap length part.1, length-drop size (content ++ back), length-append content back)
+after_data : (size : ℕ) (content back : List ℕ) → (length content ≡ size) ⊎ ((length content < size) × (back ≡ [])) → length back ≡ length (drop size (content ++ back))
+after_data size content back (inl all) = omega (arith, all, length-drop size (content ++ back), length-append content back)
+after_data size content back (inr part) = omega (arith, part.0, ap length part.1, length-drop size (content ++ back), length-append content back)
 
 search_data : (utf8 : Bool) → Searches (HasData utf8)
 search_data utf8 octets R decide = decide_by to from (decide_parting octets (Counting utf8 R) (λ head tail e. (appending_decided utf8).known.search head (λ a. R (length head + length (drop a.front.announced.size tail))) (λ a. decide _)))
@@ -65,7 +65,7 @@ search_data utf8 octets R decide = decide_by to from (decide_parting octets (Cou
     from s =
         let has = s.1 in
         let count : s.0 ≡ length has.head + length (drop has.appends.front.announced.size (has.content ++ has.back))
-        = has.count ∙ ap (λ z. length has.head + z) (behind_data has.appends.front.announced.size has.content has.back has.sized) in
+        = has.count ∙ ap (λ z. length has.head + z) (after_data has.appends.front.announced.size has.content has.back has.sized) in
         record { front = has.head; back = has.content ++ has.back; whole = has.whole; holds = (has.appends, has.is_head, subst R count s.2) }
 
 abbrev HasFew : Bool → List ℕ → Type 0

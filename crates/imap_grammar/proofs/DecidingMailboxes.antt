@@ -5,7 +5,7 @@ use Rattle.std.proofs.lemmas.Str.{chars-encodes}
 use Rattle.std.specs.List.{list_all}
 use Rattle.std.specs.Str.{chars, encode_utf8_all, all_scalars}
 use Rattle.std.specs.Char.{IsScalar}
-use Rattle.imap_words.specs.Utf7.{is_printable, char_octets, modified_base64, shifted, unshifted, written_behind}
+use Rattle.imap_words.specs.Utf7.{is_printable, char_octets, modified_base64, shifted, unshifted, written_after}
 use Rattle.imap_words.proofs.Utf7Runs.{run_long}
 use Rattle.imap_words.proofs.Utf7Lemmas.{written_printable, written_other, char_begins}
 use Rattle.imap_grammar.specs.MailboxNames.{IsNameOf, ReadsNames}
@@ -24,11 +24,11 @@ unshifted_long c = cond_both (c == 38) _ _ (λ z. 0 < length z) (λ _. omega ari
 char_long : (c : ℕ) → 0 < length (char_octets c)
 char_long c = let some = char_begins c in omega (arith, ap length some.is)
 
-written_long : (octets cs : List ℕ) → length octets + length cs ≤ length (written_behind octets cs)
+written_long : (octets cs : List ℕ) → length octets + length cs ≤ length (written_after octets cs)
 written_long octets [] = omega (arith, shifted_long octets)
 written_long octets (c ∷ cs) = elim (cases_Bool (is_printable c)) [
   | inl plain ↦
-      omega (arith, ap length (written_printable octets c cs plain), length-append (shifted octets) (unshifted c ++ written_behind [] cs), length-append (unshifted c) (written_behind [] cs), shifted_long octets, unshifted_long c, written_long [] cs)
+      omega (arith, ap length (written_printable octets c cs plain), length-append (shifted octets) (unshifted c ++ written_after [] cs), length-append (unshifted c) (written_after [] cs), shifted_long octets, unshifted_long c, written_long [] cs)
   | inr other ↦ omega (arith, ap length (written_other octets c cs other), length-append octets (char_octets c), char_long c, written_long (octets ++ char_octets c) cs)
 ]
 
@@ -49,17 +49,17 @@ scalars_small (c ∷ cs) s =
 -- ---- a name, or none
 
 abbrev Writes : List ℕ → List ℕ → Type 0
-Writes text cs = (all_scalars cs ≡ true) × (text ≡ written_behind [] cs)
+Writes text cs = (all_scalars cs ≡ true) × (text ≡ written_after [] cs)
 
 read_name : (text : List ℕ) → (answer : Option (List ℕ)) × IsNameOf text answer
-read_name text = elim (decide_short_list (length text) 1114112 (Writes text) (λ cs. decide_both (decide_true (all_scalars cs)) (decide_same_list text (written_behind [] cs)))) [
+read_name text = elim (decide_short_list (length text) 1114112 (Writes text) (λ cs. decide_both (decide_true (all_scalars cs)) (decide_same_list text (written_after [] cs)))) [
   | yes found ↦
       let cs = found.numbers in
-      (Some (encode_utf8_all cs), ((cs, (found.holds.0, refl)), found.holds.1 ∙ ap (λ z. written_behind [] z) (sym (chars-encodes cs found.holds.0))))
-  | no none ↦ (None, λ name utf8 e. none (at utf8.0 utf8.1.0 (e ∙ ap (λ z. written_behind [] z) (ap chars (sym utf8.1.1) ∙ chars-encodes utf8.0 utf8.1.0))))
+      (Some (encode_utf8_all cs), ((cs, (found.holds.0, refl)), found.holds.1 ∙ ap (λ z. written_after [] z) (sym (chars-encodes cs found.holds.0))))
+  | no none ↦ (None, λ name utf8 e. none (at utf8.0 utf8.1.0 (e ∙ ap (λ z. written_after [] z) (ap chars (sym utf8.1.1) ∙ chars-encodes utf8.0 utf8.1.0))))
 ]
   where
-    at : (cs : List ℕ) → all_scalars cs ≡ true → text ≡ written_behind [] cs → ShortList (length text) 1114112 (Writes text)
+    at : (cs : List ℕ) → all_scalars cs ≡ true → text ≡ written_after [] cs → ShortList (length text) 1114112 (Writes text)
     at cs s e = record { numbers = cs; few = omega (arith, written_long [] cs, ap length e); small = scalars_small cs s; holds = (s, e) }
 
 pub names_read : (name_of : List ℕ → Option (List ℕ)) × ReadsNames name_of

@@ -13,10 +13,10 @@ use Rattle.imap_grammar.specs.Events.{IsWholeLine, EndsCommandLine, IsFirstBad, 
 use Rattle.imap_grammar.specs.Standing.{Reached, HasNoDataBefore, size_of, is_data}
 use Rattle.imap_grammar.specs.declared.awaited.Awaited.TheVariants as awaited
 use Rattle.imap_grammar.specs.declared.reader.Stage.{Stage}
-use Rattle.imap_grammar.specs.declared.reader.Stage.TheVariants.{Begin, Behind}
+use Rattle.imap_grammar.specs.declared.reader.Stage.TheVariants.{Begin, AfterLiteral}
 use Rattle.imap_grammar.specs.declared.event.Event.{Event}
 use Rattle.imap_grammar.specs.declared.event.Event.TheVariants as event
-use Rattle.imap_grammar.proofs.LineLaws.{cut_same, right_empty, LineBehind, ends_behind, ends_begins, ends_some, announces_ends, announces_once}
+use Rattle.imap_grammar.proofs.LineLaws.{cut_same, right_empty, LineAfter, ends_after, ends_begins, ends_some, announces_ends, announces_once}
 use Rattle.imap_grammar.proofs.Closing.{command_ends, appending_announces}
 
 -- ---- the place of the first bad octet
@@ -85,13 +85,13 @@ count_of stage front body = if is_data stage then length front + length (drop (s
 abbrev pub Quiet : Stage → List ℕ → Type 0
 Quiet stage body = first_line (drop (size_of stage) body) ≡ None
 
-pub ends_in : (utf8 : Bool) (stage : Stage) (front more : List ℕ) → Reached utf8 stage front → EndsCommandLine (front ++ more) → (more ≡ [] → ⊥) → LineBehind (size_of stage) more
+pub ends_in : (utf8 : Bool) (stage : Stage) (front more : List ℕ) → Reached utf8 stage front → EndsCommandLine (front ++ more) → (more ≡ [] → ⊥) → LineAfter (size_of stage) more
 ends_in utf8 Begin front more reached is some =
     let found = ends_begins more (subst (λ z. EndsCommandLine (z ++ more)) reached is) in
     record { literal = []; others = more; cut = found.0; whole = refl; sized = refl; first = found.1 }
-ends_in utf8 (Behind tag size a) front more reached is some = ends_behind front more size reached.0 is some
+ends_in utf8 (AfterLiteral tag size a) front more reached is some = ends_after front more size reached.0 is some
 
-others_are : (size : ℕ) (more : List ℕ) (l : LineBehind size more) → drop size more ≡ l.others
+others_are : (size : ℕ) (more : List ℕ) (l : LineAfter size more) → drop size more ≡ l.others
 others_are size more l = ap (λ z. drop size z) l.whole ∙ drop_at l.literal l.others size l.sized
 
 -- No line ends within a literal or before the line behind it is whole.
@@ -175,16 +175,16 @@ pub data AtStage (utf8 : Bool) (stage : Stage) (front : List ℕ) : Type 0 where
 
 pub at_stage : (utf8 : Bool) (stage : Stage) (front : List ℕ) → Reached utf8 stage front → AtStage utf8 stage front
 at_stage utf8 Begin front reached = NoData refl (nowhere_front utf8 front reached)
-at_stage utf8 (Behind tag size (awaited.AppendData mailbox flags date in_utf8)) front reached =
+at_stage utf8 (AfterLiteral tag size (awaited.AppendData mailbox flags date in_utf8)) front reached =
     IsData refl reached.3.0 reached.3.1 (announces_once front size reached.3.0.front.announced.size reached.0 (appending_announces utf8 front reached.3.0 reached.3.1))
-at_stage utf8 (Behind tag size awaited.LoginName) front reached = NoData refl reached.3
-at_stage utf8 (Behind tag size (awaited.LoginPassword user)) front reached = NoData refl reached.3
-at_stage utf8 (Behind tag size (awaited.Mailbox n)) front reached = NoData refl reached.3
-at_stage utf8 (Behind tag size awaited.ListReference) front reached = NoData refl reached.3
-at_stage utf8 (Behind tag size (awaited.ListPattern reference)) front reached = NoData refl reached.3
-at_stage utf8 (Behind tag size awaited.StatusName) front reached = NoData refl reached.3
-at_stage utf8 (Behind tag size awaited.AppendName) front reached = NoData refl reached.3
-at_stage utf8 (Behind tag size (awaited.FieldName so_far)) front reached = NoData refl reached.3
+at_stage utf8 (AfterLiteral tag size awaited.LoginName) front reached = NoData refl reached.3
+at_stage utf8 (AfterLiteral tag size (awaited.LoginPassword user)) front reached = NoData refl reached.3
+at_stage utf8 (AfterLiteral tag size (awaited.Mailbox n)) front reached = NoData refl reached.3
+at_stage utf8 (AfterLiteral tag size awaited.ListReference) front reached = NoData refl reached.3
+at_stage utf8 (AfterLiteral tag size (awaited.ListPattern reference)) front reached = NoData refl reached.3
+at_stage utf8 (AfterLiteral tag size awaited.StatusName) front reached = NoData refl reached.3
+at_stage utf8 (AfterLiteral tag size awaited.AppendName) front reached = NoData refl reached.3
+at_stage utf8 (AfterLiteral tag size (awaited.FieldName so_far)) front reached = NoData refl reached.3
 
 if_true : (b : Bool) (m n : ℕ) → b ≡ true → m ≡ (if b then m else n)
 if_true true m n e = refl

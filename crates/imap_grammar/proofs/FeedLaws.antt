@@ -10,7 +10,7 @@ use Rattle.imap_grammar.specs.Commands.{IsCommand}
 use Rattle.imap_grammar.specs.Events.{IsWholeLine, NothingBefore, IsDue, Tells, seen_after}
 use Rattle.imap_grammar.specs.Standing.{HasSeen, Reached, FitsStage, left_of, IsAtLine, AwaitsFew, size_of, is_data, counted_at, line_with, IsUnderLimit, Finds, HasPut, left_after}
 use Rattle.imap_grammar.specs.declared.reader.Stage.{Stage}
-use Rattle.imap_grammar.specs.declared.reader.Stage.TheVariants.{Begin, Behind}
+use Rattle.imap_grammar.specs.declared.reader.Stage.TheVariants.{Begin, AfterLiteral}
 use Rattle.imap_grammar.specs.declared.reader.Reader.{Reader}
 use Rattle.imap_grammar.specs.declared.reader.Found.TheVariants as found
 use Rattle.imap_grammar.specs.declared.event.TheConstants.{APPEND_MAX}
@@ -43,7 +43,7 @@ stands_begin utf8 reader stage literal line place counted = record {
 
 fits_of : (stage : Stage) (literal line : List ℕ) → length literal ≤ size_of stage → (length literal ≡ size_of stage) ⊎ (line ≡ []) → FitsStage stage literal line
 fits_of Begin literal line short either = no_octets literal (omega (arith, short))
-fits_of (Behind tag size a) literal line short either = (short, either)
+fits_of (AfterLiteral tag size a) literal line short either = (short, either)
 
 put_same : (literal line octets : List ℕ) (m : ℕ) → (m ≡ 0) ⊎ (line ≡ []) → (literal ++ take m octets) ++ (line ++ drop m octets) ≡ (literal ++ line) ++ octets
 put_same literal line octets m (inl none) =
@@ -64,9 +64,9 @@ drop_none (suc n) = refl
 counted_body : (stage : Stage) (front literal line : List ℕ) → FitsStage stage literal line → counted_at stage front literal line ≡ count_of stage front (literal ++ line)
 counted_body stage front literal line fits =
     let f = fits_parts stage literal line fits in
-    let behind : drop (size_of stage) (literal ++ line) ≡ line
+    let following : drop (size_of stage) (literal ++ line) ≡ line
     = ap (λ z. drop (size_of stage) z) (sym (append-nil (literal ++ line))) ∙ (drop_body (size_of stage) literal line [] f.0 f.1 ∙ (ap (λ z. line ++ z) (drop_none (size_of stage - length literal)) ∙ append-nil line)) in
-    counts_so (is_data stage) (length front) (length literal) (length line) (length (drop (size_of stage) (literal ++ line))) (length (literal ++ line)) (ap length behind) (length-append literal line)
+    counts_so (is_data stage) (length front) (length literal) (length line) (length (drop (size_of stage) (literal ++ line))) (length (literal ++ line)) (ap length following) (length-append literal line)
 
 module _ (utf8 : Bool) (reader : Reader) (seen : List ℕ) (s : HasSeen utf8 reader seen) (octets : List ℕ) (after : Reader) (p : HasPut reader octets after) (few : IsUnderLimit reader octets) where
   abbrev pub lacking : ℕ
@@ -98,11 +98,11 @@ module _ (utf8 : Bool) (reader : Reader) (seen : List ℕ) (s : HasSeen utf8 rea
       by (inl less) =
           let none : drop lacking octets ≡ [] = drop_all lacking octets (omega (arith, less)) in
           let all : take lacking octets ≡ octets = take_all lacking octets (omega (arith, less)) in
-          fits_of reader.stage after.literal after.line (omega (arith, literal_len, ap length all, less, parts.0)) (inr (p.line ∙ (ap (λ z. reader.line ++ z) none ∙ (append-nil reader.line ∙ none_behind parts.1 less))))
+          fits_of reader.stage after.literal after.line (omega (arith, literal_len, ap length all, less, parts.0)) (inr (p.line ∙ (ap (λ z. reader.line ++ z) none ∙ (append-nil reader.line ∙ none_following parts.1 less))))
         where
-          none_behind : (length reader.literal ≡ size_of reader.stage) ⊎ (reader.line ≡ []) → length octets < lacking → reader.line ≡ []
-          none_behind (inl same) less = absurd (omega (arith, same, less))
-          none_behind (inr none) less = none
+          none_following : (length reader.literal ≡ size_of reader.stage) ⊎ (reader.line ≡ []) → length octets < lacking → reader.line ≡ []
+          none_following (inl same) less = absurd (omega (arith, same, less))
+          none_following (inr none) less = none
       by (inr more) =
           let len : length (take lacking octets) ≡ lacking = length-take-le lacking octets more in
           fits_of reader.stage after.literal after.line (omega (arith, literal_len, len, parts.0)) (inl (omega (arith, literal_len, len, parts.0)))

@@ -33,8 +33,8 @@ use Rattle.imap_grammar.specs.declared.awaited.Next.TheVariants as next
 use Rattle.imap_grammar.specs.declared.fetch.Step.{Step}
 use Rattle.imap_grammar.specs.declared.fetch.Step.TheVariants.{Read, Awaits}
 use Rattle.imap_grammar.specs.Fetching.{IsFetchAtt, IsPartial}
-use Rattle.imap_grammar.specs.Awaiting.{Comes, IsBehindItems}
-use Rattle.imap_grammar.specs.FetchParts.{with_items, IsBehindThese, IsBehindStep, Goes, StepComes, behind_partial, IsSectionEnd}
+use Rattle.imap_grammar.specs.Awaiting.{Comes, IsAfterItems}
+use Rattle.imap_grammar.specs.FetchParts.{with_items, IsAfterThese, IsAfterStep, Goes, StepComes, after_partial, IsSectionEnd}
 use Rattle.imap_grammar.proofs.CommandSteps.{comes_on, hands_on}
 
 -- ---- answers
@@ -45,7 +45,7 @@ memory_on P Q r s failed e q = passes_on P Q r s failed (subst (λ z. Q z) (sym 
 
 -- what comes of the rest comes of the text
 pub goes_on : {P Q : List ℕ → Command → Type 0} {text mid : List ℕ} (utf8 : Bool) (step : Step) (rest : List ℕ) → Leaves P text Q mid → Goes utf8 Q mid step rest → Goes utf8 P text step rest
-goes_on {P} {Q} {text} {mid} utf8 (Read f) rest l goes = leaves_on P Q (IsBehindStep utf8 (Read f)) text mid rest l goes
+goes_on {P} {Q} {text} {mid} utf8 (Read f) rest l goes = leaves_on P Q (IsAfterStep utf8 (Read f)) text mid rest l goes
 goes_on {P} {Q} {text} {mid} utf8 (Awaits size so_far) rest l goes = comes_on utf8 P Q text mid (next.Awaits size (awaited.FieldName so_far)) rest l goes
 
 pub steps_on : {P Q : List ℕ → Command → Type 0} {text mid : List ℕ} (utf8 : Bool) (r : Result (Step × Bor (List ℕ)) Stop) → Leaves P text Q mid
@@ -58,13 +58,13 @@ pub step_left : {L Q : List ℕ → Command → Type 0} {text mid : List ℕ} {s
 step_left {L} {Q} {text} {mid} {step} {is} utf8 rest l e goes = subst (λ z. Goes utf8 L text z rest) e (goes_on utf8 step rest l goes)
 
 -- what is left behind a step
-step_leaves : (utf8 : Bool) (L : List ℕ → Command → Type 0) (text : List ℕ) (step : Step) (rest : List ℕ) → Goes utf8 L text step rest → Leaves L text (IsBehindStep utf8 step) rest
+step_leaves : (utf8 : Bool) (L : List ℕ → Command → Type 0) (text : List ℕ) (step : Step) (rest : List ℕ) → Goes utf8 L text step rest → Leaves L text (IsAfterStep utf8 step) rest
 step_leaves utf8 L text (Read f) rest goes = goes
 step_leaves utf8 L text (Awaits size so_far) rest goes = goes.2
 
 -- a step was read, and what follows it
 pub step_comes : (utf8 : Bool) (L : List ℕ → Command → Type 0) (text mid : List ℕ) (step : Step) (r : Result (Next × Bor (List ℕ)) Stop) → Goes utf8 L text step mid
-    → MatchResult r (λ x. StepComes utf8 step mid x.0 x.1.now) (λ stop. StopsReading (IsBehindStep utf8 step) never mid stop) → MatchResult r (λ x. Comes utf8 L text x.0 x.1.now) (λ stop. StopsReading L never text stop)
+    → MatchResult r (λ x. StepComes utf8 step mid x.0 x.1.now) (λ stop. StopsReading (IsAfterStep utf8 step) never mid stop) → MatchResult r (λ x. Comes utf8 L text x.0 x.1.now) (λ stop. StopsReading L never text stop)
 step_comes utf8 L text mid (Read f) r goes h = hands_on utf8 r goes h
 step_comes utf8 L text mid (Awaits size so_far) (Ok x) goes h =
     subst (λ z. Comes utf8 L text z x.1.now) (sym h.0) (subst (λ z. Comes utf8 L text (next.Awaits size (awaited.FieldName so_far)) z) (sym h.1) goes)
@@ -75,9 +75,9 @@ pub step_awaits : {step : Step} {size : ℕ} {so_far : FieldNames} (utf8 : Bool)
 step_awaits {step} {size} {so_far} utf8 text e = subst (λ z. StepComes utf8 z text (next.Awaits size (awaited.FieldName so_far)) text) (sym e) (refl, refl)
 
 pub step_reads : {step is : Step} (utf8 : Bool) (text : List ℕ) (r : Result (Next × Bor (List ℕ)) Stop) → step ≡ is
-    → MatchResult r (λ x. StepComes utf8 is text x.0 x.1.now) (λ stop. StopsReading (IsBehindStep utf8 is) never text stop)
-    → MatchResult r (λ x. StepComes utf8 step text x.0 x.1.now) (λ stop. StopsReading (IsBehindStep utf8 step) never text stop)
-step_reads {step} {is} utf8 text r e h = subst (λ z. MatchResult r (λ x. StepComes utf8 z text x.0 x.1.now) (λ stop. StopsReading (IsBehindStep utf8 z) never text stop)) (sym e) h
+    → MatchResult r (λ x. StepComes utf8 is text x.0 x.1.now) (λ stop. StopsReading (IsAfterStep utf8 is) never text stop)
+    → MatchResult r (λ x. StepComes utf8 step text x.0 x.1.now) (λ stop. StopsReading (IsAfterStep utf8 step) never text stop)
+step_reads {step} {is} utf8 text r e h = subst (λ z. MatchResult r (λ x. StepComes utf8 z text x.0 x.1.now) (λ stop. StopsReading (IsAfterStep utf8 z) never text stop)) (sym e) h
 
 -- the rest is shorter than a text of which an octet was read before
 pub step_shortens : {text whole : List ℕ} {x : ℕ} (utf8 : Bool) (L : List ℕ → Command → Type 0) (step : Step) (rest : List ℕ) → Goes utf8 L text step rest → whole ≡ x ∷ text → length rest < length whole
@@ -89,8 +89,8 @@ step_shortens {text} {whole} {x} utf8 L step rest goes e =
 
 -- the items were put last
 pub items_read : {L : List ℕ → Command → Type 0} {text : List ℕ} {rest : List ℕ} {made : Fetching} (utf8 : Bool) (f : Fetching) (items : List FetchItem) → made ≡ with_items f items
-    → Leaves L text (IsBehindThese utf8 f items) rest → Goes utf8 L text (Read made) rest
-items_read {L} {text} {rest} utf8 f items e l = subst (λ z. Leaves L text (IsBehindStep utf8 (Read z)) rest) (sym e) l
+    → Leaves L text (IsAfterThese utf8 f items) rest → Goes utf8 L text (Read made) rest
+items_read {L} {text} {rest} utf8 f items e l = subst (λ z. Leaves L text (IsAfterStep utf8 (Read z)) rest) (sym e) l
 
 pub put_on : (f : Fetching) {g h : Fetching} (a b : List FetchItem) → g ≡ with_items f a → h ≡ with_items g b → h ≡ with_items f (a ++ b)
 put_on f a b first second =
@@ -137,20 +137,20 @@ number_none x bad a b v more is e = number_never x bad a b v more is.is_number e
 abbrev pub Ends : (ℕ → Bool) → Type 0
 Ends p = (p 32 ≡ false) × (p 41 ≡ false) × (p 13 ≡ false)
 
-items_avoid : (p : ℕ → Bool) → Ends p → (listed utf8 by_uid : Bool) (set : List (Option ℕ × Option ℕ)) (items : List FetchItem) → Avoids p (IsBehindItems listed utf8 by_uid set items)
+items_avoid : (p : ℕ → Bool) → Ends p → (listed utf8 by_uid : Bool) (set : List (Option ℕ × Option ℕ)) (items : List FetchItem) → Avoids p (IsAfterItems listed utf8 by_uid set items)
 items_avoid p ends true utf8 by_uid set items =
     then_avoids p (IsMoreThan IsSpace (IsFetchAtt utf8) IsCloseParenthesis items) _ (more_avoids IsSpace (IsFetchAtt utf8) IsCloseParenthesis p items (octet_avoids p 32 ends.0) (octet_avoids p 41 ends.1))
 items_avoid p ends false utf8 by_uid set items = then_avoids p IsCrlf _ (then_avoids p (IsOctet 13) (λ _. IsOctet 10) (octet_avoids p 13 ends.2))
 
-pub items_viable : (listed utf8 by_uid : Bool) (set : List (Option ℕ × Option ℕ)) (items : List FetchItem) → IsViable (IsBehindItems listed utf8 by_uid set items) []
+pub items_viable : (listed utf8 by_uid : Bool) (set : List (Option ℕ × Option ℕ)) (items : List FetchItem) → IsViable (IsAfterItems listed utf8 by_uid set items) []
 items_viable true utf8 by_uid set items = then_viable (IsMoreThan IsSpace (IsFetchAtt utf8) IsCloseParenthesis items) _ (more_viable IsSpace (IsFetchAtt utf8) IsCloseParenthesis items (octet_viable 41)) (λ all. then_viable IsCrlf _ crlf_viable (λ _. is_viable _))
 items_viable false utf8 by_uid set items = then_viable IsCrlf _ crlf_viable (λ _. is_viable _)
 
 module _ (utf8 : Bool) (f : Fetching) where
-  pub these_avoid : (p : ℕ → Bool) → Ends p → (items : List FetchItem) → Avoids p (IsBehindThese utf8 f items)
+  pub these_avoid : (p : ℕ → Bool) → Ends p → (items : List FetchItem) → Avoids p (IsAfterThese utf8 f items)
   these_avoid p ends items = items_avoid p ends f.listed utf8 f.uid f.set.ranges (f.items ++ items)
 
-  pub these_viable : (items : List FetchItem) → IsViable (IsBehindThese utf8 f items) []
+  pub these_viable : (items : List FetchItem) → IsViable (IsAfterThese utf8 f items) []
   these_viable items = items_viable f.listed utf8 f.uid f.set.ranges (f.items ++ items)
 
 -- ---- which octets
@@ -196,38 +196,38 @@ partial_more text e = subst (λ z. IsViable (Maybe IsPartial) z) (sym (no_octets
 abbrev pub SomePart : List ℕ → Option (ℕ × ℕ) → Type 0
 SomePart = Then IsPartial (λ v. Is (Some v))
 
-part_over : (u : ℕ × ℕ) (b : List ℕ) → BeginsIn (never u) b → BeginsIn (behind_partial (Some u)) b
+part_over : (u : ℕ × ℕ) (b : List ℕ) → BeginsIn (never u) b → BeginsIn (after_partial (Some u)) b
 part_over u [] h = h
 part_over u (y ∷ b) h = h
 
 module _ (text : List ℕ) (x : ℕ) (xs : List ℕ) (e : text ≡ x ∷ xs) where
-  pub partial_none : (x ≡ 60 → ⊥) → Reads (Maybe IsPartial) behind_partial text None text
-  partial_none other = subst (λ z. Reads (Maybe IsPartial) behind_partial z None z) (sym e) (nothing_reads None SomePart behind_partial x xs (seq_never IsPartial _ x (then_never 60 x _ other)))
+  pub partial_none : (x ≡ 60 → ⊥) → Reads (Maybe IsPartial) after_partial text None text
+  partial_none other = subst (λ z. Reads (Maybe IsPartial) after_partial z None z) (sym e) (nothing_reads None SomePart after_partial x xs (seq_never IsPartial _ x (then_never 60 x _ other)))
 
-  pub partial_stops : (stop : Stop) → x ≡ 60 → StopsReading IsPartial never text stop → StopsReading (Maybe IsPartial) behind_partial text stop
+  pub partial_stops : (stop : Stop) → x ≡ 60 → StopsReading IsPartial never text stop → StopsReading (Maybe IsPartial) after_partial text stop
   partial_stops stop same stops =
       let at : text ≡ 60 ∷ xs = e ∙ ap (λ z. z ∷ xs) same in
-      subst (λ z. StopsReading (Maybe IsPartial) behind_partial z stop) (sym at)
-      (something_stops None SomePart behind_partial 60 xs stop refl (subst (λ z. StopsReading SomePart behind_partial z stop) at (mapped_stops IsPartial Some never behind_partial text stop part_over stops)))
+      subst (λ z. StopsReading (Maybe IsPartial) after_partial z stop) (sym at)
+      (something_stops None SomePart after_partial 60 xs stop refl (subst (λ z. StopsReading SomePart after_partial z stop) at (mapped_stops IsPartial Some never after_partial text stop part_over stops)))
 
-  pub partial_reads : (v : ℕ × ℕ) (rest : List ℕ) → x ≡ 60 → Reads IsPartial never text v rest → Reads (Maybe IsPartial) behind_partial text (Some v) rest
+  pub partial_reads : (v : ℕ × ℕ) (rest : List ℕ) → x ≡ 60 → Reads IsPartial never text v rest → Reads (Maybe IsPartial) after_partial text (Some v) rest
   partial_reads v rest same r =
       let at : text ≡ 60 ∷ xs = e ∙ ap (λ z. z ∷ xs) same in
-      subst (λ z. Reads (Maybe IsPartial) behind_partial z (Some v) rest) (sym at)
-      (something_reads None SomePart behind_partial 60 xs (Some v) rest refl (subst (λ z. Reads SomePart behind_partial z (Some v) rest) at (mapped_reads IsPartial Some never behind_partial text rest v part_over r)))
+      subst (λ z. Reads (Maybe IsPartial) after_partial z (Some v) rest) (sym at)
+      (something_reads None SomePart after_partial 60 xs (Some v) rest refl (subst (λ z. Reads SomePart after_partial z (Some v) rest) at (mapped_reads IsPartial Some never after_partial text rest v part_over r)))
 
 -- ---- the end of a section
 
 module _ (utf8 : Bool) (f : Fetching) (peek : Bool) (path : List ℕ) (part : SectionPart) where
-  pub partial_avoids : (v : Option (ℕ × ℕ)) → Avoids (behind_partial v) (IsBehindThese utf8 f (item.Section peek path part v ∷ []))
-  partial_avoids None = these_avoid utf8 f (behind_partial None) (refl, refl, refl) (item.Section peek path part None ∷ [])
-  partial_avoids (Some p) = these_avoid utf8 f (behind_partial (Some p)) (refl, refl, refl) (item.Section peek path part (Some p) ∷ [])
+  pub partial_avoids : (v : Option (ℕ × ℕ)) → Avoids (after_partial v) (IsAfterThese utf8 f (item.Section peek path part v ∷ []))
+  partial_avoids None = these_avoid utf8 f (after_partial None) (refl, refl, refl) (item.Section peek path part None ∷ [])
+  partial_avoids (Some p) = these_avoid utf8 f (after_partial (Some p)) (refl, refl, refl) (item.Section peek path part (Some p) ∷ [])
 
-  pub behind_close_viable : IsViable (Then (Maybe IsPartial) (λ v. IsBehindThese utf8 f (item.Section peek path part v ∷ []))) []
-  behind_close_viable = then_viable (Maybe IsPartial) _ partial_viable (λ v. these_viable utf8 f (item.Section peek path part v ∷ []))
+  pub after_close_viable : IsViable (Then (Maybe IsPartial) (λ v. IsAfterThese utf8 f (item.Section peek path part v ∷ []))) []
+  after_close_viable = then_viable (Maybe IsPartial) _ partial_viable (λ v. these_viable utf8 f (item.Section peek path part v ∷ []))
 
   pub end_avoids : (p : ℕ → Bool) → p 93 ≡ false → Avoids p (IsSectionEnd utf8 f peek path part)
   end_avoids p e = then_avoids p (IsOctet 93) _ (octet_avoids p 93 e)
 
   pub end_viable : IsViable (IsSectionEnd utf8 f peek path part) []
-  end_viable = then_viable (IsOctet 93) _ (octet_viable 93) (λ _. behind_close_viable)
+  end_viable = then_viable (IsOctet 93) _ (octet_viable 93) (λ _. after_close_viable)

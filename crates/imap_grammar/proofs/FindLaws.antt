@@ -9,7 +9,7 @@ use Rattle.mail_wire.specs.declared.framing.TheConstants.{LINE_MAX}
 use Rattle.imap_grammar.specs.Events.{IsWholeLine, Counts, IsShort, NothingBefore}
 use Rattle.imap_grammar.specs.Standing.{HasSeen, FitsStage, size_of, is_data, line_with, HasLineEnd, counting, IsUnderLimit, Finds}
 use Rattle.imap_grammar.specs.declared.reader.Stage.{Stage}
-use Rattle.imap_grammar.specs.declared.reader.Stage.TheVariants.{Begin, Behind}
+use Rattle.imap_grammar.specs.declared.reader.Stage.TheVariants.{Begin, AfterLiteral}
 use Rattle.imap_grammar.specs.declared.reader.Reader.{Reader}
 use Rattle.imap_grammar.specs.declared.reader.Found.TheVariants as found
 use Rattle.imap_grammar.proofs.LineLaws.{cut_same}
@@ -18,7 +18,7 @@ use Rattle.imap_grammar.proofs.EventLaws.{drop_append, front_none, line_front_no
 
 pub fits_parts : (stage : Stage) (literal line : List ℕ) → FitsStage stage literal line → (length literal ≤ size_of stage) × ((length literal ≡ size_of stage) ⊎ (line ≡ []))
 fits_parts Begin literal line none = (omega (arith, ap length none), inl (ap length none))
-fits_parts (Behind tag size a) literal line fits = fits
+fits_parts (AfterLiteral tag size a) literal line fits = fits
 
 -- octets behind the literal stand in the line
 pub drop_body : (size : ℕ) (literal line octets : List ℕ) → length literal ≤ size → (length literal ≡ size) ⊎ (line ≡ []) → drop size ((literal ++ line) ++ octets) ≡ line ++ drop (size - length literal) octets
@@ -44,14 +44,14 @@ module _ (utf8 : Bool) (reader : Reader) (seen piece : List ℕ) (s : HasSeen ut
   abbrev pub body : List ℕ
   body = reader.literal ++ reader.line
 
-  pub behind : (octets : List ℕ) → drop (size_of reader.stage) (body ++ octets) ≡ line_with reader octets
-  behind octets = let f = fits_parts reader.stage reader.literal reader.line s.fits in drop_body (size_of reader.stage) reader.literal reader.line octets f.0 f.1
+  pub following : (octets : List ℕ) → drop (size_of reader.stage) (body ++ octets) ≡ line_with reader octets
+  following octets = let f = fits_parts reader.stage reader.literal reader.line s.fits in drop_body (size_of reader.stage) reader.literal reader.line octets f.0 f.1
 
   pub counted_more : (octets : List ℕ) → reader.counted + counting reader octets ≡ count_of reader.stage s.front (body ++ octets)
   counted_more octets =
       ap (λ z. z + counting reader octets) s.counts
       ∙ sums (is_data reader.stage) (length s.front) (length reader.literal) (length reader.line) (length (drop missing octets)) (length octets) (length (drop (size_of reader.stage) (body ++ octets))) (length (body ++ octets))
-      (ap length (behind octets) ∙ length-append reader.line (drop missing octets))
+      (ap length (following octets) ∙ length-append reader.line (drop missing octets))
       (length-append body octets ∙ ap (λ z. z + length octets) (length-append reader.literal reader.line))
 
   few_fronts : (n m : ℕ) → n ≤ m → m ≤ length piece → IsUnderLimit reader (take m piece) → IsUnderLimit reader (take n piece)
@@ -67,11 +67,11 @@ module _ (utf8 : Bool) (reader : Reader) (seen piece : List ℕ) (s : HasSeen ut
 
   quiet_open : first_line (line_with reader piece) ≡ None → (n : ℕ) → Quiet reader.stage (body ++ take n piece)
   quiet_open none n =
-      ap (λ z. first_line z) (behind (take n piece))
+      ap (λ z. first_line z) (following (take n piece))
       ∙ front_none (line_with reader (take n piece)) (drop (missing - length (take n piece)) (drop n piece)) (ap (λ z. first_line z) (sym (line_parts n piece)) ∙ none)
 
   quiet_line : (end : ℕ) → end ≤ length piece → IsWholeLine (line_with reader (take end piece)) → (n : ℕ) → n < end → Quiet reader.stage (body ++ take n piece)
-  quiet_line end fits is n less = ap (λ z. first_line z) (behind (take n piece)) ∙ elim (cases_lt n missing) [
+  quiet_line end fits is n less = ap (λ z. first_line z) (following (take n piece)) ∙ elim (cases_lt n missing) [
     | inl within ↦
         let short : length (take n piece) ≤ missing = omega (arith, within, length-take-le n piece (omega (arith, less, fits))) in
         ap (λ z. first_line z) (ap (λ z. reader.line ++ z) (drop_all missing (take n piece) short) ∙ append-nil reader.line) ∙ s.no_line
@@ -117,7 +117,7 @@ module _ (utf8 : Bool) (reader : Reader) (seen piece : List ℕ) (s : HasSeen ut
       at : Quiet reader.stage (body ++ take used piece) ⊎ IsWholeLine (drop (size_of reader.stage) (body ++ take used piece))
       at = elim (cases_lt used end) [
         | inl shorter ↦ inl (quiet_line end fits is used shorter)
-        | inr same ↦ let e : end ≡ used = omega (arith, same, less) in inr (subst IsWholeLine (ap (λ m. line_with reader (take m piece)) e ∙ sym (behind (take used piece))) is)
+        | inr same ↦ let e : end ≡ used = omega (arith, same, less) in inr (subst IsWholeLine (ap (λ m. line_with reader (take m piece)) e ∙ sym (following (take used piece))) is)
       ]
 
 -- ---- the end of the line in a piece
@@ -148,26 +148,26 @@ end_short reader piece wanted e short none =
     let all : length piece ≤ size_of reader.stage - length reader.literal = omega (arith, e, short) in
     ap (λ z. first_line z) (ap (λ z. reader.line ++ z) (drop_all (size_of reader.stage - length reader.literal) piece all) ∙ append-nil reader.line) ∙ none
 
-pub end_found : (reader : Reader) (piece behind : List ℕ) (wanted end used : ℕ) (rest : List ℕ) → wanted ≡ size_of reader.stage - length reader.literal → behind ≡ drop wanted piece → used ≡ wanted + end
-    → first_line (reader.line ++ behind) ≡ Some (record { line = reader.line ++ take end behind; rest = rest }) → IsWholeLine (line_with reader (take used piece)) × (size_of reader.stage ≤ length reader.literal + used)
-end_found reader piece behind wanted end used rest e b u found =
-    let line : IsWholeLine (reader.line ++ take end behind) = cut_line (reader.line ++ behind) (record { line = reader.line ++ take end behind; rest = rest }) found in
-    let same : take end behind ≡ drop (size_of reader.stage - length reader.literal) (take used piece)
+pub end_found : (reader : Reader) (piece following : List ℕ) (wanted end used : ℕ) (rest : List ℕ) → wanted ≡ size_of reader.stage - length reader.literal → following ≡ drop wanted piece → used ≡ wanted + end
+    → first_line (reader.line ++ following) ≡ Some (record { line = reader.line ++ take end following; rest = rest }) → IsWholeLine (line_with reader (take used piece)) × (size_of reader.stage ≤ length reader.literal + used)
+end_found reader piece following wanted end used rest e b u found =
+    let line : IsWholeLine (reader.line ++ take end following) = cut_line (reader.line ++ following) (record { line = reader.line ++ take end following; rest = rest }) found in
+    let same : take end following ≡ drop (size_of reader.stage - length reader.literal) (take used piece)
     = ap (λ z. take end z) b ∙ (sym (drop-take wanted end piece) ∙ (ap (λ m. drop wanted (take m piece)) (sym u) ∙ ap (λ m. drop m (take used piece)) e)) in
     (subst (λ z. IsWholeLine (reader.line ++ z)) same line, omega (arith, e, u))
 
-pub end_found_at : (reader : Reader) (piece kept behind : List ℕ) (wanted end : ℕ) → kept ≡ reader.line → wanted ≡ size_of reader.stage - length reader.literal → behind ≡ drop wanted piece
-    → (first_line kept ≡ None → first_line (kept ++ behind) ≡ Some (record { line = kept ++ take end behind; rest = drop end behind })) → first_line reader.line ≡ None
+pub end_found_at : (reader : Reader) (piece kept following : List ℕ) (wanted end : ℕ) → kept ≡ reader.line → wanted ≡ size_of reader.stage - length reader.literal → following ≡ drop wanted piece
+    → (first_line kept ≡ None → first_line (kept ++ following) ≡ Some (record { line = kept ++ take end following; rest = drop end following })) → first_line reader.line ≡ None
     → IsWholeLine (line_with reader (take (wanted + end) piece)) × (size_of reader.stage ≤ length reader.literal + (wanted + end))
-end_found_at reader piece kept behind wanted end k w b found none =
-    let here = subst (λ z. first_line z ≡ None → first_line (z ++ behind) ≡ Some (record { line = z ++ take end behind; rest = drop end behind })) k found in
-    end_found reader piece behind wanted end (wanted + end) (drop end behind) w b refl (here none)
+end_found_at reader piece kept following wanted end k w b found none =
+    let here = subst (λ z. first_line z ≡ None → first_line (z ++ following) ≡ Some (record { line = z ++ take end following; rest = drop end following })) k found in
+    end_found reader piece following wanted end (wanted + end) (drop end following) w b refl (here none)
 
 -- A line ends there also where one ended before.
-pub end_there : (reader : Reader) (piece kept behind : List ℕ) (wanted end : ℕ) → kept ≡ reader.line → wanted ≡ size_of reader.stage - length reader.literal → behind ≡ drop wanted piece
-    → (first_line kept ≡ None → first_line (kept ++ behind) ≡ Some (record { line = kept ++ take end behind; rest = drop end behind })) → HasLineEnd (line_with reader (take (wanted + end) piece))
-end_there reader piece kept behind wanted end k w b found none =
-    other (sym none ∙ (end_found_at reader piece kept behind wanted end k w b found (front_none reader.line (drop (size_of reader.stage - length reader.literal) (take (wanted + end) piece)) none)).0)
+pub end_there : (reader : Reader) (piece kept following : List ℕ) (wanted end : ℕ) → kept ≡ reader.line → wanted ≡ size_of reader.stage - length reader.literal → following ≡ drop wanted piece
+    → (first_line kept ≡ None → first_line (kept ++ following) ≡ Some (record { line = kept ++ take end following; rest = drop end following })) → HasLineEnd (line_with reader (take (wanted + end) piece))
+end_there reader piece kept following wanted end k w b found none =
+    other (sym none ∙ (end_found_at reader piece kept following wanted end k w b found (front_none reader.line (drop (size_of reader.stage - length reader.literal) (take (wanted + end) piece)) none)).0)
   where
     other : {cut : Cut} → None ≡ Some cut → ⊥
     other same = cc same

@@ -71,18 +71,18 @@ module _ (text : List ℕ) (x : ℕ) (xs : List ℕ) (e : text ≡ x ∷ xs) whe
     escaped : Continues IsFlag text (SaysItself Escaped) text
     escaped = subst (λ z. Continues IsFlag z (SaysItself Escaped) z) (sym (e ∙ ap (λ z. z ∷ xs) same)) (right_continues IsImapAtom (SaysItself Escaped) 92 xs (run_never Atom 92 backslash_ends))
 
-    behind : Continues Escaped text IsImapAtom xs
-    behind = onwards (begins Escaped text) (octet_at text x 92 xs e same) (λ _. never_avoids _)
+    following : Continues Escaped text IsImapAtom xs
+    following = onwards (begins Escaped text) (octet_at text x 92 xs e same) (λ _. never_avoids _)
 
     pub escaped_stops : (stop : Stop) → StopsReading IsImapAtom (always is_atom_char) xs stop → StopsReading IsFlag (always is_atom_char) text stop
-    escaped_stops stop stops = escaped.stops (always is_atom_char) stop (written_stops Escaped (always is_atom_char) (always is_atom_char) (λ u a b h. h) text stop (behind.stops (always is_atom_char) stop stops))
+    escaped_stops stop stops = escaped.stops (always is_atom_char) stop (written_stops Escaped (always is_atom_char) (always is_atom_char) (λ u a b h. h) text stop (following.stops (always is_atom_char) stop stops))
 
     pub escaped_split : (v rest front back : List ℕ) → Reads IsImapAtom (always is_atom_char) xs v rest → front ≡ take (length text - length rest) text → back ≡ drop (length text - length rest) text → Reads IsFlag (always is_atom_char) text front back
     escaped_split v rest front back r f b =
-        escaped.reads (always is_atom_char) front back (written_split Escaped (always is_atom_char) (always is_atom_char) (λ u a b h. h) text rest front back v (behind.reads (always is_atom_char) v rest r) f b)
+        escaped.reads (always is_atom_char) front back (written_split Escaped (always is_atom_char) (always is_atom_char) (λ u a b h. h) text rest front back v (following.reads (always is_atom_char) v rest r) f b)
 
     pub escaped_shorter : (v rest : List ℕ) → Reads IsImapAtom (always is_atom_char) xs v rest → Reads Escaped (always is_atom_char) text v rest
-    escaped_shorter v rest r = behind.reads (always is_atom_char) v rest r
+    escaped_shorter v rest r = following.reads (always is_atom_char) v rest r
 
 -- ---- flags up to an octet
 
@@ -129,9 +129,9 @@ module _ (close : ℕ) (ends : EndsFlags close) (text : List ℕ) where
       pub close_stops : (stop : Stop) → (x ≡ 32 → ⊥) → StopsReading (IsOctet close) never rest stop → StopsReading (HasFlags (AreFlags close)) never text stop
       close_stops stop other stops = value_stops (AreFlags close) text stop (ends_at never never stop (list_close 32 IsFlag (IsOctet close) far.flags x others far.so e other) stops (λ _. never_avoids _) (λ _. is_viable far.flags))
 
-      pub close_reads : (behind : List ℕ) (v : ℕ) → (x ≡ 32 → ⊥) → Reads (IsOctet close) never rest close behind → v ≡ flags_of far.flags → Reads (HasFlags (AreFlags close)) never text v behind
-      close_reads behind v other r is =
-          value_reads (AreFlags close) text behind far.flags v ((onwards (list_close 32 IsFlag (IsOctet close) far.flags x others far.so e other) r (λ _. never_avoids _)).reads never far.flags behind (is_reads far.flags behind)) is
+      pub close_reads : (following : List ℕ) (v : ℕ) → (x ≡ 32 → ⊥) → Reads (IsOctet close) never rest close following → v ≡ flags_of far.flags → Reads (HasFlags (AreFlags close)) never text v following
+      close_reads following v other r is =
+          value_reads (AreFlags close) text following far.flags v ((onwards (list_close 32 IsFlag (IsOctet close) far.flags x others far.so e other) r (λ _. never_avoids _)).reads never far.flags following (is_reads far.flags following)) is
 
       next_flag : x ≡ 32 → Continues (AreFlags close) text (Then IsFlag (λ u. IsMoreThan IsSpace IsFlag (IsOctet close) (far.flags ++ u ∷ []))) others
       next_flag same = list_separator 32 IsFlag (IsOctet close) far.flags x others far.so e same (octet_never close 32 (λ bad. ends.1 (sym bad)))
@@ -195,11 +195,11 @@ flag_list_viable = record {
 }
 
 module _ (text rest : List ℕ) (r : Reads IsOpenParenthesis never text 40 rest) where
-  behind_open : Continues (HasFlags IsFlagList) text (HasFlags InList) rest
-  behind_open = onwards (list_begins text) r (λ _. never_avoids _)
+  after_open : Continues (HasFlags IsFlagList) text (HasFlags InList) rest
+  after_open = onwards (list_begins text) r (λ _. never_avoids _)
 
   pub list_is_open : length rest ≡ 0 → StopsReading (HasFlags IsFlagList) never text More
-  list_is_open none = behind_open.stops never More (subst (λ z. IsViable (HasFlags InList) z) (sym (no_octets rest none)) in_list_viable)
+  list_is_open none = after_open.stops never More (subst (λ z. IsViable (HasFlags InList) z) (sym (no_octets rest none)) in_list_viable)
 
   module _ (x : ℕ) (xs : List ℕ) (e : rest ≡ x ∷ xs) where
     pub empty_reads : x ≡ 41 → Reads (HasFlags IsFlagList) never text 0 xs
@@ -208,19 +208,19 @@ module _ (text rest : List ℕ) (r : Reads IsOpenParenthesis never text 40 rest)
         = subst (λ z. Continues (HasFlags InList) z (Then (After IsCloseParenthesis (Is [])) (λ flags. Is (flags_of flags))) z) (sym (e ∙ ap (λ z. z ∷ xs) same))
         (then_left (After IsCloseParenthesis (Is [])) (AreFlags 41) (λ flags. Is (flags_of flags)) 41 xs (seq_never IsFlag _ 41 (flag_never 41 close_ends.0 (λ bad. omega (arith, bad))))) in
         let apart : Continues (Then (After IsCloseParenthesis (Is [])) (λ flags. Is (flags_of flags))) rest (After IsCloseParenthesis (Then (Is []) (λ flags. Is (flags_of flags)))) rest = regroup IsCloseParenthesis (λ _. Is []) (λ flags. Is (flags_of flags)) rest in
-        let at = onwards (and_then _ _ _ _ _ _ (and_then _ _ _ _ _ _ behind_open closed) apart) (octet_at rest x 41 xs e same) (λ _. never_avoids _) in
+        let at = onwards (and_then _ _ _ _ _ _ (and_then _ _ _ _ _ _ after_open closed) apart) (octet_at rest x 41 xs e same) (λ _. never_avoids _) in
         subst (λ z. Reads (HasFlags IsFlagList) never text z xs) no_flags ((and_then _ _ _ _ _ _ at (nothing_then [] (λ flags. Is (flags_of flags)) xs)).reads never (flags_of []) xs (is_reads (flags_of []) xs))
 
     some_here : (x ≡ 41 → ⊥) → Continues (HasFlags IsFlagList) text (HasFlags (AreFlags 41)) rest
     some_here other =
-        and_then _ _ _ _ _ _ behind_open
+        and_then _ _ _ _ _ _ after_open
         (subst (λ z. Continues (HasFlags InList) z (HasFlags (AreFlags 41)) z) (sym e) (then_right (After IsCloseParenthesis (Is [])) (AreFlags 41) (λ flags. Is (flags_of flags)) x xs (then_never 41 x (λ _. Is []) other)))
 
     pub some_stops : (stop : Stop) → (x ≡ 41 → ⊥) → StopsReading (HasFlags (AreFlags 41)) never rest stop → StopsReading (HasFlags IsFlagList) never text stop
     some_stops stop other stops = (some_here other).stops never stop stops
 
-    pub some_reads : (v : ℕ) (behind : List ℕ) → (x ≡ 41 → ⊥) → Reads (HasFlags (AreFlags 41)) never rest v behind → Reads (HasFlags IsFlagList) never text v behind
-    some_reads v behind other r = (some_here other).reads never v behind r
+    pub some_reads : (v : ℕ) (following : List ℕ) → (x ≡ 41 → ⊥) → Reads (HasFlags (AreFlags 41)) never rest v following → Reads (HasFlags IsFlagList) never text v following
+    some_reads v following other r = (some_here other).reads never v following r
 
 -- ---- flags up to the line's end
 
@@ -272,11 +272,11 @@ module _ (text : List ℕ) (x : ℕ) (xs : List ℕ) (e : text ≡ x ∷ xs) whe
   pub listed_stops : (stop : Stop) → x ≡ 40 → StopsReading (HasFlags IsFlagList) never text stop → StopsReading (HasFlags IsFlagsToEnd) never text stop
   listed_stops stop same stops = ends_at never never stop (listed same) stops (λ _. never_avoids _) (λ n. then_viable IsCrlf _ crlf_viable (λ _. is_viable n))
 
-  module _ (v : ℕ) (behind : List ℕ) (r : Reads (HasFlags IsFlagList) never text v behind) where
-    pub listed_end_stops : (stop : Stop) → x ≡ 40 → StopsReading IsCrlf never behind stop → StopsReading (HasFlags IsFlagsToEnd) never text stop
+  module _ (v : ℕ) (following : List ℕ) (r : Reads (HasFlags IsFlagList) never text v following) where
+    pub listed_end_stops : (stop : Stop) → x ≡ 40 → StopsReading IsCrlf never following stop → StopsReading (HasFlags IsFlagsToEnd) never text stop
     listed_end_stops stop same stops = ends_at never never stop (onwards (listed same) r (λ _. never_avoids _)) stops (λ _. never_avoids _) (λ _. is_viable v)
 
-    pub listed_end_reads : (rest : List ℕ) → x ≡ 40 → Reads IsCrlf never behind 10 rest → Reads (HasFlags IsFlagsToEnd) never text v rest
+    pub listed_end_reads : (rest : List ℕ) → x ≡ 40 → Reads IsCrlf never following 10 rest → Reads (HasFlags IsFlagsToEnd) never text v rest
     listed_end_reads rest same s = (onwards (onwards (listed same) r (λ _. never_avoids _)) s (λ _. never_avoids _)).reads never v rest (is_reads v rest)
 
   -- flags and the line's end
@@ -292,9 +292,9 @@ module _ (text : List ℕ) (x : ℕ) (xs : List ℕ) (e : text ≡ x ∷ xs) whe
   pub unlisted_stops : (stop : Stop) → (x ≡ 40 → ⊥) → StopsReading (HasFlags (AreFlags 13)) never text stop → StopsReading (HasFlags IsFlagsToEnd) never text stop
   unlisted_stops stop other stops = ends_at never never stop (unlisted other) stops (λ _. never_avoids _) (λ n. then_viable (IsOctet 10) _ (octet_viable 10) (λ _. is_viable n))
 
-  module _ (v : ℕ) (behind : List ℕ) (r : Reads (HasFlags (AreFlags 13)) never text v behind) where
-    pub unlisted_end_stops : (stop : Stop) → (x ≡ 40 → ⊥) → StopsReading (IsOctet 10) never behind stop → StopsReading (HasFlags IsFlagsToEnd) never text stop
+  module _ (v : ℕ) (following : List ℕ) (r : Reads (HasFlags (AreFlags 13)) never text v following) where
+    pub unlisted_end_stops : (stop : Stop) → (x ≡ 40 → ⊥) → StopsReading (IsOctet 10) never following stop → StopsReading (HasFlags IsFlagsToEnd) never text stop
     unlisted_end_stops stop other stops = ends_at never never stop (onwards (unlisted other) r (λ _. never_avoids _)) stops (λ _. never_avoids _) (λ _. is_viable v)
 
-    pub unlisted_end_reads : (rest : List ℕ) → (x ≡ 40 → ⊥) → Reads (IsOctet 10) never behind 10 rest → Reads (HasFlags IsFlagsToEnd) never text v rest
+    pub unlisted_end_reads : (rest : List ℕ) → (x ≡ 40 → ⊥) → Reads (IsOctet 10) never following 10 rest → Reads (HasFlags IsFlagsToEnd) never text v rest
     unlisted_end_reads rest other s = (onwards (onwards (unlisted other) r (λ _. never_avoids _)) s (λ _. never_avoids _)).reads never v rest (is_reads v rest)

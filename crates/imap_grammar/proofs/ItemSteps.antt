@@ -24,10 +24,10 @@ use Rattle.imap_grammar.specs.declared.command.FetchItem.TheVariants as item
 use Rattle.imap_grammar.specs.declared.words.ItemWord.{ItemWord}
 use Rattle.imap_grammar.specs.declared.words.ItemWord.TheVariants as word
 use Rattle.imap_grammar.specs.declared.awaited.Fetching.{Fetching}
-use Rattle.imap_grammar.specs.Fetching.{item_words, macro_words, behind_item_word, IsSectionItem, IsBehindItem, IsFetchAtt, macro_items, IsFetchItems}
+use Rattle.imap_grammar.specs.Fetching.{item_words, macro_words, after_item_word, IsSectionItem, IsAfterItem, IsFetchAtt, macro_items, IsFetchItems}
 use Rattle.imap_grammar.specs.Commands.{IsBareCommand}
-use Rattle.imap_grammar.specs.Awaiting.{IsBehindItems}
-use Rattle.imap_grammar.specs.FetchParts.{IsBehindThese, IsSectionOf, IsBehindAny, IsRestOf, IsListed, IsLoneItem}
+use Rattle.imap_grammar.specs.Awaiting.{IsAfterItems}
+use Rattle.imap_grammar.specs.FetchParts.{IsAfterThese, IsSectionOf, IsAfterAny, IsRestOf, IsListed, IsLoneItem}
 use Rattle.imap_grammar.proofs.Sames.{Same, same_self, same_on, same_turned, first_same, second_same, then_apart, is_then, or_same, or_then, more_steps, avoids_same, viable_same, never_same, or_avoids, left_viable, avoids_never, leaves_same, leaves_left, leaves_right}
 use Rattle.imap_grammar.proofs.FetchEnds.{these_avoid, these_viable, items_viable}
 use Rattle.imap_grammar.proofs.StoreSteps.{set_viable}
@@ -93,23 +93,23 @@ any_table = is_table _ _ refl refl
 
 -- what follows a word
 module _ (utf8 : Bool) where
-  item_follows : (w : ItemWord) → is_macro w ≡ false → Same (Then (IsBehindItem utf8 w) (λ i. Is (i ∷ []))) (IsBehindAny utf8 w)
-  item_follows word.Flags e = same_self (IsBehindAny utf8 word.Flags)
-  item_follows word.Uid e = same_self (IsBehindAny utf8 word.Uid)
-  item_follows word.InternalDate e = same_self (IsBehindAny utf8 word.InternalDate)
-  item_follows word.Size e = same_self (IsBehindAny utf8 word.Size)
-  item_follows word.Rfc822 e = same_self (IsBehindAny utf8 word.Rfc822)
-  item_follows word.Rfc822Header e = same_self (IsBehindAny utf8 word.Rfc822Header)
-  item_follows word.Rfc822Text e = same_self (IsBehindAny utf8 word.Rfc822Text)
-  item_follows word.Envelope e = same_self (IsBehindAny utf8 word.Envelope)
-  item_follows word.BodyStructure e = same_self (IsBehindAny utf8 word.BodyStructure)
-  item_follows word.Body e = same_self (IsBehindAny utf8 word.Body)
-  item_follows word.BodyPeek e = same_self (IsBehindAny utf8 word.BodyPeek)
+  item_follows : (w : ItemWord) → is_macro w ≡ false → Same (Then (IsAfterItem utf8 w) (λ i. Is (i ∷ []))) (IsAfterAny utf8 w)
+  item_follows word.Flags e = same_self (IsAfterAny utf8 word.Flags)
+  item_follows word.Uid e = same_self (IsAfterAny utf8 word.Uid)
+  item_follows word.InternalDate e = same_self (IsAfterAny utf8 word.InternalDate)
+  item_follows word.Size e = same_self (IsAfterAny utf8 word.Size)
+  item_follows word.Rfc822 e = same_self (IsAfterAny utf8 word.Rfc822)
+  item_follows word.Rfc822Header e = same_self (IsAfterAny utf8 word.Rfc822Header)
+  item_follows word.Rfc822Text e = same_self (IsAfterAny utf8 word.Rfc822Text)
+  item_follows word.Envelope e = same_self (IsAfterAny utf8 word.Envelope)
+  item_follows word.BodyStructure e = same_self (IsAfterAny utf8 word.BodyStructure)
+  item_follows word.Body e = same_self (IsAfterAny utf8 word.Body)
+  item_follows word.BodyPeek e = same_self (IsAfterAny utf8 word.BodyPeek)
   item_follows word.All e = absurd (both_ways true e refl)
   item_follows word.Fast e = absurd (both_ways true e refl)
   item_follows word.Full e = absurd (both_ways true e refl)
 
-  macro_follows : (w : ItemWord) → is_macro w ≡ true → Same (Is (macro_items w)) (IsBehindAny utf8 w)
+  macro_follows : (w : ItemWord) → is_macro w ≡ true → Same (Is (macro_items w)) (IsAfterAny utf8 w)
   macro_follows word.Flags e = absurd (both_ways false refl e)
   macro_follows word.Uid e = absurd (both_ways false refl e)
   macro_follows word.InternalDate e = absurd (both_ways false refl e)
@@ -121,15 +121,15 @@ module _ (utf8 : Bool) where
   macro_follows word.BodyStructure e = absurd (both_ways false refl e)
   macro_follows word.Body e = absurd (both_ways false refl e)
   macro_follows word.BodyPeek e = absurd (both_ways false refl e)
-  macro_follows word.All e = same_self (IsBehindAny utf8 word.All)
-  macro_follows word.Fast e = same_self (IsBehindAny utf8 word.Fast)
-  macro_follows word.Full e = same_self (IsBehindAny utf8 word.Full)
+  macro_follows word.All e = same_self (IsAfterAny utf8 word.All)
+  macro_follows word.Fast e = same_self (IsAfterAny utf8 word.Fast)
+  macro_follows word.Full e = same_self (IsAfterAny utf8 word.Full)
 
 -- ---- behind a word
 
 module _ (utf8 : Bool) (f : Fetching) where
   abbrev pub These : List FetchItem → List ℕ → Command → Type 0
-  These = IsBehindThese utf8 f
+  These = IsAfterThese utf8 f
 
   -- an item that is its word
   pub plain_rest : (i : FetchItem) → Same (Then (Then (Is i) (λ j. Is (j ∷ []))) These) (These (i ∷ []))
@@ -196,21 +196,21 @@ module _ (utf8 : Bool) (f : Fetching) where
   rest_viable word.Fast = macro_viable (macro_items word.Fast)
   rest_viable word.Full = macro_viable (macro_items word.Full)
 
-  pub rest_avoids : (w : ItemWord) → Avoids (behind_item_word w) (IsRestOf utf8 f w)
+  pub rest_avoids : (w : ItemWord) → Avoids (after_item_word w) (IsRestOf utf8 f w)
   rest_avoids word.Flags = never_avoids (IsRestOf utf8 f word.Flags)
   rest_avoids word.Uid = never_avoids (IsRestOf utf8 f word.Uid)
   rest_avoids word.InternalDate = never_avoids (IsRestOf utf8 f word.InternalDate)
   rest_avoids word.Size = never_avoids (IsRestOf utf8 f word.Size)
   rest_avoids word.Rfc822 =
-      avoids_same (behind_item_word word.Rfc822) (IsRestOf utf8 f word.Rfc822) (These (item.Rfc822 ∷ [])) (plain_rest item.Rfc822) (these_avoid utf8 f (behind_item_word word.Rfc822) (refl, refl, refl) (item.Rfc822 ∷ []))
+      avoids_same (after_item_word word.Rfc822) (IsRestOf utf8 f word.Rfc822) (These (item.Rfc822 ∷ [])) (plain_rest item.Rfc822) (these_avoid utf8 f (after_item_word word.Rfc822) (refl, refl, refl) (item.Rfc822 ∷ []))
   rest_avoids word.Rfc822Header = never_avoids (IsRestOf utf8 f word.Rfc822Header)
   rest_avoids word.Rfc822Text = never_avoids (IsRestOf utf8 f word.Rfc822Text)
   rest_avoids word.Envelope = never_avoids (IsRestOf utf8 f word.Envelope)
   rest_avoids word.BodyStructure = never_avoids (IsRestOf utf8 f word.BodyStructure)
   rest_avoids word.Body =
-      avoids_same (behind_item_word word.Body) (IsRestOf utf8 f word.Body) BodyOrSection body_rest
-      (or_avoids (behind_item_word word.Body) (These (item.Body ∷ [])) (IsSectionOf utf8 f false) (these_avoid utf8 f (behind_item_word word.Body) (refl, refl, refl) (item.Body ∷ []))
-      (section_avoids utf8 f false (behind_item_word word.Body) refl))
+      avoids_same (after_item_word word.Body) (IsRestOf utf8 f word.Body) BodyOrSection body_rest
+      (or_avoids (after_item_word word.Body) (These (item.Body ∷ [])) (IsSectionOf utf8 f false) (these_avoid utf8 f (after_item_word word.Body) (refl, refl, refl) (item.Body ∷ []))
+      (section_avoids utf8 f false (after_item_word word.Body) refl))
   rest_avoids word.BodyPeek = never_avoids (IsRestOf utf8 f word.BodyPeek)
   rest_avoids word.All = never_avoids (IsRestOf utf8 f word.All)
   rest_avoids word.Fast = never_avoids (IsRestOf utf8 f word.Fast)
@@ -223,9 +223,9 @@ module _ (utf8 : Bool) (f : Fetching) where
 
   pub listed_same : Same (IsListed utf8 f) ListedWord
   listed_same =
-      same_on (IsListed utf8 f) (Then (IsWordOf item_words) (λ w. Then (IsBehindItem utf8 w) (λ i. These (i ∷ [])))) ListedWord (then_apart (IsWordOf item_words) (IsBehindItem utf8) (λ i. These (i ∷ [])))
-      (second_at (IsWordOf item_words) (λ w. Then (IsBehindItem utf8 w) (λ i. These (i ∷ []))) (IsRestOf utf8 f)
-      (λ octets w is. same_on _ (Then (Then (IsBehindItem utf8 w) (λ i. Is (i ∷ []))) These) _ (same_turned _ _ (told (IsBehindItem utf8 w) (λ i. i ∷ []) These)) (first_same _ _ These (item_follows utf8 w (item_says octets w is)))))
+      same_on (IsListed utf8 f) (Then (IsWordOf item_words) (λ w. Then (IsAfterItem utf8 w) (λ i. These (i ∷ [])))) ListedWord (then_apart (IsWordOf item_words) (IsAfterItem utf8) (λ i. These (i ∷ [])))
+      (second_at (IsWordOf item_words) (λ w. Then (IsAfterItem utf8 w) (λ i. These (i ∷ []))) (IsRestOf utf8 f)
+      (λ octets w is. same_on _ (Then (Then (IsAfterItem utf8 w) (λ i. Is (i ∷ []))) These) _ (same_turned _ _ (told (IsAfterItem utf8 w) (λ i. i ∷ []) These)) (first_same _ _ These (item_follows utf8 w (item_says octets w is)))))
 
   pub listed_viable : IsViable (IsListed utf8 f) []
   listed_viable = viable_same (IsListed utf8 f) ListedWord [] listed_same (then_viable (IsWordOf item_words) (IsRestOf utf8 f) (word_viable item_words item_table) rest_viable)
@@ -239,23 +239,23 @@ module _ (utf8 : Bool) (f : Fetching) where
   abbrev pub One : List ℕ → List FetchItem → Type 0
   One = Then (IsFetchAtt utf8) (λ i. Is (i ∷ []))
 
-  macros_same : Same Macro (Then (IsWordOf macro_words) (IsBehindAny utf8))
-  macros_same = second_at (IsWordOf macro_words) (λ w. Is (macro_items w)) (IsBehindAny utf8) (λ octets w is. macro_follows utf8 w (macro_says octets w is))
+  macros_same : Same Macro (Then (IsWordOf macro_words) (IsAfterAny utf8))
+  macros_same = second_at (IsWordOf macro_words) (λ w. Is (macro_items w)) (IsAfterAny utf8) (λ octets w is. macro_follows utf8 w (macro_says octets w is))
 
-  one_same : Same One (Then (IsWordOf item_words) (IsBehindAny utf8))
+  one_same : Same One (Then (IsWordOf item_words) (IsAfterAny utf8))
   one_same =
-      same_on _ (Then (IsWordOf item_words) (λ w. Then (IsBehindItem utf8 w) (λ i. Is (i ∷ [])))) _ (then_apart (IsWordOf item_words) (IsBehindItem utf8) (λ i. Is (i ∷ [])))
-      (second_at (IsWordOf item_words) (λ w. Then (IsBehindItem utf8 w) (λ i. Is (i ∷ []))) (IsBehindAny utf8) (λ octets w is. item_follows utf8 w (item_says octets w is)))
+      same_on _ (Then (IsWordOf item_words) (λ w. Then (IsAfterItem utf8 w) (λ i. Is (i ∷ [])))) _ (then_apart (IsWordOf item_words) (IsAfterItem utf8) (λ i. Is (i ∷ [])))
+      (second_at (IsWordOf item_words) (λ w. Then (IsAfterItem utf8 w) (λ i. Is (i ∷ []))) (IsAfterAny utf8) (λ octets w is. item_follows utf8 w (item_says octets w is)))
 
-  any_same : Same (Or Macro One) (Then (IsWordOf (item_words ++ macro_words)) (IsBehindAny utf8))
+  any_same : Same (Or Macro One) (Then (IsWordOf (item_words ++ macro_words)) (IsAfterAny utf8))
   any_same =
-      same_on (Or Macro One) (Or (Then (IsWordOf macro_words) (IsBehindAny utf8)) (Then (IsWordOf item_words) (IsBehindAny utf8))) (Then (IsWordOf (item_words ++ macro_words)) (IsBehindAny utf8))
-      (or_same Macro (Then (IsWordOf macro_words) (IsBehindAny utf8)) One (Then (IsWordOf item_words) (IsBehindAny utf8)) macros_same one_same) (one_table item_words macro_words (IsBehindAny utf8))
+      same_on (Or Macro One) (Or (Then (IsWordOf macro_words) (IsAfterAny utf8)) (Then (IsWordOf item_words) (IsAfterAny utf8))) (Then (IsWordOf (item_words ++ macro_words)) (IsAfterAny utf8))
+      (or_same Macro (Then (IsWordOf macro_words) (IsAfterAny utf8)) One (Then (IsWordOf item_words) (IsAfterAny utf8)) macros_same one_same) (one_table item_words macro_words (IsAfterAny utf8))
 
   pub alone_same : Same (IsLoneItem utf8 f) AnyWord
   alone_same =
-      same_on (IsLoneItem utf8 f) (Then (Then (IsWordOf (item_words ++ macro_words)) (IsBehindAny utf8)) These) AnyWord (first_same (Or Macro One) (Then (IsWordOf (item_words ++ macro_words)) (IsBehindAny utf8)) These any_same)
-      (then_apart (IsWordOf (item_words ++ macro_words)) (IsBehindAny utf8) These)
+      same_on (IsLoneItem utf8 f) (Then (Then (IsWordOf (item_words ++ macro_words)) (IsAfterAny utf8)) These) AnyWord (first_same (Or Macro One) (Then (IsWordOf (item_words ++ macro_words)) (IsAfterAny utf8)) These any_same)
+      (then_apart (IsWordOf (item_words ++ macro_words)) (IsAfterAny utf8) These)
 
   pub alone_viable : IsViable (IsLoneItem utf8 f) []
   alone_viable = viable_same (IsLoneItem utf8 f) AnyWord [] alone_same (then_viable (IsWordOf (item_words ++ macro_words)) (IsRestOf utf8 f) (word_viable (item_words ++ macro_words) any_table) rest_viable)
@@ -271,15 +271,15 @@ module _ (utf8 : Bool) (f : Fetching) where
   Whole = IsBareCommand (command.Fetch f.uid f.set f.items)
 
   abbrev pub Rest : List ℕ → Command → Type 0
-  Rest = IsBehindItems f.listed utf8 f.uid f.set.ranges f.items
+  Rest = IsAfterItems f.listed utf8 f.uid f.set.ranges f.items
 
   abbrev pub Closed : List ℕ → Command → Type 0
   Closed = After IsCloseParenthesis Whole
 
   abbrev pub NextItem : List ℕ → Command → Type 0
-  NextItem = Then (IsFetchAtt utf8) (λ i. IsBehindItems true utf8 f.uid f.set.ranges (f.items ++ i ∷ []))
+  NextItem = Then (IsFetchAtt utf8) (λ i. IsAfterItems true utf8 f.uid f.set.ranges (f.items ++ i ∷ []))
 
-  items_steps : Same (IsBehindItems true utf8 f.uid f.set.ranges f.items) (Or Closed (After IsSpace NextItem))
+  items_steps : Same (IsAfterItems true utf8 f.uid f.set.ranges f.items) (Or Closed (After IsSpace NextItem))
   items_steps = more_steps IsSpace (IsFetchAtt utf8) IsCloseParenthesis (λ all. IsBareCommand (command.Fetch f.uid (record { ranges = f.set.ranges }) all)) f.items
 
   pub rest_open : (text : List ℕ) → length text ≡ 0 → IsViable Rest text
@@ -290,18 +290,18 @@ module _ (utf8 : Bool) (f : Fetching) where
 
   module _ {L : List ℕ → Command → Type 0} {text rest : List ℕ} (l : Leaves L text Rest rest) where
     pub not_listed : f.listed ≡ false → Leaves L text Whole rest
-    not_listed e = subst (λ z. Leaves L text (IsBehindItems z utf8 f.uid f.set.ranges f.items) rest) e l
+    not_listed e = subst (λ z. Leaves L text (IsAfterItems z utf8 f.uid f.set.ranges f.items) rest) e l
 
     module _ (listed : f.listed ≡ true) (x : ℕ) (xs : List ℕ) (e : rest ≡ x ∷ xs) where
       by_steps : Leaves L text (Or Closed (After IsSpace NextItem)) rest
-      by_steps = leaves_same (Or Closed (After IsSpace NextItem)) (subst (λ z. Leaves L text (IsBehindItems z utf8 f.uid f.set.ranges f.items) rest) listed l) items_steps
+      by_steps = leaves_same (Or Closed (After IsSpace NextItem)) (subst (λ z. Leaves L text (IsAfterItems z utf8 f.uid f.set.ranges f.items) rest) listed l) items_steps
 
       pub items_close : (x ≡ 32 → ⊥) → Leaves L text Closed rest
       items_close other = leaves_left Closed (After IsSpace NextItem) by_steps x xs e (then_never 32 x (λ _. NextItem) other)
 
       pub items_next : x ≡ 32 → Leaves L text (IsListed utf8 f) xs
       items_next same =
-          subst (λ z. Leaves L text (Then (IsFetchAtt utf8) (λ i. IsBehindItems z utf8 f.uid f.set.ranges (f.items ++ i ∷ []))) xs) (sym listed)
+          subst (λ z. Leaves L text (Then (IsFetchAtt utf8) (λ i. IsAfterItems z utf8 f.uid f.set.ranges (f.items ++ i ∷ []))) xs) (sym listed)
           (leaves_then (leaves_right Closed (After IsSpace NextItem) by_steps x xs e (then_never 41 x (λ _. Whole) (λ bad. omega (arith, same, bad)))) (octet_at rest x 32 xs e same) (λ _. never_avoids _))
 
 -- ---- all items
@@ -374,5 +374,5 @@ module _ (utf8 by_uid : Bool) (set : List (Option ℕ × Option ℕ)) where
         subst (λ z. Leaves L text (IsLoneItem utf8 (begun_with false z)) rest) (sym none)
         (leaves_left (IsLoneItem utf8 (begun_with false [])) (After IsOpenParenthesis (IsListed utf8 (begun_with true []))) (leaves_same AloneOrList l items_same) x xs e (then_never 40 x (λ _. IsListed utf8 (begun_with true [])) other))
 
-pub behind_fetch_viable : (utf8 by_uid : Bool) → IsViable (Then IsSetAndSpace (Items utf8 by_uid)) []
-behind_fetch_viable utf8 by_uid = then_viable IsSetAndSpace (Items utf8 by_uid) set_viable (all_viable utf8 by_uid)
+pub after_fetch_viable : (utf8 by_uid : Bool) → IsViable (Then IsSetAndSpace (Items utf8 by_uid)) []
+after_fetch_viable utf8 by_uid = then_viable IsSetAndSpace (Items utf8 by_uid) set_viable (all_viable utf8 by_uid)

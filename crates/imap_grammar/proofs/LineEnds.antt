@@ -11,10 +11,10 @@ use Rattle.imap_words.specs.Keywords.{IsWordOf}
 use Rattle.imap_words.specs.Sets.{IsSetAndSpace}
 use Rattle.imap_words.specs.declared.stop.Stop.{Stop}
 use Rattle.imap_words.specs.declared.stop.Stop.TheVariants.{More}
-use Rattle.imap_words.proofs.InLine.{Flat, open_behind, flat_open, flat_joins, is_flat, then_flat, or_flat, maybe_flat, non_zero_flat, space_flat, word_flat, set_flat, date_flat, octet_open, octet_joins, no_octet, first_joins, tag_open, tag_joins, atom_open, atom_joins, set_open, astring_joins, pattern_joins, name_joins}
-use Rattle.imap_grammar.specs.Flags.{IsFlag, IsFlagList, HasFlags, AreFlags, storing_words, behind_storing}
-use Rattle.imap_grammar.specs.Fetching.{item_words, macro_words, text_words, behind_item_word, behind_section_word, IsPartial}
-use Rattle.imap_grammar.specs.FetchParts.{PassesNoEnd, behind_partial}
+use Rattle.imap_words.proofs.InLine.{Flat, open_after, flat_open, flat_joins, is_flat, then_flat, or_flat, maybe_flat, non_zero_flat, space_flat, word_flat, set_flat, date_flat, octet_open, octet_joins, no_octet, first_joins, tag_open, tag_joins, atom_open, atom_joins, set_open, astring_joins, pattern_joins, name_joins}
+use Rattle.imap_grammar.specs.Flags.{IsFlag, IsFlagList, HasFlags, AreFlags, storing_words, after_storing}
+use Rattle.imap_grammar.specs.Fetching.{item_words, macro_words, text_words, after_item_word, after_section_word, IsPartial}
+use Rattle.imap_grammar.specs.FetchParts.{PassesNoEnd, after_partial}
 use Rattle.imap_grammar.specs.Commands.{at_octet, IsStatusItems, utf8_words, uid_names, command_names, IsFlagBits, IsDateAndSpace}
 use Rattle.imap_grammar.specs.declared.command.StoreOp.{StoreOp}
 use Rattle.imap_grammar.specs.declared.command.StatusItem.{StatusItem}
@@ -54,33 +54,33 @@ utf8_open octets v = flat_open (IsWordOf utf8_words) (word_flat utf8_words refl)
 pub utf8_joins : (octets rest : List ℕ) (b : Bool) → Reads (IsWordOf utf8_words) never octets b rest → first_line rest ≡ None → first_line octets ≡ None
 utf8_joins octets rest b r none = flat_joins (IsWordOf utf8_words) (word_flat utf8_words refl) never octets rest b r none
 
-pub storing_open : (octets : List ℕ) → StopsReading (IsWordOf storing_words) behind_storing octets More → first_line octets ≡ None
+pub storing_open : (octets : List ℕ) → StopsReading (IsWordOf storing_words) after_storing octets More → first_line octets ≡ None
 storing_open octets v = flat_open (IsWordOf storing_words) (word_flat storing_words refl) octets v
 
-pub storing_joins : (octets rest : List ℕ) (w : StoreOp × Bool) → Reads (IsWordOf storing_words) behind_storing octets w rest → first_line rest ≡ None → first_line octets ≡ None
-storing_joins octets rest w r none = flat_joins (IsWordOf storing_words) (word_flat storing_words refl) behind_storing octets rest w r none
+pub storing_joins : (octets rest : List ℕ) (w : StoreOp × Bool) → Reads (IsWordOf storing_words) after_storing octets w rest → first_line rest ≡ None → first_line octets ≡ None
+storing_joins octets rest w r none = flat_joins (IsWordOf storing_words) (word_flat storing_words refl) after_storing octets rest w r none
 
-pub item_open : (octets : List ℕ) → StopsReading (IsWordOf item_words) behind_item_word octets More → first_line octets ≡ None
+pub item_open : (octets : List ℕ) → StopsReading (IsWordOf item_words) after_item_word octets More → first_line octets ≡ None
 item_open octets v = flat_open (IsWordOf item_words) (word_flat item_words refl) octets v
 
-pub item_joins : (octets rest : List ℕ) (w : ItemWord) → Reads (IsWordOf item_words) behind_item_word octets w rest → first_line rest ≡ None → first_line octets ≡ None
-item_joins octets rest w r none = flat_joins (IsWordOf item_words) (word_flat item_words refl) behind_item_word octets rest w r none
+pub item_joins : (octets rest : List ℕ) (w : ItemWord) → Reads (IsWordOf item_words) after_item_word octets w rest → first_line rest ≡ None → first_line octets ≡ None
+item_joins octets rest w r none = flat_joins (IsWordOf item_words) (word_flat item_words refl) after_item_word octets rest w r none
 
-pub any_open : (octets : List ℕ) → StopsReading (IsWordOf (item_words ++ macro_words)) behind_item_word octets More → first_line octets ≡ None
+pub any_open : (octets : List ℕ) → StopsReading (IsWordOf (item_words ++ macro_words)) after_item_word octets More → first_line octets ≡ None
 any_open octets v = flat_open (IsWordOf (item_words ++ macro_words)) (word_flat (item_words ++ macro_words) refl) octets v
 
-pub any_joins : (octets rest : List ℕ) (w : ItemWord) → Reads (IsWordOf (item_words ++ macro_words)) behind_item_word octets w rest → first_line rest ≡ None → first_line octets ≡ None
-any_joins octets rest w r none = flat_joins (IsWordOf (item_words ++ macro_words)) (word_flat (item_words ++ macro_words) refl) behind_item_word octets rest w r none
+pub any_joins : (octets rest : List ℕ) (w : ItemWord) → Reads (IsWordOf (item_words ++ macro_words)) after_item_word octets w rest → first_line rest ≡ None → first_line octets ≡ None
+any_joins octets rest w r none = flat_joins (IsWordOf (item_words ++ macro_words)) (word_flat (item_words ++ macro_words) refl) after_item_word octets rest w r none
 
 text_flat : (b : Bool) → Flat (IsWordOf (text_words b))
 text_flat true = word_flat (text_words true) refl
 text_flat false = word_flat (text_words false) refl
 
-pub text_open : (b : Bool) (octets : List ℕ) → StopsReading (IsWordOf (text_words b)) behind_section_word octets More → first_line octets ≡ None
+pub text_open : (b : Bool) (octets : List ℕ) → StopsReading (IsWordOf (text_words b)) after_section_word octets More → first_line octets ≡ None
 text_open b octets v = flat_open (IsWordOf (text_words b)) (text_flat b) octets v
 
-pub text_joins : (b : Bool) (octets rest : List ℕ) (w : SectionWord) → Reads (IsWordOf (text_words b)) behind_section_word octets w rest → first_line rest ≡ None → first_line octets ≡ None
-text_joins b octets rest w r none = flat_joins (IsWordOf (text_words b)) (text_flat b) behind_section_word octets rest w r none
+pub text_joins : (b : Bool) (octets rest : List ℕ) (w : SectionWord) → Reads (IsWordOf (text_words b)) after_section_word octets w rest → first_line rest ≡ None → first_line octets ≡ None
+text_joins b octets rest w r none = flat_joins (IsWordOf (text_words b)) (text_flat b) after_section_word octets rest w r none
 
 pub set_joins : (octets rest : List ℕ) (set : List (Option ℕ × Option ℕ)) → Reads IsSetAndSpace never octets set rest → first_line rest ≡ None → first_line octets ≡ None
 set_joins octets rest set r none = flat_joins IsSetAndSpace set_flat never octets rest set r none
@@ -91,11 +91,11 @@ non_zero_open octets v = flat_open IsNonZero non_zero_flat octets v
 pub non_zero_joins : (octets rest : List ℕ) (n : ℕ) → Reads IsNonZero (always is_digit) octets n rest → first_line rest ≡ None → first_line octets ≡ None
 non_zero_joins octets rest n r none = flat_joins IsNonZero non_zero_flat (always is_digit) octets rest n r none
 
-pub part_open : (octets : List ℕ) → StopsReading (Maybe IsPartial) behind_partial octets More → first_line octets ≡ None
+pub part_open : (octets : List ℕ) → StopsReading (Maybe IsPartial) after_partial octets More → first_line octets ≡ None
 part_open octets v = flat_open (Maybe IsPartial) (maybe_flat IsPartial partial_flat) octets v
 
-pub part_joins : (octets rest : List ℕ) (part : Option (ℕ × ℕ)) → Reads (Maybe IsPartial) behind_partial octets part rest → first_line rest ≡ None → first_line octets ≡ None
-part_joins octets rest part r none = flat_joins (Maybe IsPartial) (maybe_flat IsPartial partial_flat) behind_partial octets rest part r none
+pub part_joins : (octets rest : List ℕ) (part : Option (ℕ × ℕ)) → Reads (Maybe IsPartial) after_partial octets part rest → first_line rest ≡ None → first_line octets ≡ None
+part_joins octets rest part r none = flat_joins (Maybe IsPartial) (maybe_flat IsPartial partial_flat) after_partial octets rest part r none
 
 pub status_open : (octets : List ℕ) → StopsReading IsStatusItems never octets More → first_line octets ≡ None
 status_open octets v = flat_open IsStatusItems status_items_flat octets v
@@ -128,10 +128,10 @@ returned a n is = subst (λ z. first_line z ≡ None) (sym (is.whole ∙ (ap (λ
     tail : (a : List ℕ) (values : List (List ℕ)) → IsTail IsSpace IsFlag (IsOctet 13) a values → first_line a ≡ None
     tail a [] is = octet_open 13 a (record { rest = []; value = is.0; is_word = subst (λ z. IsOctet 13 z is.0) (sym (append-nil a)) is.1 })
     tail a (v ∷ values) is =
-        subst (λ z. first_line z ≡ None) (sym is.4) (open_behind is.1 (is.2 ++ is.3) (space_flat is.1 is.0 is.5) (open_behind is.2 is.3 (flag_flat is.2 v is.6) (tail is.3 values is.7)))
+        subst (λ z. first_line z ≡ None) (sym is.4) (open_after is.1 (is.2 ++ is.3) (space_flat is.1 is.0 is.5) (open_after is.2 is.3 (flag_flat is.2 v is.6) (tail is.3 values is.7)))
 
     list : (a : List ℕ) (values : List (List ℕ)) → AreFlags 13 a values → first_line a ≡ None
-    list a values is = subst (λ z. first_line z ≡ None) (sym is.whole) (open_behind is.front is.back (flag_flat is.front is.value is.first) (tail is.back is.second.0 is.second.2))
+    list a values is = subst (λ z. first_line z ≡ None) (sym is.whole) (open_after is.front is.back (flag_flat is.front is.value is.first) (tail is.back is.second.0 is.second.2))
 
 pub returned_open : (octets : List ℕ) → StopsReading (HasFlags (AreFlags 13)) never octets More → first_line octets ≡ None
 returned_open octets v = front_none octets v.rest (returned (octets ++ v.rest) v.value v.is_word)

@@ -189,7 +189,7 @@ walk (l ∷ before) (m ∷ others) line last more all alls is his e =
 -- ---- behind octets that announce a literal
 
 -- the literal, and a line at least behind it
-pub record LineBehind (size : ℕ) (more : List ℕ) : Type 0 where
+pub record LineAfter (size : ℕ) (more : List ℕ) : Type 0 where
   pub literal : List ℕ
   pub others : List ℕ
   pub cut : Cut
@@ -197,10 +197,10 @@ pub record LineBehind (size : ℕ) (more : List ℕ) : Type 0 where
   pub sized : length literal ≡ size
   pub first : first_line others ≡ Some cut
 
-pub ends_behind : (octets more : List ℕ) (size : ℕ) → Announces octets size → EndsCommandLine (octets ++ more) → (more ≡ [] → ⊥) → LineBehind size more
-ends_behind octets more size a is some = by (walk a.before is.before a.line is.line more a.each is.each a.is_line is.is_line (sym is.whole ∙ ap (λ z. z ++ more) a.whole))
+pub ends_after : (octets more : List ℕ) (size : ℕ) → Announces octets size → EndsCommandLine (octets ++ more) → (more ≡ [] → ⊥) → LineAfter size more
+ends_after octets more size a is some = by (walk a.before is.before a.line is.line more a.each is.each a.is_line is.is_line (sym is.whole ∙ ap (λ z. z ++ more) a.whole))
   where
-    by : Walk a.line is.line more → LineBehind size more
+    by : Walk a.line is.line more → LineAfter size more
     by (Here same none) = absurd (some none)
     by (Beyond l others cut is_literal same whole first) = record {
       literal = l.literal;

@@ -12,7 +12,7 @@ use Rattle.imap_words.specs.Tokens.{is_name_char}
 use Rattle.imap_words.proofs.RunSteps.{all_found}
 use Rattle.imap_words.proofs.Going.{never_avoids}
 use Rattle.imap_words.proofs.Leaving.{here, leaves_all, leaves_then}
-use Rattle.imap_grammar.specs.Awaiting.{Comes, IsLiteralBody, IsBehindLiteral, IsRestAtLiteral, IsSized}
+use Rattle.imap_grammar.specs.Awaiting.{Comes, IsLiteralBody, IsAfterLiteral, IsRestAtLiteral, IsSized}
 use Rattle.imap_grammar.specs.Standing.{HasBadName}
 use Rattle.imap_grammar.specs.declared.command.Command.{Command}
 use Rattle.imap_grammar.specs.declared.awaited.Awaited.{Awaited}
@@ -21,7 +21,7 @@ use Rattle.imap_grammar.specs.declared.awaited.FieldNames.{FieldNames}
 use Rattle.imap_grammar.specs.declared.awaited.Next.{Next}
 use Rattle.imap_grammar.proofs.CommandSteps.{hands_any}
 use Rattle.imap_grammar.proofs.NameListSteps.{letters_ok}
-use Rattle.imap_grammar.proofs.StageLaws.{xs, xs_len, body_reads, behind_viable}
+use Rattle.imap_grammar.proofs.StageLaws.{xs, xs_len, body_reads, after_viable}
 
 -- ---- the octets of a literal that is a field's name
 
@@ -67,15 +67,15 @@ module _ (utf8 : Bool) (so_far : FieldNames) (literal line : List ℕ) (left : �
 
   front_viable : IsViable NameLeft bad.front
   front_viable =
-      let behind = behind_viable utf8 (awaited.FieldName so_far) completed in
+      let following = after_viable utf8 (awaited.FieldName so_far) completed in
       record {
-        rest = xs (length literal - length bad.front) ++ behind.rest;
-        value = behind.value;
+        rest = xs (length literal - length bad.front) ++ following.rest;
+        value = following.value;
         is_word = record {
           value = completed;
           front = completed;
-          back = behind.rest;
-          whole = sym (append_assoc bad.front (xs (length literal - length bad.front)) behind.rest);
+          back = following.rest;
+          whole = sym (append_assoc bad.front (xs (length literal - length bad.front)) following.rest);
           first = (
             (completed_size, refl),
             record {
@@ -84,7 +84,7 @@ module _ (utf8 : Bool) (so_far : FieldNames) (literal line : List ℕ) (left : �
               value_is = refl;
             },
           );
-          second = behind.is_word;
+          second = following.is_word;
         };
       }
 
@@ -111,11 +111,11 @@ module _ (utf8 : Bool) (so_far : FieldNames) (literal line : List ℕ) (left : �
 module _ (utf8 : Bool) (literal line : List ℕ) where
   -- what a reader of the line says
   abbrev pub Follows : Awaited → Result (Next × Bor (List ℕ)) Stop → Type 0
-  Follows a r = MatchResult r (λ x. Comes utf8 (IsBehindLiteral utf8 a literal) line x.0 x.1.now) (λ stop. StopsReading (IsBehindLiteral utf8 a literal) never line stop)
+  Follows a r = MatchResult r (λ x. Comes utf8 (IsAfterLiteral utf8 a literal) line x.0 x.1.now) (λ stop. StopsReading (IsAfterLiteral utf8 a literal) never line stop)
 
   -- the same, said of the literal and the line
   abbrev pub Both : Awaited → Result (Next × Bor (List ℕ)) Stop → Type 0
-  Both a r = MatchResult r (λ x. IsLiteralBody (length literal) a literal literal × Comes utf8 (IsBehindLiteral utf8 a literal) line x.0 x.1.now) (λ stop. StopsReading (IsRestAtLiteral utf8 (length literal) a) never (literal ++ line) stop)
+  Both a r = MatchResult r (λ x. IsLiteralBody (length literal) a literal literal × Comes utf8 (IsAfterLiteral utf8 a literal) line x.0 x.1.now) (λ stop. StopsReading (IsRestAtLiteral utf8 (length literal) a) never (literal ++ line) stop)
 
   follows : (a : Awaited) (r : Result (Next × Bor (List ℕ)) Stop) → IsLiteralBody (length literal) a literal literal → Follows a r → Both a r
   follows a (Ok x) body h = (body, h)
@@ -129,8 +129,8 @@ module _ (utf8 : Bool) (literal line : List ℕ) where
 
   -- the same where what follows doesn't go by the mode
   pub follows_any : {a this : Awaited} (r : Result (Next × Bor (List ℕ)) Stop) → a ≡ this → IsLiteralBody (length literal) this literal literal
-      → MatchResult r (λ x. (mode : Bool) → Comes mode (IsBehindLiteral utf8 this literal) line x.0 x.1.now) (λ stop. StopsReading (IsBehindLiteral utf8 this literal) never line stop) → Both a r
-  follows_any {a} {this} r e body h = follows_as r e body (hands_any utf8 r (leaves_all (IsBehindLiteral utf8 this literal) line) h)
+      → MatchResult r (λ x. (mode : Bool) → Comes mode (IsAfterLiteral utf8 this literal) line x.0 x.1.now) (λ stop. StopsReading (IsAfterLiteral utf8 this literal) never line stop) → Both a r
+  follows_any {a} {this} r e body h = follows_as r e body (hands_any utf8 r (leaves_all (IsAfterLiteral utf8 this literal) line) h)
 
 -- the octets of a literal that is to be a name
 pub name_body : {a : Awaited} {so_far : FieldNames} (octets literal : List ℕ) → octets ≡ literal → a ≡ awaited.FieldName so_far → IsSized (length literal) a → list_all is_name_char octets ≡ true

@@ -11,7 +11,7 @@ use Rattle.imap_words.specs.declared.stop.Stop.TheVariants.{More}
 use Rattle.imap_words.specs.declared.tokens.Kind.TheVariants.{NameAstring}
 use Rattle.imap_words.specs.declared.strings.Head.{Head}
 use Rattle.imap_words.specs.Tokens.{IsSpace, IsOpenParenthesis, IsCloseParenthesis, IsRunOf, passes, is_name_char, is_atom_char, is_astring_char}
-use Rattle.imap_words.specs.Strings.{HeadValue, whole, literal, head_value, IsHeaderName, IsNameHead, behind_name_head, NameBodyOf}
+use Rattle.imap_words.specs.Strings.{HeadValue, whole, literal, head_value, IsHeaderName, IsNameHead, after_name_head, NameBodyOf}
 use Rattle.imap_words.proofs.Passing.{no_octets}
 use Rattle.imap_words.proofs.Composing.{Avoids}
 use Rattle.imap_words.proofs.TokenSteps.{octet_viable}
@@ -27,7 +27,7 @@ use Rattle.imap_grammar.specs.declared.awaited.Awaited.TheVariants as awaited
 use Rattle.imap_grammar.specs.declared.fetch.Step.{Step}
 use Rattle.imap_grammar.specs.declared.fetch.Step.TheVariants.{Awaits}
 use Rattle.imap_grammar.specs.Fetching.{IsHeaderList}
-use Rattle.imap_grammar.specs.Awaiting.{IsAfterHeader, IsBehindNames, IsLiteralBody, IsRestAtLiteral}
+use Rattle.imap_grammar.specs.Awaiting.{IsAfterHeader, IsAfterNames, IsLiteralBody, IsRestAtLiteral}
 use Rattle.imap_grammar.specs.FetchParts.{with_name, Goes, IsSectionEnd, AreNames}
 use Rattle.imap_grammar.proofs.Sames.{Same, same_on, first_same, second_same, then_apart, is_then, more_steps, viable_same, leaves_same, leaves_left, leaves_right, begun_stops}
 use Rattle.imap_grammar.proofs.CommandSteps.{header_word, header_later}
@@ -63,7 +63,7 @@ name_size octets n (inr (inl quoted)) = absurd (cc quoted.second.1)
 name_size octets n (inr (inr header)) = let same : n ≡ header.value = cc header.second.1 in subst (λ z. 0 < z) (sym same) header.first.some
 
 -- its header
-name_header : {text mid : List ℕ} {n : ℕ} → Reads IsNameHead behind_name_head text (literal n) mid → IsAfterHeader text n mid
+name_header : {text mid : List ℕ} {n : ℕ} → Reads IsNameHead after_name_head text (literal n) mid → IsAfterHeader text n mid
 name_header {text} {mid} {n} r = by r.is_word
   where
     by : IsNameHead r.word (literal n) → IsAfterHeader text n mid
@@ -75,22 +75,22 @@ name_header {text} {mid} {n} r = by r.is_word
 
 module _ (utf8 : Bool) (f : FieldNames) where
   -- behind names
-  names_avoid : (names : List (List ℕ)) → Avoids (passes NameAstring) (IsBehindNames utf8 f names)
+  names_avoid : (names : List (List ℕ)) → Avoids (passes NameAstring) (IsAfterNames utf8 f names)
   names_avoid names = then_avoids (passes NameAstring) (IsMoreThan IsSpace (IsHeaderName utf8) IsCloseParenthesis names) _
       (more_avoids IsSpace (IsHeaderName utf8) IsCloseParenthesis (passes NameAstring) names (octet_avoids (passes NameAstring) 32 space_ends) (octet_avoids (passes NameAstring) 41 close_ends))
 
-  pub names_viable : (names : List (List ℕ)) → IsViable (IsBehindNames utf8 f names) []
+  pub names_viable : (names : List (List ℕ)) → IsViable (IsAfterNames utf8 f names) []
   names_viable names = then_viable (IsMoreThan IsSpace (IsHeaderName utf8) IsCloseParenthesis names) _ (more_viable IsSpace (IsHeaderName utf8) IsCloseParenthesis names (octet_viable 41)) (λ all. end_viable utf8 f.fetching f.peek f.path (part.Fields all f.negated))
 
-  names_more : (names : List (List ℕ)) (text : List ℕ) → length text ≡ 0 → IsViable (IsBehindNames utf8 f names) text
-  names_more names text e = subst (λ z. IsViable (IsBehindNames utf8 f names) z) (sym (no_octets text e)) (names_viable names)
+  names_more : (names : List (List ℕ)) (text : List ℕ) → length text ≡ 0 → IsViable (IsAfterNames utf8 f names) text
+  names_more names text e = subst (λ z. IsViable (IsAfterNames utf8 f names) z) (sym (no_octets text e)) (names_viable names)
 
-  pub names_stop : (names : List (List ℕ)) {L : List ℕ → Command → Type 0} {text rest : List ℕ} → Leaves L text (IsBehindNames utf8 f names) rest → length rest ≡ 0 → StopsReading L never text More
+  pub names_stop : (names : List (List ℕ)) {L : List ℕ → Command → Type 0} {text rest : List ℕ} → Leaves L text (IsAfterNames utf8 f names) rest → length rest ≡ 0 → StopsReading L never text More
   names_stop names {L} {text} {rest} l e = (here l).stops never More (names_more names rest e)
 
   -- behind a name
   abbrev pub NextName : List (List ℕ) → List ℕ → List ℕ → Command → Type 0
-  NextName names v = IsBehindNames utf8 f (names ++ v ∷ [])
+  NextName names v = IsAfterNames utf8 f (names ++ v ∷ [])
 
   abbrev pub AtName : List (List ℕ) → List ℕ → Command → Type 0
   AtName names = Then (IsHeaderName utf8) (NextName names)
@@ -103,7 +103,7 @@ module _ (utf8 : Bool) (f : FieldNames) where
       same_on (AtName names) (Then (Then IsNameHead NameBodyOf) (NextName names)) (AtHead names) (first_same (IsHeaderName utf8) (Then IsNameHead NameBodyOf) (NextName names) (name_parts utf8, name_whole utf8))
       (then_apart IsNameHead NameBodyOf (NextName names))
 
-  head_avoids : (names : List (List ℕ)) (head : HeadValue) → Avoids (behind_name_head head) (Then (NameBodyOf head) (NextName names))
+  head_avoids : (names : List (List ℕ)) (head : HeadValue) → Avoids (after_name_head head) (Then (NameBodyOf head) (NextName names))
   head_avoids names (literal n) = never_avoids _
   head_avoids names (whole v) = λ a b w both begin. names_avoid (names ++ v ∷ []) both.back b w (subst (λ z. NextName names z both.back w) both.first.1 both.second)
       (subst (λ z. BeginsIn (passes NameAstring) (z ++ b)) (both.whole ∙ ap (λ z. z ++ both.back) both.first.0) begin)
@@ -128,19 +128,19 @@ module _ (utf8 : Bool) (f : FieldNames) where
     by_head : Leaves L text (AtHead names) rest
     by_head = leaves_same (AtHead names) l (at_head names)
 
-    pub name_stops : (stop : Stop) → StopsReading IsNameHead behind_name_head rest stop → StopsReading L never text stop
-    name_stops stop stops = (here by_head).stops never stop (begun_stops IsNameHead (λ head. Then (NameBodyOf head) (NextName names)) behind_name_head never rest stop stops (head_avoids names) (head_viable names))
+    pub name_stops : (stop : Stop) → StopsReading IsNameHead after_name_head rest stop → StopsReading L never text stop
+    name_stops stop stops = (here by_head).stops never stop (begun_stops IsNameHead (λ head. Then (NameBodyOf head) (NextName names)) after_name_head never rest stop stops (head_avoids names) (head_viable names))
 
     -- all of it was read
-    pub name_read : (head : Head) (v mid : List ℕ) → head_value head ≡ whole v → Reads IsNameHead behind_name_head rest (head_value head) mid → Leaves L text (NextName names v) mid
+    pub name_read : (head : Head) (v mid : List ℕ) → head_value head ≡ whole v → Reads IsNameHead after_name_head rest (head_value head) mid → Leaves L text (NextName names v) mid
     name_read head v mid e r =
-        leaves_same (NextName names v) (leaves_then by_head (subst (λ z. Reads IsNameHead behind_name_head rest z mid) e r) (head_avoids names)) (is_then v (NextName names))
+        leaves_same (NextName names v) (leaves_then by_head (subst (λ z. Reads IsNameHead after_name_head rest z mid) e r) (head_avoids names)) (is_then v (NextName names))
 
     -- a literal's header was read
-    pub name_awaits : (head : Head) (n : ℕ) (mid : List ℕ) → head_value head ≡ literal n → Reads IsNameHead behind_name_head rest (head_value head) mid
+    pub name_awaits : (head : Head) (n : ℕ) (mid : List ℕ) → head_value head ≡ literal n → Reads IsNameHead after_name_head rest (head_value head) mid
         → IsAfterHeader text n mid × (0 < n) × Leaves L text (Then (NameBodyOf (literal n)) (NextName names)) mid
     name_awaits head n mid e r =
-        let reads = subst (λ z. Reads IsNameHead behind_name_head rest z mid) e r in
+        let reads = subst (λ z. Reads IsNameHead after_name_head rest z mid) e r in
         (header_later by_head (name_header reads), name_size reads.word n reads.is_word, leaves_then by_head reads (head_avoids names))
 
   -- ---- behind a name
@@ -151,10 +151,10 @@ module _ (utf8 : Bool) (f : FieldNames) where
   abbrev pub Spaced : List (List ℕ) → List ℕ → Command → Type 0
   Spaced names = After IsSpace (AtName names)
 
-  names_steps : (names : List (List ℕ)) → Same (IsBehindNames utf8 f names) (Or (Closes names) (Spaced names))
+  names_steps : (names : List (List ℕ)) → Same (IsAfterNames utf8 f names) (Or (Closes names) (Spaced names))
   names_steps names = more_steps IsSpace (IsHeaderName utf8) IsCloseParenthesis (λ all. IsSectionEnd utf8 f.fetching f.peek f.path (part.Fields all f.negated)) names
 
-  module _ {L : List ℕ → Command → Type 0} {text rest : List ℕ} (names : List (List ℕ)) (l : Leaves L text (IsBehindNames utf8 f names) rest) (x : ℕ) (xs : List ℕ) (e : rest ≡ x ∷ xs) where
+  module _ {L : List ℕ → Command → Type 0} {text rest : List ℕ} (names : List (List ℕ)) (l : Leaves L text (IsAfterNames utf8 f names) rest) (x : ℕ) (xs : List ℕ) (e : rest ≡ x ∷ xs) where
     pub names_close : (x ≡ 32 → ⊥) → Leaves L text (Closes names) rest
     names_close other = leaves_left (Closes names) (Spaced names) (leaves_same (Or (Closes names) (Spaced names)) l (names_steps names)) x xs e (then_never 32 x (λ _. AtName names) other)
 
@@ -177,15 +177,15 @@ names_await {L} {text} {mid} utf8 f n r = (
       ((λ octets v is. (is.0, subst (λ z. IsRunOf is_name_char z z) (sym is.0.1) is.1)), (λ octets v is. (is.0, subst (λ z. IsRunOf is_name_char z z) is.0.1 is.1)))),
 )
 
-pub names_put : {L : List ℕ → Command → Type 0} {text mid : List ℕ} {made : FieldNames} (utf8 : Bool) (f : FieldNames) (v : List ℕ) → made ≡ with_name f v → Leaves L text (NextName utf8 f f.names v) mid → Leaves L text (IsBehindNames utf8 made made.names) mid
-names_put {L} {text} {mid} utf8 f v e l = subst (λ (z : FieldNames). Leaves L text (IsBehindNames utf8 z z.names) mid) (sym e) l
+pub names_put : {L : List ℕ → Command → Type 0} {text mid : List ℕ} {made : FieldNames} (utf8 : Bool) (f : FieldNames) (v : List ℕ) → made ≡ with_name f v → Leaves L text (NextName utf8 f f.names v) mid → Leaves L text (IsAfterNames utf8 made made.names) mid
+names_put {L} {text} {mid} utf8 f v e l = subst (λ (z : FieldNames). Leaves L text (IsAfterNames utf8 z z.names) mid) (sym e) l
 
 -- behind a name that was put last
-pub made_left : {made : FieldNames} (utf8 : Bool) (f : FieldNames) (v text : List ℕ) (step : Step) (rest : List ℕ) → made ≡ with_name f v → Goes utf8 (IsBehindNames utf8 made made.names) text step rest → Goes utf8 (IsBehindNames utf8 f (f.names ++ v ∷ [])) text step rest
-made_left {made} utf8 f v text step rest e goes = subst (λ (z : FieldNames). Goes utf8 (IsBehindNames utf8 z z.names) text step rest) e goes
+pub made_left : {made : FieldNames} (utf8 : Bool) (f : FieldNames) (v text : List ℕ) (step : Step) (rest : List ℕ) → made ≡ with_name f v → Goes utf8 (IsAfterNames utf8 made made.names) text step rest → Goes utf8 (IsAfterNames utf8 f (f.names ++ v ∷ [])) text step rest
+made_left {made} utf8 f v text step rest e goes = subst (λ (z : FieldNames). Goes utf8 (IsAfterNames utf8 z z.names) text step rest) e goes
 
-pub made_stops : {made : FieldNames} (utf8 : Bool) (f : FieldNames) (v text : List ℕ) (stop : Stop) → made ≡ with_name f v → StopsReading (IsBehindNames utf8 made made.names) never text stop → StopsReading (IsBehindNames utf8 f (f.names ++ v ∷ [])) never text stop
-made_stops {made} utf8 f v text stop e s = subst (λ (z : FieldNames). StopsReading (IsBehindNames utf8 z z.names) never text stop) e s
+pub made_stops : {made : FieldNames} (utf8 : Bool) (f : FieldNames) (v text : List ℕ) (stop : Stop) → made ≡ with_name f v → StopsReading (IsAfterNames utf8 made made.names) never text stop → StopsReading (IsAfterNames utf8 f (f.names ++ v ∷ [])) never text stop
+made_stops {made} utf8 f v text stop e s = subst (λ (z : FieldNames). StopsReading (IsAfterNames utf8 z z.names) never text stop) e s
 
 -- ---- the list's begin
 

@@ -132,12 +132,12 @@ abbrev Comes : Bool → (seen octets : List ℕ) → ℕ → Event → Type 0
 Comes utf8 seen octets used event = (0 < used) × (used ≤ length octets) × NothingBefore utf8 seen octets used × IsDue utf8 (seen ++ take used octets) event
 
 comes : (utf8 : Bool) (seen octets : List ℕ) (used : ℕ) (event : Event) → Tells utf8 seen octets used event → (event ≡ More → ⊥) → Comes utf8 seen octets used event
-comes utf8 seen octets used More tells some = absurd (some refl)
-comes utf8 seen octets used Go tells some = tells
-comes utf8 seen octets used (Command tag c) tells some = tells
-comes utf8 seen octets used (Bad tag at) tells some = tells
-comes utf8 seen octets used (TooLarge tag) tells some = tells
-comes utf8 seen octets used TooLong tells some = tells
+comes utf8 seen octets used More observed some = absurd (some refl)
+comes utf8 seen octets used Go observed some = observed
+comes utf8 seen octets used (Command tag c) observed some = observed
+comes utf8 seen octets used (Bad tag at) observed some = observed
+comes utf8 seen octets used (TooLarge tag) observed some = observed
+comes utf8 seen octets used TooLong observed some = observed
 
 module _ (utf8 : Bool) (seen octets more : List ℕ) where
   -- the octets up to there are the same

@@ -21,8 +21,8 @@ module _ {U E : Type 0} (S : List ℕ → E → Type 0) (A : List ℕ → U → 
   abbrev pub Followed : List ℕ → Option U → Type 0
   Followed = Or (Is None) (Then A (λ v. After S (Is (Some v))))
 
-  pub behind_it : {W : Type 0} (R : Option U → List ℕ → W → Type 0) → Within (Then (Maybe (After S A)) (λ m. After S (R m))) (After S (Then Followed R))
-  behind_it {W} R octets w is = by_first is.first
+  pub following_it : {W : Type 0} (R : Option U → List ℕ → W → Type 0) → Within (Then (Maybe (After S A)) (λ m. After S (R m))) (After S (Then Followed R))
+  following_it {W} R octets w is = by_first is.first
     where
       by_first : Maybe (After S A) is.front is.value → After S (Then Followed R) octets w
       by_first (inl none) =
@@ -184,11 +184,11 @@ module _ {U V : Type 0} (nothing : V) (A : List ℕ → U → Type 0) (f : U →
       pub part_stops : (stop : Stop) → StopsReading A never text stop → StopsReading MaybeSpaced (always (at_octet c)) text stop
       part_stops stop stops = stops_so stop (ends_at never (always (at_octet c)) stop (begins Spaced text) stops (λ _. never_avoids _) (λ u. then_viable IsSpace _ (octet_viable 32) (λ _. is_viable (f u))))
 
-      module _ (u : U) (behind : List ℕ) (r : Reads A never text u behind) where
-        pub space_stops : (stop : Stop) → StopsReading IsSpace never behind stop → StopsReading MaybeSpaced (always (at_octet c)) text stop
+      module _ (u : U) (following : List ℕ) (r : Reads A never text u following) where
+        pub space_stops : (stop : Stop) → StopsReading IsSpace never following stop → StopsReading MaybeSpaced (always (at_octet c)) text stop
         space_stops stop stops = stops_so stop (ends_at never (always (at_octet c)) stop (onwards (begins Spaced text) r (λ _. never_avoids _)) stops (λ _. never_avoids _) (λ _. is_viable (f u)))
 
-        pub spaced_reads : (rest : List ℕ) → Reads IsSpace never behind 32 rest → Reads MaybeSpaced (always (at_octet c)) text (f u) rest
+        pub spaced_reads : (rest : List ℕ) → Reads IsSpace never following 32 rest → Reads MaybeSpaced (always (at_octet c)) text (f u) rest
         spaced_reads rest s =
             let all = (onwards (onwards (begins Spaced text) r (λ _. never_avoids _)) s (λ _. never_avoids _)).reads (always (at_octet c)) (f u) rest (end_reads (f u) (always (at_octet c)) rest) in
             subst (λ z. Reads MaybeSpaced (always (at_octet c)) z (f u) rest) (sym e) (something_reads nothing Spaced (always (at_octet c)) x xs (f u) rest may (subst (λ z. Reads Spaced (always (at_octet c)) z (f u) rest) e all))

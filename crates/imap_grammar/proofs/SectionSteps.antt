@@ -24,8 +24,8 @@ use Rattle.imap_grammar.specs.declared.words.SectionWord.{SectionWord}
 use Rattle.imap_grammar.specs.declared.words.SectionWord.TheVariants as section
 use Rattle.imap_grammar.specs.declared.awaited.Fetching.{Fetching}
 use Rattle.imap_grammar.specs.declared.fetch.Begun.{Begun}
-use Rattle.imap_grammar.specs.Fetching.{SectionName, IsHeaderList, IsSectionText, IsSectionMsgtext, IsSectionPart, IsSectionSpec, IsSection, IsNothing, IsPartial, IsBehindWord, text_words, behind_section_word}
-use Rattle.imap_grammar.specs.FetchParts.{with_number, IsBehindThese, IsSectionEnd, AreNames, IsBehindText, IsText, IsBehindNumbers, AreMoreNumbers, AreNumbers, IsSectionOf}
+use Rattle.imap_grammar.specs.Fetching.{SectionName, IsHeaderList, IsSectionText, IsSectionMsgtext, IsSectionPart, IsSectionSpec, IsSection, IsNothing, IsPartial, IsAfterWord, text_words, after_section_word}
+use Rattle.imap_grammar.specs.FetchParts.{with_number, IsAfterThese, IsSectionEnd, AreNames, IsAfterText, IsText, IsAfterNumbers, AreMoreNumbers, AreNumbers, IsSectionOf}
 use Rattle.imap_grammar.proofs.Sames.{Same, same_self, same_on, second_same, then_apart, is_then, or_same, or_then, more_steps, avoids_same, viable_same, never_same, or_avoids, left_viable, leaves_same, leaves_left, leaves_right}
 use Rattle.imap_grammar.proofs.FetchEnds.{letters_never, dot_no_digit, digit_low, number_none, end_avoids, end_viable}
 use Rattle.imap_grammar.proofs.NameListSteps.{list_viable}
@@ -37,22 +37,22 @@ module _ {V U W : Type 0} (P : List ℕ → V → Type 0) (f : V → U) (C : U �
 
 -- ---- words of a section
 
-text_table : (behind_numbers : Bool) → IsTable (text_words behind_numbers)
+text_table : (after_numbers : Bool) → IsTable (text_words after_numbers)
 text_table false = is_table _ _ refl refl
 text_table true = is_table _ _ refl refl
 
-text_never : (behind_numbers : Bool) (x : ℕ) → x < 97 → (64 < x → x < 91 → ⊥) → NeverAt (IsWordOf (text_words behind_numbers)) x
+text_never : (after_numbers : Bool) (x : ℕ) → x < 97 → (64 < x → x < 91 → ⊥) → NeverAt (IsWordOf (text_words after_numbers)) x
 text_never false x low none = letters_never (text_words false) x low none refl
 text_never true x low none = letters_never (text_words true) x low none refl
 
 module _ (utf8 : Bool) (f : Fetching) (peek : Bool) (path : List ℕ) where
-  pub header_end : Same (IsBehindText utf8 f peek path section.Header) (IsSectionEnd utf8 f peek path part.Header)
+  pub header_end : Same (IsAfterText utf8 f peek path section.Header) (IsSectionEnd utf8 f peek path part.Header)
   header_end = is_then part.Header (IsSectionEnd utf8 f peek path)
 
-  pub text_end : Same (IsBehindText utf8 f peek path section.Text) (IsSectionEnd utf8 f peek path part.Text)
+  pub text_end : Same (IsAfterText utf8 f peek path section.Text) (IsSectionEnd utf8 f peek path part.Text)
   text_end = is_then part.Text (IsSectionEnd utf8 f peek path)
 
-  pub mime_end : Same (IsBehindText utf8 f peek path section.Mime) (IsSectionEnd utf8 f peek path part.Mime)
+  pub mime_end : Same (IsAfterText utf8 f peek path section.Mime) (IsSectionEnd utf8 f peek path part.Mime)
   mime_end = is_then part.Mime (IsSectionEnd utf8 f peek path)
 
   names_end : (negated : Bool) → Same (Then (After IsSpace (Then (IsHeaderList utf8) (λ names. Is (part.Fields names negated)))) (IsSectionEnd utf8 f peek path)) (AreNames utf8 f peek path negated)
@@ -64,42 +64,42 @@ module _ (utf8 : Bool) (f : Fetching) (peek : Bool) (path : List ℕ) where
       (second_same IsSpace (λ _. Then (Then (IsHeaderList utf8) (λ names. Is (part.Fields names negated))) (IsSectionEnd utf8 f peek path)) (λ _. Then (IsHeaderList utf8) (λ names. IsSectionEnd utf8 f peek path (part.Fields names negated)))
       (λ _. told (IsHeaderList utf8) (λ names. part.Fields names negated) (IsSectionEnd utf8 f peek path)))
 
-  pub fields_end : Same (IsBehindText utf8 f peek path section.Fields) (AreNames utf8 f peek path false)
+  pub fields_end : Same (IsAfterText utf8 f peek path section.Fields) (AreNames utf8 f peek path false)
   fields_end = names_end false
 
-  pub fields_not_end : Same (IsBehindText utf8 f peek path section.FieldsNot) (AreNames utf8 f peek path true)
+  pub fields_not_end : Same (IsAfterText utf8 f peek path section.FieldsNot) (AreNames utf8 f peek path true)
   fields_not_end = names_end true
 
   -- the word is this one
-  pub text_left : {is w : SectionWord} (Q : List ℕ → Command → Type 0) (text : List ℕ) → is ≡ w → Same (IsBehindText utf8 f peek path w) Q → Leaves (IsBehindText utf8 f peek path is) text Q text
-  text_left {is} {w} Q text e same = subst (λ z. Leaves (IsBehindText utf8 f peek path z) text Q text) (sym e) (leaves_same Q (leaves_all (IsBehindText utf8 f peek path w) text) same)
+  pub text_left : {is w : SectionWord} (Q : List ℕ → Command → Type 0) (text : List ℕ) → is ≡ w → Same (IsAfterText utf8 f peek path w) Q → Leaves (IsAfterText utf8 f peek path is) text Q text
+  text_left {is} {w} Q text e same = subst (λ z. Leaves (IsAfterText utf8 f peek path z) text Q text) (sym e) (leaves_same Q (leaves_all (IsAfterText utf8 f peek path w) text) same)
 
   names_viable : (negated : Bool) → IsViable (AreNames utf8 f peek path negated) []
   names_viable negated = then_viable IsSpace _ (octet_viable 32) (λ _. list_viable utf8 f peek path negated)
 
-  pub behind_text_viable : (w : SectionWord) → IsViable (IsBehindText utf8 f peek path w) []
-  behind_text_viable section.Header = viable_same (IsBehindText utf8 f peek path section.Header) (IsSectionEnd utf8 f peek path part.Header) [] header_end (end_viable utf8 f peek path part.Header)
-  behind_text_viable section.Text = viable_same (IsBehindText utf8 f peek path section.Text) (IsSectionEnd utf8 f peek path part.Text) [] text_end (end_viable utf8 f peek path part.Text)
-  behind_text_viable section.Mime = viable_same (IsBehindText utf8 f peek path section.Mime) (IsSectionEnd utf8 f peek path part.Mime) [] mime_end (end_viable utf8 f peek path part.Mime)
-  behind_text_viable section.Fields = viable_same (IsBehindText utf8 f peek path section.Fields) (AreNames utf8 f peek path false) [] fields_end (names_viable false)
-  behind_text_viable section.FieldsNot = viable_same (IsBehindText utf8 f peek path section.FieldsNot) (AreNames utf8 f peek path true) [] fields_not_end (names_viable true)
+  pub after_text_viable : (w : SectionWord) → IsViable (IsAfterText utf8 f peek path w) []
+  after_text_viable section.Header = viable_same (IsAfterText utf8 f peek path section.Header) (IsSectionEnd utf8 f peek path part.Header) [] header_end (end_viable utf8 f peek path part.Header)
+  after_text_viable section.Text = viable_same (IsAfterText utf8 f peek path section.Text) (IsSectionEnd utf8 f peek path part.Text) [] text_end (end_viable utf8 f peek path part.Text)
+  after_text_viable section.Mime = viable_same (IsAfterText utf8 f peek path section.Mime) (IsSectionEnd utf8 f peek path part.Mime) [] mime_end (end_viable utf8 f peek path part.Mime)
+  after_text_viable section.Fields = viable_same (IsAfterText utf8 f peek path section.Fields) (AreNames utf8 f peek path false) [] fields_end (names_viable false)
+  after_text_viable section.FieldsNot = viable_same (IsAfterText utf8 f peek path section.FieldsNot) (AreNames utf8 f peek path true) [] fields_not_end (names_viable true)
 
   names_avoid : (p : ℕ → Bool) → p 32 ≡ false → (negated : Bool) → Avoids p (AreNames utf8 f peek path negated)
   names_avoid p e negated = then_avoids p IsSpace _ (octet_avoids p 32 e)
 
-  pub behind_text_avoids : (w : SectionWord) → Avoids (behind_section_word w) (IsBehindText utf8 f peek path w)
-  behind_text_avoids section.Header =
-      avoids_same (behind_section_word section.Header) (IsBehindText utf8 f peek path section.Header) (IsSectionEnd utf8 f peek path part.Header) header_end (end_avoids utf8 f peek path part.Header (behind_section_word section.Header) refl)
-  behind_text_avoids section.Fields = avoids_same (behind_section_word section.Fields) (IsBehindText utf8 f peek path section.Fields) (AreNames utf8 f peek path false) fields_end (names_avoid (behind_section_word section.Fields) refl false)
-  behind_text_avoids section.FieldsNot =
-      avoids_same (behind_section_word section.FieldsNot) (IsBehindText utf8 f peek path section.FieldsNot) (AreNames utf8 f peek path true) fields_not_end (names_avoid (behind_section_word section.FieldsNot) refl true)
-  behind_text_avoids section.Text =
-      avoids_same (behind_section_word section.Text) (IsBehindText utf8 f peek path section.Text) (IsSectionEnd utf8 f peek path part.Text) text_end (end_avoids utf8 f peek path part.Text (behind_section_word section.Text) refl)
-  behind_text_avoids section.Mime =
-      avoids_same (behind_section_word section.Mime) (IsBehindText utf8 f peek path section.Mime) (IsSectionEnd utf8 f peek path part.Mime) mime_end (end_avoids utf8 f peek path part.Mime (behind_section_word section.Mime) refl)
+  pub after_text_avoids : (w : SectionWord) → Avoids (after_section_word w) (IsAfterText utf8 f peek path w)
+  after_text_avoids section.Header =
+      avoids_same (after_section_word section.Header) (IsAfterText utf8 f peek path section.Header) (IsSectionEnd utf8 f peek path part.Header) header_end (end_avoids utf8 f peek path part.Header (after_section_word section.Header) refl)
+  after_text_avoids section.Fields = avoids_same (after_section_word section.Fields) (IsAfterText utf8 f peek path section.Fields) (AreNames utf8 f peek path false) fields_end (names_avoid (after_section_word section.Fields) refl false)
+  after_text_avoids section.FieldsNot =
+      avoids_same (after_section_word section.FieldsNot) (IsAfterText utf8 f peek path section.FieldsNot) (AreNames utf8 f peek path true) fields_not_end (names_avoid (after_section_word section.FieldsNot) refl true)
+  after_text_avoids section.Text =
+      avoids_same (after_section_word section.Text) (IsAfterText utf8 f peek path section.Text) (IsSectionEnd utf8 f peek path part.Text) text_end (end_avoids utf8 f peek path part.Text (after_section_word section.Text) refl)
+  after_text_avoids section.Mime =
+      avoids_same (after_section_word section.Mime) (IsAfterText utf8 f peek path section.Mime) (IsSectionEnd utf8 f peek path part.Mime) mime_end (end_avoids utf8 f peek path part.Mime (after_section_word section.Mime) refl)
 
-  pub text_viable : (behind_numbers : Bool) → IsViable (IsText behind_numbers utf8 f peek path) []
-  text_viable behind_numbers = then_viable (IsWordOf (text_words behind_numbers)) (IsBehindText utf8 f peek path) (word_viable (text_words behind_numbers) (text_table behind_numbers)) behind_text_viable
+  pub text_viable : (after_numbers : Bool) → IsViable (IsText after_numbers utf8 f peek path) []
+  text_viable after_numbers = then_viable (IsWordOf (text_words after_numbers)) (IsAfterText utf8 f peek path) (word_viable (text_words after_numbers) (text_table after_numbers)) after_text_viable
 
 -- ---- numbers
 
@@ -135,11 +135,11 @@ module _ (utf8 : Bool) (f : Fetching) (peek : Bool) (path : List ℕ) where
 
   pub more_numbers : Same (AreMoreNumbers utf8 f peek path) EndOrDot
   more_numbers =
-      same_on (AreMoreNumbers utf8 f peek path) (Or (After IsNothing (IsBehindNumbers utf8 f peek path)) (After (IsOctet 46) (AreNumbers utf8 f peek path))) EndOrDot
-      (more_steps (IsOctet 46) IsNonZero IsNothing (IsBehindNumbers utf8 f peek) path)
-      (same_on (Or (After IsNothing (IsBehindNumbers utf8 f peek path)) (After (IsOctet 46) (AreNumbers utf8 f peek path))) (Or (IsBehindNumbers utf8 f peek path) (After (IsOctet 46) (AreNumbers utf8 f peek path))) EndOrDot
-      (or_same (After IsNothing (IsBehindNumbers utf8 f peek path)) (IsBehindNumbers utf8 f peek path) (After (IsOctet 46) (AreNumbers utf8 f peek path)) (After (IsOctet 46) (AreNumbers utf8 f peek path))
-      (is_then 0 (λ _. IsBehindNumbers utf8 f peek path)) (same_self (After (IsOctet 46) (AreNumbers utf8 f peek path))))
+      same_on (AreMoreNumbers utf8 f peek path) (Or (After IsNothing (IsAfterNumbers utf8 f peek path)) (After (IsOctet 46) (AreNumbers utf8 f peek path))) EndOrDot
+      (more_steps (IsOctet 46) IsNonZero IsNothing (IsAfterNumbers utf8 f peek) path)
+      (same_on (Or (After IsNothing (IsAfterNumbers utf8 f peek path)) (After (IsOctet 46) (AreNumbers utf8 f peek path))) (Or (IsAfterNumbers utf8 f peek path) (After (IsOctet 46) (AreNumbers utf8 f peek path))) EndOrDot
+      (or_same (After IsNothing (IsAfterNumbers utf8 f peek path)) (IsAfterNumbers utf8 f peek path) (After (IsOctet 46) (AreNumbers utf8 f peek path)) (After (IsOctet 46) (AreNumbers utf8 f peek path))
+      (is_then 0 (λ _. IsAfterNumbers utf8 f peek path)) (same_self (After (IsOctet 46) (AreNumbers utf8 f peek path))))
       (factored (IsSectionEnd utf8 f peek path part.Whole) (IsOctet 46) (IsText true utf8 f peek path) (AreNumbers utf8 f peek path)))
 
   pub more_numbers_avoid : Avoids is_digit (AreMoreNumbers utf8 f peek path)
@@ -167,10 +167,10 @@ module _ (utf8 : Bool) (f : Fetching) (peek : Bool) (path : List ℕ) where
   numbers_never : (x : ℕ) → is_digit x ≡ false → NeverAt (AreNumbers utf8 f peek path) x
   numbers_never x e = seq_never IsNonZero _ x (number_none x e)
 
-  words_never : (behind_numbers : Bool) (x : ℕ) → is_digit x ≡ true → NeverAt (IsText behind_numbers utf8 f peek path) x
-  words_never behind_numbers x e =
+  words_never : (after_numbers : Bool) (x : ℕ) → is_digit x ≡ true → NeverAt (IsText after_numbers utf8 f peek path) x
+  words_never after_numbers x e =
       let low = digit_low x e in
-      seq_never (IsWordOf (text_words behind_numbers)) _ x (text_never behind_numbers x (omega (arith, low)) (λ l h. omega (arith, l, low)))
+      seq_never (IsWordOf (text_words after_numbers)) _ x (text_never after_numbers x (omega (arith, low)) (λ l h. omega (arith, l, low)))
 
   pub dotted_open : (text : List ℕ) → length text ≡ 0 → IsViable (Dotted utf8 f peek path) text
   dotted_open text e = subst (λ z. IsViable (Dotted utf8 f peek path) z) (sym (no_octets text e)) (left_viable (AreNumbers utf8 f peek path) (IsText true utf8 f peek path) [] numbers_viable)
@@ -243,8 +243,8 @@ module _ (utf8 : Bool) (f : Fetching) (peek : Bool) where
   abbrev pub NameEnd : SectionName → List ℕ → Command → Type 0
   NameEnd s = IsSectionEnd utf8 f peek s.path s.part
 
-  abbrev pub BehindClose : SectionName → List ℕ → Command → Type 0
-  BehindClose s = Then (Maybe IsPartial) (λ partial. IsBehindThese utf8 f (item.Section peek s.path s.part partial ∷ []))
+  abbrev pub AfterClose : SectionName → List ℕ → Command → Type 0
+  AfterClose s = Then (Maybe IsPartial) (λ partial. IsAfterThese utf8 f (item.Section peek s.path s.part partial ∷ []))
 
   abbrev pub at_part : List ℕ → SectionPart → SectionName
   at_part numbers p = record { path = numbers; part = p }
@@ -259,26 +259,26 @@ module _ (utf8 : Bool) (f : Fetching) (peek : Bool) where
   Named = Or (Is all_of) (IsSectionSpec utf8)
 
   -- behind numbers
-  behind_numbers : (numbers : List ℕ)
-      → Same (Then (Or (Is (at_part numbers part.Whole)) (After (IsOctet 46) (Then (IsSectionText utf8) (λ p. Is (at_part numbers p))))) NameEnd) (IsBehindNumbers utf8 f peek numbers)
-  behind_numbers numbers =
+  after_numbers : (numbers : List ℕ)
+      → Same (Then (Or (Is (at_part numbers part.Whole)) (After (IsOctet 46) (Then (IsSectionText utf8) (λ p. Is (at_part numbers p))))) NameEnd) (IsAfterNumbers utf8 f peek numbers)
+  after_numbers numbers =
       let whole : SectionName = at_part numbers part.Whole in
       same_on _ _ _ (or_then (Is whole) (After (IsOctet 46) (Then (IsSectionText utf8) (λ p. Is (at_part numbers p)))) NameEnd)
       (or_same _ (IsSectionEnd utf8 f peek numbers part.Whole) _ (After (IsOctet 46) (IsText true utf8 f peek numbers)) (is_then whole NameEnd)
       (same_on _ _ _ (then_apart (IsOctet 46) (λ _. Then (IsSectionText utf8) (λ p. Is (at_part numbers p))) NameEnd)
       (second_same (IsOctet 46) _ (λ _. IsText true utf8 f peek numbers) (λ _. same_on _ _ _ (told (IsSectionText utf8) (at_part numbers) NameEnd)
-      (then_apart (IsWordOf (text_words true)) (IsBehindWord utf8) (IsSectionEnd utf8 f peek numbers))))))
+      (then_apart (IsWordOf (text_words true)) (IsAfterWord utf8) (IsSectionEnd utf8 f peek numbers))))))
 
   numbered_same : Same (Then Numbered NameEnd) (AreNumbers utf8 f peek [])
   numbered_same =
-      same_on (Then Numbered NameEnd) (Then IsSectionPart (IsBehindNumbers utf8 f peek)) (AreNumbers utf8 f peek [])
+      same_on (Then Numbered NameEnd) (Then IsSectionPart (IsAfterNumbers utf8 f peek)) (AreNumbers utf8 f peek [])
       (same_on _ _ _ (then_apart IsSectionPart (λ numbers. Or (Is (at_part numbers part.Whole)) (After (IsOctet 46) (Then (IsSectionText utf8) (λ p. Is (at_part numbers p))))) NameEnd)
-      (second_same IsSectionPart _ (IsBehindNumbers utf8 f peek) behind_numbers))
-      (then_apart IsNonZero (λ first. IsMoreThan (IsOctet 46) IsNonZero IsNothing (first ∷ [])) (IsBehindNumbers utf8 f peek))
+      (second_same IsSectionPart _ (IsAfterNumbers utf8 f peek) after_numbers))
+      (then_apart IsNonZero (λ first. IsMoreThan (IsOctet 46) IsNonZero IsNothing (first ∷ [])) (IsAfterNumbers utf8 f peek))
 
   text_same : Same (Then (Then (IsSectionMsgtext utf8) (λ p. Is (at_part [] p))) NameEnd) (IsText false utf8 f peek [])
   text_same =
-      same_on _ (Then (IsSectionMsgtext utf8) (IsSectionEnd utf8 f peek [])) _ (told (IsSectionMsgtext utf8) (at_part []) NameEnd) (then_apart (IsWordOf (text_words false)) (IsBehindWord utf8) (IsSectionEnd utf8 f peek []))
+      same_on _ (Then (IsSectionMsgtext utf8) (IsSectionEnd utf8 f peek [])) _ (told (IsSectionMsgtext utf8) (at_part []) NameEnd) (then_apart (IsWordOf (text_words false)) (IsAfterWord utf8) (IsSectionEnd utf8 f peek []))
 
   named_same : Same (Then Named NameEnd) (Bracketed utf8 f peek [])
   named_same =
@@ -288,20 +288,20 @@ module _ (utf8 : Bool) (f : Fetching) (peek : Bool) where
       (or_then (Then (IsSectionMsgtext utf8) (λ p. Is (at_part [] p))) Numbered NameEnd) (or_same _ _ _ _ text_same numbered_same)))
 
   -- a name, and the bracket behind it
-  closed_same : Same (Then (Then Named (λ s. After (IsOctet 93) (Is s))) BehindClose) (Then Named NameEnd)
+  closed_same : Same (Then (Then Named (λ s. After (IsOctet 93) (Is s))) AfterClose) (Then Named NameEnd)
   closed_same =
-      same_on _ _ _ (then_apart Named (λ s. After (IsOctet 93) (Is s)) BehindClose)
-      (second_same Named (λ s. Then (After (IsOctet 93) (Is s)) BehindClose) NameEnd (λ s. same_on _ _ _ (then_apart (IsOctet 93) (λ _. Is s) BehindClose) (second_same (IsOctet 93) _ (λ _. BehindClose s) (λ _. is_then s BehindClose))))
+      same_on _ _ _ (then_apart Named (λ s. After (IsOctet 93) (Is s)) AfterClose)
+      (second_same Named (λ s. Then (After (IsOctet 93) (Is s)) AfterClose) NameEnd (λ s. same_on _ _ _ (then_apart (IsOctet 93) (λ _. Is s) AfterClose) (second_same (IsOctet 93) _ (λ _. AfterClose s) (λ _. is_then s AfterClose))))
 
-  item_same : Same (IsSectionOf utf8 f peek) (Then (IsSection utf8) BehindClose)
+  item_same : Same (IsSectionOf utf8 f peek) (Then (IsSection utf8) AfterClose)
   item_same =
-      same_on _ _ _ (then_apart (IsSection utf8) (λ s. Then (Maybe IsPartial) (λ partial. Is (item.Section peek s.path s.part partial))) (λ i. IsBehindThese utf8 f (i ∷ [])))
-      (second_same (IsSection utf8) _ BehindClose (λ s. told (Maybe IsPartial) (λ partial. item.Section peek s.path s.part partial) (λ i. IsBehindThese utf8 f (i ∷ []))))
+      same_on _ _ _ (then_apart (IsSection utf8) (λ s. Then (Maybe IsPartial) (λ partial. Is (item.Section peek s.path s.part partial))) (λ i. IsAfterThese utf8 f (i ∷ [])))
+      (second_same (IsSection utf8) _ AfterClose (λ s. told (Maybe IsPartial) (λ partial. item.Section peek s.path s.part partial) (λ i. IsAfterThese utf8 f (i ∷ []))))
 
   pub section_same : Same (IsSectionOf utf8 f peek) (After (IsOctet 91) (Bracketed utf8 f peek []))
   section_same =
-      same_on (IsSectionOf utf8 f peek) (Then (IsSection utf8) BehindClose) (After (IsOctet 91) (Bracketed utf8 f peek [])) item_same
-      (same_on _ _ _ (then_apart (IsOctet 91) (λ _. Then Named (λ s. After (IsOctet 93) (Is s))) BehindClose)
+      same_on (IsSectionOf utf8 f peek) (Then (IsSection utf8) AfterClose) (After (IsOctet 91) (Bracketed utf8 f peek [])) item_same
+      (same_on _ _ _ (then_apart (IsOctet 91) (λ _. Then Named (λ s. After (IsOctet 93) (Is s))) AfterClose)
       (second_same (IsOctet 91) _ (λ _. Bracketed utf8 f peek []) (λ _. same_on _ _ _ closed_same named_same)))
 
   pub section_viable : IsViable (IsSectionOf utf8 f peek) []

@@ -190,9 +190,9 @@ module _ {V W E : Type 0} {Separator : List ℕ → W → Type 0} {P : List ℕ 
   tail_single a b x y (v ∷ vs) (w ∷ ws) is other e =
       let apart : is.1 ++ (is.2 ++ (is.3 ++ x)) ≡ other.1 ++ (other.2 ++ (other.3 ++ y)) = sym (regrouped a is.1 is.2 is.3 x is.4) ∙ (e ∙ regrouped b other.1 other.2 other.3 y other.4) in
       let before = separators.one is.1 other.1 (is.2 ++ (is.3 ++ x)) (other.2 ++ (other.3 ++ y)) is.0 other.0 is.5 other.5 apart (nothing_goes is.0 _) (nothing_goes other.0 _) in
-      let behind : is.2 ++ (is.3 ++ x) ≡ other.2 ++ (other.3 ++ y) = append_cancel_left other.1 _ _ (ap (λ z. z ++ (is.2 ++ (is.3 ++ x))) (sym before.0) ∙ apart) in
-      let item = each.one is.2 other.2 (is.3 ++ x) (other.3 ++ y) v w is.6 other.6 behind (λ h. tail_avoids v is.3 x vs is.7 h) (λ h. tail_avoids w other.3 y ws other.7 h) in
-      let rest : is.3 ++ x ≡ other.3 ++ y = append_cancel_left other.2 _ _ (ap (λ z. z ++ (is.3 ++ x)) (sym item.0) ∙ behind) in
+      let following : is.2 ++ (is.3 ++ x) ≡ other.2 ++ (other.3 ++ y) = append_cancel_left other.1 _ _ (ap (λ z. z ++ (is.2 ++ (is.3 ++ x))) (sym before.0) ∙ apart) in
+      let item = each.one is.2 other.2 (is.3 ++ x) (other.3 ++ y) v w is.6 other.6 following (λ h. tail_avoids v is.3 x vs is.7 h) (λ h. tail_avoids w other.3 y ws other.7 h) in
+      let rest : is.3 ++ x ≡ other.3 ++ y = append_cancel_left other.2 _ _ (ap (λ z. z ++ (is.3 ++ x)) (sym item.0) ∙ following) in
       let tail = tail_single is.3 other.3 x y vs ws is.7 other.7 rest in
       (is.4 ∙ (joined before.0 item.0 tail.0 ∙ sym other.4), both item.1 tail.1)
     where

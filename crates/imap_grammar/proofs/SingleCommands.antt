@@ -10,8 +10,8 @@ use Rattle.imap_words.specs.declared.tokens.Kind.TheVariants.{Atom, Astring, Lis
 use Rattle.imap_words.proofs.Composing.{Avoids, NeverAt}
 use Rattle.imap_words.proofs.Going.{octet_avoids, then_avoids, never_avoids}
 use Rattle.imap_words.proofs.TableSteps.{is_table, tells_longer, word_never}
-use Rattle.imap_grammar.specs.Flags.{IsFlagList, storing_words, behind_storing}
-use Rattle.imap_grammar.specs.Commands.{at_octet, AppendFront, IsBareCommand, IsLoginCommand, IsEnable, IsNaming, IsListing, status_words, IsStatusItems, IsStatus, utf8_words, IsDataFront, IsDataEnd, IsAppendFront, IsAppend, IsFetch, IsStore, IsNotHere, uid_names, IsBehindUid, IsUid, command_names, IsBehindName, IsCommand}
+use Rattle.imap_grammar.specs.Flags.{IsFlagList, storing_words, after_storing}
+use Rattle.imap_grammar.specs.Commands.{at_octet, AppendFront, IsBareCommand, IsLoginCommand, IsEnable, IsNaming, IsListing, status_words, IsStatusItems, IsStatus, utf8_words, IsDataFront, IsDataEnd, IsAppendFront, IsAppend, IsFetch, IsStore, IsNotHere, uid_names, IsAfterUid, IsUid, command_names, IsAfterName, IsCommand}
 use Rattle.imap_grammar.specs.declared.command.Command.{Command}
 use Rattle.imap_grammar.specs.declared.command.Command.TheVariants as command
 use Rattle.imap_grammar.specs.declared.words.Name.{Name}
@@ -19,7 +19,7 @@ use Rattle.imap_grammar.specs.declared.words.Name.TheVariants as name
 use Rattle.imap_grammar.specs.declared.words.UidName.{UidName}
 use Rattle.imap_grammar.specs.declared.words.UidName.TheVariants as uid
 use Rattle.imap_grammar.proofs.Sames.{or_avoids}
-use Rattle.imap_grammar.proofs.Optional.{Followed, behind_it, maybe_avoids}
+use Rattle.imap_grammar.proofs.Optional.{Followed, following_it, maybe_avoids}
 use Rattle.imap_grammar.proofs.LineLaws.{same_line}
 use Rattle.imap_grammar.proofs.AppendSteps.{date_only}
 use Rattle.imap_grammar.proofs.CommandSteps.{spaced_avoids, space_avoids, crlf_avoids, bare_avoids}
@@ -38,19 +38,19 @@ fetch_single utf8 by_uid =
 
 store_single : (by_uid : Bool) → Single never (IsStore by_uid)
 store_single by_uid =
-    read_single space_single (λ _. read_single set_single (λ set. ends_single (word_single storing_words behind_storing (is_table _ _ refl refl) (tells_longer behind_storing storing_words refl))
-    (λ storing. then_avoids (behind_storing storing) IsSpace _ (octet_avoids (behind_storing storing) 32 refl)) (λ storing. read_single space_single (λ _. read_single flags_single (λ flags. is_single _)))))
+    read_single space_single (λ _. read_single set_single (λ set. ends_single (word_single storing_words after_storing (is_table _ _ refl refl) (tells_longer after_storing storing_words refl))
+    (λ storing. then_avoids (after_storing storing) IsSpace _ (octet_avoids (after_storing storing) 32 refl)) (λ storing. read_single space_single (λ _. read_single flags_single (λ flags. is_single _)))))
 
 not_here_single : Single never IsNotHere
 not_here_single = record { one = λ a b x y v w is other e no_x no_y. ((same_line a x b y is.0 other.0 e).0, is.1 ∙ sym other.1) }
 
-behind_uid_single : (utf8 : Bool) (n : UidName) → Single never (IsBehindUid utf8 n)
-behind_uid_single utf8 uid.Fetch = fetch_single utf8 true
-behind_uid_single utf8 uid.Store = store_single true
-behind_uid_single utf8 uid.NotHere = not_here_single
+after_uid_single : (utf8 : Bool) (n : UidName) → Single never (IsAfterUid utf8 n)
+after_uid_single utf8 uid.Fetch = fetch_single utf8 true
+after_uid_single utf8 uid.Store = store_single true
+after_uid_single utf8 uid.NotHere = not_here_single
 
 uid_single : (utf8 : Bool) → Single never (IsUid utf8)
-uid_single utf8 = read_single space_single (λ _. read_single (word_single uid_names never (is_table _ _ refl refl) (tells_longer never uid_names refl)) (λ n. behind_uid_single utf8 n))
+uid_single utf8 = read_single space_single (λ _. read_single (word_single uid_names never (is_table _ _ refl refl) (tells_longer never uid_names refl)) (λ n. after_uid_single utf8 n))
 
 login_single : (utf8 : Bool) → Single never (IsLoginCommand utf8)
 login_single utf8 =
@@ -96,39 +96,39 @@ module _ (utf8 : Bool) (mailbox : List ℕ) where
   abbrev Front : Option (List (List ℕ)) → Option (List ℕ) → List ℕ → AppendFront → Type 0
   Front flags date = Then IsDataFront (λ announced. Is (record { mailbox = mailbox; flags = flags; date = date; announced = announced }))
 
-  abbrev BehindFlags : Option (List (List ℕ)) → List ℕ → AppendFront → Type 0
-  BehindFlags flags = Then (Followed IsSpace IsDateTime) (Front flags)
+  abbrev AfterFlags : Option (List (List ℕ)) → List ℕ → AppendFront → Type 0
+  AfterFlags flags = Then (Followed IsSpace IsDateTime) (Front flags)
 
-  abbrev BehindMailbox : List ℕ → AppendFront → Type 0
-  BehindMailbox = Then (Maybe (After IsSpace IsFlagList)) (λ flags. Then (Maybe (After IsSpace IsDateTime)) (λ date. After IsSpace (Front flags date)))
+  abbrev AfterMailbox : List ℕ → AppendFront → Type 0
+  AfterMailbox = Then (Maybe (After IsSpace IsFlagList)) (λ flags. Then (Maybe (After IsSpace IsDateTime)) (λ date. After IsSpace (Front flags date)))
 
   abbrev Spaced : List ℕ → AppendFront → Type 0
-  Spaced = After IsSpace (Then (Followed IsSpace IsFlagList) BehindFlags)
+  Spaced = After IsSpace (Then (Followed IsSpace IsFlagList) AfterFlags)
 
-  spaced : (octets : List ℕ) (v : AppendFront) → BehindMailbox octets v → Spaced octets v
+  spaced : (octets : List ℕ) (v : AppendFront) → AfterMailbox octets v → Spaced octets v
   spaced octets v is =
-      behind_it IsSpace IsFlagList BehindFlags octets v
-      (record { value = is.value; front = is.front; back = is.back; whole = is.whole; first = is.first; second = behind_it IsSpace IsDateTime (Front is.value) is.back v is.second })
+      following_it IsSpace IsFlagList AfterFlags octets v
+      (record { value = is.value; front = is.front; back = is.back; whole = is.whole; first = is.first; second = following_it IsSpace IsDateTime (Front is.value) is.back v is.second })
 
-  behind_flags_single : (flags : Option (List (List ℕ))) → Single never (BehindFlags flags)
-  behind_flags_single flags =
+  after_flags_single : (flags : Option (List (List ℕ))) → Single never (AfterFlags flags)
+  after_flags_single flags =
       ends_single (followed_single 34 date_single (then_opens (at_octet 34) (IsOctet 34) _ (octet_opens (at_octet 34) 34 refl))) (λ date. then_avoids (at_octet 34) IsDataFront _ (front_avoids 34 refl (word_never utf8_words 34 refl))) (λ date. read_single data_front_single (λ announced. is_single _))
 
-  behind_flags_avoid : (flags : Option (List (List ℕ))) → Avoids (at_octet 40) (BehindFlags flags)
-  behind_flags_avoid flags =
+  after_flags_avoid : (flags : Option (List (List ℕ))) → Avoids (at_octet 40) (AfterFlags flags)
+  after_flags_avoid flags =
       maybe_avoids None IsDateTime Some 34 date_only (at_octet 40) (Front flags) (then_avoids (at_octet 40) IsDoubleQuote _ (octet_avoids (at_octet 40) 34 refl)) (λ date. then_avoids (at_octet 40) IsDataFront _ (front_avoids 40 refl (word_never utf8_words 40 refl)))
 
-  behind_mailbox_single : Single never BehindMailbox
-  behind_mailbox_single = within_single all spaced
+  after_mailbox_single : Single never AfterMailbox
+  after_mailbox_single = within_single all spaced
     where
       all : Single never Spaced
-      all = read_single space_single (λ _. ends_single (followed_single 40 flag_list_single (then_opens (at_octet 40) (IsOctet 40) _ (octet_opens (at_octet 40) 40 refl))) behind_flags_avoid behind_flags_single)
+      all = read_single space_single (λ _. ends_single (followed_single 40 flag_list_single (then_opens (at_octet 40) (IsOctet 40) _ (octet_opens (at_octet 40) 40 refl))) after_flags_avoid after_flags_single)
 
-  behind_mailbox_avoids : Avoids is_astring_char BehindMailbox
-  behind_mailbox_avoids = within_avoids is_astring_char BehindMailbox Spaced spaced (spaced_avoids Astring _)
+  after_mailbox_avoids : Avoids is_astring_char AfterMailbox
+  after_mailbox_avoids = within_avoids is_astring_char AfterMailbox Spaced spaced (spaced_avoids Astring _)
 
 append_front_single : (utf8 : Bool) → Single never (IsAppendFront utf8)
-append_front_single utf8 = read_single space_single (λ _. ends_single (astring_single utf8) (λ mailbox. behind_mailbox_avoids utf8 mailbox) (λ mailbox. behind_mailbox_single utf8 mailbox))
+append_front_single utf8 = read_single space_single (λ _. ends_single (astring_single utf8) (λ mailbox. after_mailbox_avoids utf8 mailbox) (λ mailbox. after_mailbox_single utf8 mailbox))
 
 data_end_single : (in_utf8 : Bool) → Single never (IsDataEnd in_utf8)
 data_end_single false = crlf_single
@@ -139,26 +139,26 @@ append_single utf8 = read_single (append_front_single utf8) (λ front. read_sing
 
 -- ---- all commands
 
-behind_name_single : (utf8 : Bool) (n : Name) → Single never (IsBehindName utf8 n)
-behind_name_single utf8 name.Capability = bare_single command.Capability
-behind_name_single utf8 name.Noop = bare_single command.Noop
-behind_name_single utf8 name.Check = bare_single command.Check
-behind_name_single utf8 name.Logout = bare_single command.Logout
-behind_name_single utf8 name.Login = login_single utf8
-behind_name_single utf8 name.Enable = enable_single
-behind_name_single utf8 name.Select = naming_single utf8 command.Select
-behind_name_single utf8 name.Examine = naming_single utf8 command.Examine
-behind_name_single utf8 name.Create = naming_single utf8 command.Create
-behind_name_single utf8 name.List = listing_single utf8
-behind_name_single utf8 name.Status = status_single utf8
-behind_name_single utf8 name.Append = append_single utf8
-behind_name_single utf8 name.Fetch = fetch_single utf8 false
-behind_name_single utf8 name.Store = store_single false
-behind_name_single utf8 name.Uid = uid_single utf8
-behind_name_single utf8 name.Expunge = bare_single command.Expunge
-behind_name_single utf8 name.Close = bare_single command.Close
-behind_name_single utf8 name.NotHere = not_here_single
+after_name_single : (utf8 : Bool) (n : Name) → Single never (IsAfterName utf8 n)
+after_name_single utf8 name.Capability = bare_single command.Capability
+after_name_single utf8 name.Noop = bare_single command.Noop
+after_name_single utf8 name.Check = bare_single command.Check
+after_name_single utf8 name.Logout = bare_single command.Logout
+after_name_single utf8 name.Login = login_single utf8
+after_name_single utf8 name.Enable = enable_single
+after_name_single utf8 name.Select = naming_single utf8 command.Select
+after_name_single utf8 name.Examine = naming_single utf8 command.Examine
+after_name_single utf8 name.Create = naming_single utf8 command.Create
+after_name_single utf8 name.List = listing_single utf8
+after_name_single utf8 name.Status = status_single utf8
+after_name_single utf8 name.Append = append_single utf8
+after_name_single utf8 name.Fetch = fetch_single utf8 false
+after_name_single utf8 name.Store = store_single false
+after_name_single utf8 name.Uid = uid_single utf8
+after_name_single utf8 name.Expunge = bare_single command.Expunge
+after_name_single utf8 name.Close = bare_single command.Close
+after_name_single utf8 name.NotHere = not_here_single
 
 pub command_single : (utf8 : Bool) → Single never (IsCommand utf8)
 command_single utf8 =
-    ends_single (run_single is_tag_char) (λ tag. spaced_avoids Tag _) (λ tag. read_single space_single (λ _. read_single (word_single command_names never (is_table _ _ refl refl) (tells_longer never command_names refl)) (λ n. read_single (behind_name_single utf8 n) (λ c. is_single _))))
+    ends_single (run_single is_tag_char) (λ tag. spaced_avoids Tag _) (λ tag. read_single space_single (λ _. read_single (word_single command_names never (is_table _ _ refl refl) (tells_longer never command_names refl)) (λ n. read_single (after_name_single utf8 n) (λ c. is_single _))))

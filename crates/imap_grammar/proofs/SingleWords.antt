@@ -10,7 +10,7 @@ use Rattle.imap_words.specs.Reading.{BeginsIn, never, always}
 use Rattle.imap_words.specs.Tokens.{IsSpace, IsDoubleQuote, IsCrlf, IsRunOf, IsNumber32, IsNonZero, IsImapAtom, is_digit, is_quoted_text, is_atom_char, is_astring_char, is_list_char}
 use Rattle.imap_words.specs.Keywords.{Named, upper, IsWordOf, IsTable, TellsLonger}
 use Rattle.imap_words.specs.Strings.{IsHeader, IsHeader8, IsLiteral, IsString, IsAstring, IsListMailbox, IsHeaderName, IsQuoted, IsOneQuoted, QuotedChar, text, escaped, high, IsQuotedChar, quoted_spelling, quoted_octets, IsHighChar}
-use Rattle.imap_words.specs.Sets.{IsSeqNumber, IsSeqRange, IsSetAndSpace, behind_range}
+use Rattle.imap_words.specs.Sets.{IsSeqNumber, IsSeqRange, IsSetAndSpace, after_range}
 use Rattle.imap_words.specs.Dates.{IsDigit, IsTwoDigits, IsFourDigits, IsDateDayFixed, IsTime, IsZone, IsDateTimeText, IsDateTime, months}
 use Rattle.imap_words.specs.declared.tokens.Kind.TheVariants.{Atom}
 use Rattle.imap_words.proofs.Passing.{all_append}
@@ -19,7 +19,7 @@ use Rattle.imap_words.proofs.Going.{octet_avoids, then_avoids}
 use Rattle.imap_words.proofs.Handing.{Hands}
 use Rattle.imap_words.proofs.TableSteps.{is_table, tells_longer}
 use Rattle.imap_words.proofs.HeaderSteps.{brace_avoids}
-use Rattle.imap_words.proofs.HighSteps.{Behind, put_apart, high_never}
+use Rattle.imap_words.proofs.HighSteps.{Following, put_apart, high_never}
 use Rattle.imap_words.proofs.QuotedSteps.{quote_never, AreRest, IsRestQuoted, to_rest}
 use Rattle.imap_words.proofs.SetSteps.{comma_avoids, space_avoids}
 use Rattle.imap_words.proofs.StringHeads.{astring_starts, list_starts}
@@ -34,7 +34,7 @@ use Rattle.imap_grammar.proofs.FlagSteps.{space_ends, backslash_ends, open_ends}
 -- ---- tables, runs and numbers
 
 pub word_single : {V : Type 0} (table : List (Named V)) (later : V → ℕ → Bool) → IsTable table → TellsLonger table later → Single later (IsWordOf table)
-word_single {V} table later t tells = greedy_single once goes
+word_single {V} table later t observed = greedy_single once goes
   where
     once : (a : List ℕ) (v w : V) → IsWordOf table a v → IsWordOf table a w → v ≡ w
     once a v w is other = is.says ∙ (t.one is.entry other.entry is.known other.known (sym is.word ∙ other.word) ∙ sym other.says)
@@ -43,14 +43,14 @@ word_single {V} table later t tells = greedy_single once goes
     goes a z c v w is other =
         let longer : other.entry.word ≡ (is.entry.word ++ upper z ∷ []) ++ map upper c
         = sym other.word ∙ (map-append upper a (z ∷ c) ∙ (ap (λ k. k ++ upper z ∷ map upper c) is.word ∙ sym (append_assoc is.entry.word (upper z ∷ []) (map upper c)))) in
-        subst (λ k. later k z ≡ true) (sym is.says) (tells is.entry z is.known (other.entry, map upper c, other.known, longer))
+        subst (λ k. later k z ≡ true) (sym is.says) (observed is.entry z is.known (other.entry, map upper c, other.known, longer))
 
 -- what is behind a front passes too
-passes_behind : (p : ℕ → Bool) (a : List ℕ) (z : ℕ) (c : List ℕ) → list_all p (a ++ z ∷ c) ≡ true → p z ≡ true
-passes_behind p a z c all = (and_parts (p z) (list_all p c) (all_append p a (z ∷ c) all).1).0
+passes_after : (p : ℕ → Bool) (a : List ℕ) (z : ℕ) (c : List ℕ) → list_all p (a ++ z ∷ c) ≡ true → p z ≡ true
+passes_after p a z c all = (and_parts (p z) (list_all p c) (all_append p a (z ∷ c) all).1).0
 
 pub run_single : (p : ℕ → Bool) → Single (always p) (IsRunOf p)
-run_single p = greedy_single (λ a v w is other. is.value_is ∙ sym other.value_is) (λ a z c v w is other. passes_behind p a z c other.passes)
+run_single p = greedy_single (λ a v w is other. is.value_is ∙ sym other.value_is) (λ a z c v w is other. passes_after p a z c other.passes)
 
 begins_all : (p : ℕ → Bool) (a b : List ℕ) → 0 < length a → list_all p a ≡ true → BeginsIn p (a ++ b)
 begins_all p [] b some all = absurd (omega (arith, some))
@@ -60,7 +60,7 @@ pub run_opens : (p : ℕ → Bool) → Opens p (IsRunOf p)
 run_opens p a b v is = begins_all p a b is.some is.passes
 
 pub number_single : Single (always is_digit) IsNumber32
-number_single = greedy_single (λ a v w is other. is.value_is ∙ sym other.value_is) (λ a z c v w is other. passes_behind is_digit a z c other.digits)
+number_single = greedy_single (λ a v w is other. is.value_is ∙ sym other.value_is) (λ a z c v w is other. passes_after is_digit a z c other.digits)
 
 pub non_zero_single : Single (always is_digit) IsNonZero
 non_zero_single = within_single number_single (λ octets v is. is.is_number)
@@ -145,7 +145,7 @@ high_formed (x ∷ xs) v is = by (put_apart x xs v is)
     formed : 194 ≤ x → length (x ∷ xs) ≡ size_from x → IsFormed (x ∷ xs) (x ∷ xs)
     formed low sized = (x, xs, refl, sized, sym (cond-false (x == 92) xs (x ∷ xs) (high_plain x low)))
 
-    by : Behind x xs v → IsFormed (x ∷ xs) (x ∷ xs)
+    by : Following x xs v → IsFormed (x ∷ xs) (x ∷ xs)
     by (inl two) = let len : length (x ∷ xs) ≡ 2 = omega (arith, ap length two.2.is) in formed two.0 (len ∙ sym (size_two x two.0 two.1))
     by (inr (inl three)) =
         let s = three.2 in
@@ -241,13 +241,13 @@ colon_no_digit : is_digit 58 ≡ false
 unfolding is_digit
 colon_no_digit = refl
 
-colon_goes : behind_range 58 ≡ true
+colon_goes : after_range 58 ≡ true
 unfolding is_digit
 colon_goes = refl
 
-digit_behind : (b : List ℕ) → BeginsIn is_digit b → BeginsIn behind_range b
-digit_behind [] h = h
-digit_behind (x ∷ b) h = or_left (is_digit x) _ h
+digit_after : (b : List ℕ) → BeginsIn is_digit b → BeginsIn after_range b
+digit_after [] h = h
+digit_after (x ∷ b) h = or_left (is_digit x) _ h
 
 seq_number_single : Single (always is_digit) IsSeqNumber
 seq_number_single =
@@ -259,14 +259,14 @@ pair_of first last = (first, last)
 abbrev Last : Option ℕ → List ℕ → Option ℕ × Option ℕ → Type 0
 Last first = After (IsOctet 58) (Then IsSeqNumber (λ last. Is (pair_of first last)))
 
-last_single : (first : Option ℕ) → Single (always behind_range) (Last first)
-last_single first = read_single (octet_single 58) (λ _. mapped_single (pair_of first) seq_number_single (λ u. digit_behind))
+last_single : (first : Option ℕ) → Single (always after_range) (Last first)
+last_single first = read_single (octet_single 58) (λ _. mapped_single (pair_of first) seq_number_single (λ u. digit_after))
 
-last_hands : (first : Option ℕ) → Hands is_digit (always behind_range) (Or (Is (pair_of first first)) (Last first))
-last_hands first = nothing_hands is_digit (always behind_range) (pair_of first first) (Last first) digit_behind (then_avoids is_digit (IsOctet 58) _ (octet_avoids is_digit 58 colon_no_digit))
+last_hands : (first : Option ℕ) → Hands is_digit (always after_range) (Or (Is (pair_of first first)) (Last first))
+last_hands first = nothing_hands is_digit (always after_range) (pair_of first first) (Last first) digit_after (then_avoids is_digit (IsOctet 58) _ (octet_avoids is_digit 58 colon_no_digit))
 
-range_single : Single (always behind_range) IsSeqRange
-range_single = then_single seq_number_single last_hands (λ first. nothing_single (pair_of first first) (last_single first) (then_opens behind_range (IsOctet 58) _ (octet_opens behind_range 58 colon_goes)))
+range_single : Single (always after_range) IsSeqRange
+range_single = then_single seq_number_single last_hands (λ first. nothing_single (pair_of first first) (last_single first) (then_opens after_range (IsOctet 58) _ (octet_opens after_range 58 colon_goes)))
 
 pub set_single : Single never IsSetAndSpace
 set_single = list_single (at_octet 44) (octet_single 44) range_single space_single (octet_opens (at_octet 44) 44 refl) (octet_avoids (at_octet 44) 32 refl) (λ v. comma_avoids) (λ v. space_avoids)

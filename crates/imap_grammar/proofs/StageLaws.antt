@@ -20,9 +20,9 @@ use Rattle.imap_words.proofs.Leaving.{leaves_later}
 use Rattle.imap_words.proofs.TokenSteps.{octet_never}
 use Rattle.imap_words.proofs.TableSteps.{same_list}
 use Rattle.imap_grammar.specs.Flags.{IsFlagList}
-use Rattle.imap_grammar.specs.Commands.{Tagged, AppendFront, some_flags, IsBareCommand, IsLoginCommand, IsEnable, IsNaming, IsListing, IsStatus, IsDataEnd, IsAppendFront, IsAppend, IsFetch, IsStore, IsNotHere, IsBehindUid, command_names, IsBehindName, IsCommand}
+use Rattle.imap_grammar.specs.Commands.{Tagged, AppendFront, some_flags, IsBareCommand, IsLoginCommand, IsEnable, IsNaming, IsListing, IsStatus, IsDataEnd, IsAppendFront, IsAppend, IsFetch, IsStore, IsNotHere, IsAfterUid, command_names, IsAfterName, IsCommand}
 use Rattle.imap_grammar.specs.Events.{Announces, append_words, IsAppending, Appends}
-use Rattle.imap_grammar.specs.Awaiting.{named, IsBehindNames, IsBehindData, IsBehindAppendName, IsLiteralBody, IsBehindLiteral, IsRestAtLiteral, IsSized}
+use Rattle.imap_grammar.specs.Awaiting.{named, IsAfterNames, IsAfterData, IsAfterAppendName, IsLiteralBody, IsAfterLiteral, IsRestAtLiteral, IsSized}
 use Rattle.imap_grammar.specs.Standing.{left_of, IsAtData}
 use Rattle.imap_grammar.specs.declared.command.Command.{Command}
 use Rattle.imap_grammar.specs.declared.command.Command.TheVariants as command
@@ -32,14 +32,14 @@ use Rattle.imap_grammar.specs.declared.awaited.Awaited.TheVariants as awaited
 use Rattle.imap_grammar.specs.declared.awaited.Naming.{Naming}
 use Rattle.imap_grammar.specs.declared.awaited.Naming.TheVariants as naming
 use Rattle.imap_grammar.specs.declared.awaited.FieldNames.{FieldNames}
-use Rattle.imap_grammar.specs.declared.reader.Stage.TheVariants.{Behind}
+use Rattle.imap_grammar.specs.declared.reader.Stage.TheVariants.{AfterLiteral}
 use Rattle.imap_grammar.specs.declared.words.Name.{Name}
 use Rattle.imap_grammar.specs.declared.words.Name.TheVariants as name
 use Rattle.imap_grammar.specs.declared.words.UidName.{UidName}
 use Rattle.imap_grammar.specs.declared.words.UidName.TheVariants as uid
-use Rattle.imap_grammar.proofs.CommandSteps.{bare_viable, behind_user_viable, behind_reference_viable, behind_status_viable}
+use Rattle.imap_grammar.proofs.CommandSteps.{bare_viable, after_user_viable, after_reference_viable, after_status_viable}
 use Rattle.imap_grammar.proofs.LineLaws.{announces_once, crlf_spelled}
-use Rattle.imap_grammar.proofs.AppendSteps.{data_end_viable, behind_append_viable}
+use Rattle.imap_grammar.proofs.AppendSteps.{data_end_viable, after_append_viable}
 use Rattle.imap_grammar.proofs.FetchEnds.{end_viable}
 use Rattle.imap_grammar.proofs.NameListSteps.{letters_ok, names_viable}
 use Rattle.imap_grammar.proofs.Closing.{appending_announces}
@@ -73,37 +73,37 @@ data_never : (in_utf8 : Bool) (x : ℕ) → (x ≡ 13 → ⊥) → (x ≡ 41 →
 data_never false x a b = then_never 13 x (λ _. IsOctet 10) a
 data_never true x a b = then_never 41 x (λ _. IsCrlf) b
 
-append_never : (mailbox : List ℕ) (x : ℕ) → (x ≡ 32 → ⊥) → NeverAt (IsBehindAppendName mailbox) x
+append_never : (mailbox : List ℕ) (x : ℕ) → (x ≡ 32 → ⊥) → NeverAt (IsAfterAppendName mailbox) x
 append_never mailbox x other =
     maybe_never (After IsSpace IsFlagList) _ x (spaced_never IsFlagList x other) (λ flags. maybe_never (After IsSpace IsDateTime) _ x (spaced_never IsDateTime x other) (λ date. spaced_never _ x other))
 
 -- no other octet than a space, CR or a parenthesis
-behind_never : (utf8 : Bool) (a : Awaited) (v : List ℕ) (x : ℕ) → (x ≡ 32 → ⊥) → (x ≡ 13 → ⊥) → (x ≡ 41 → ⊥) → NeverAt (IsBehindLiteral utf8 a v) x
-behind_never utf8 awaited.LoginName v x s r p = spaced_never _ x s
-behind_never utf8 (awaited.LoginPassword user) v x s r p = bare_never _ x r
-behind_never utf8 (awaited.Mailbox n) v x s r p = bare_never _ x r
-behind_never utf8 awaited.ListReference v x s r p = spaced_never _ x s
-behind_never utf8 (awaited.ListPattern reference) v x s r p = bare_never _ x r
-behind_never utf8 awaited.StatusName v x s r p = spaced_never _ x s
-behind_never utf8 awaited.AppendName v x s r p = append_never v x s
-behind_never utf8 (awaited.AppendData mailbox flags date in_utf8) v x s r p = seq_never (IsDataEnd in_utf8) _ x (data_never in_utf8 x r p)
-behind_never utf8 (awaited.FieldName so_far) v x s r p = seq_never _ _ x (names_never IsSpace (IsHeaderName utf8) IsCloseParenthesis (so_far.names ++ v ∷ []) x (octet_never 32 x s) (octet_never 41 x p))
+after_never : (utf8 : Bool) (a : Awaited) (v : List ℕ) (x : ℕ) → (x ≡ 32 → ⊥) → (x ≡ 13 → ⊥) → (x ≡ 41 → ⊥) → NeverAt (IsAfterLiteral utf8 a v) x
+after_never utf8 awaited.LoginName v x s r p = spaced_never _ x s
+after_never utf8 (awaited.LoginPassword user) v x s r p = bare_never _ x r
+after_never utf8 (awaited.Mailbox n) v x s r p = bare_never _ x r
+after_never utf8 awaited.ListReference v x s r p = spaced_never _ x s
+after_never utf8 (awaited.ListPattern reference) v x s r p = bare_never _ x r
+after_never utf8 awaited.StatusName v x s r p = spaced_never _ x s
+after_never utf8 awaited.AppendName v x s r p = append_never v x s
+after_never utf8 (awaited.AppendData mailbox flags date in_utf8) v x s r p = seq_never (IsDataEnd in_utf8) _ x (data_never in_utf8 x r p)
+after_never utf8 (awaited.FieldName so_far) v x s r p = seq_never _ _ x (names_never IsSpace (IsHeaderName utf8) IsCloseParenthesis (so_far.names ++ v ∷ []) x (octet_never 32 x s) (octet_never 41 x p))
 
 -- ---- something may follow
 
-behind_data_viable : (mailbox : List ℕ) (flags : ℕ) (date : Option (List ℕ)) (in_utf8 : Bool) (v : List ℕ) → IsViable (IsBehindData mailbox flags date in_utf8 v) []
-behind_data_viable mailbox flags date in_utf8 v = then_viable (IsDataEnd in_utf8) _ (data_end_viable in_utf8) (λ _. is_viable _)
+after_data_viable : (mailbox : List ℕ) (flags : ℕ) (date : Option (List ℕ)) (in_utf8 : Bool) (v : List ℕ) → IsViable (IsAfterData mailbox flags date in_utf8 v) []
+after_data_viable mailbox flags date in_utf8 v = then_viable (IsDataEnd in_utf8) _ (data_end_viable in_utf8) (λ _. is_viable _)
 
-pub behind_viable : (utf8 : Bool) (a : Awaited) (v : List ℕ) → IsViable (IsBehindLiteral utf8 a v) []
-behind_viable utf8 awaited.LoginName v = behind_user_viable utf8 v
-behind_viable utf8 (awaited.LoginPassword user) v = bare_viable _
-behind_viable utf8 (awaited.Mailbox n) v = bare_viable _
-behind_viable utf8 awaited.ListReference v = behind_reference_viable utf8 v
-behind_viable utf8 (awaited.ListPattern reference) v = bare_viable _
-behind_viable utf8 awaited.StatusName v = behind_status_viable v
-behind_viable utf8 awaited.AppendName v = behind_append_viable v
-behind_viable utf8 (awaited.AppendData mailbox flags date in_utf8) v = behind_data_viable mailbox flags date in_utf8 v
-behind_viable utf8 (awaited.FieldName so_far) v = names_viable utf8 so_far (so_far.names ++ v ∷ [])
+pub after_viable : (utf8 : Bool) (a : Awaited) (v : List ℕ) → IsViable (IsAfterLiteral utf8 a v) []
+after_viable utf8 awaited.LoginName v = after_user_viable utf8 v
+after_viable utf8 (awaited.LoginPassword user) v = bare_viable _
+after_viable utf8 (awaited.Mailbox n) v = bare_viable _
+after_viable utf8 awaited.ListReference v = after_reference_viable utf8 v
+after_viable utf8 (awaited.ListPattern reference) v = bare_viable _
+after_viable utf8 awaited.StatusName v = after_status_viable v
+after_viable utf8 awaited.AppendName v = after_append_viable v
+after_viable utf8 (awaited.AppendData mailbox flags date in_utf8) v = after_data_viable mailbox flags date in_utf8 v
+after_viable utf8 (awaited.FieldName so_far) v = names_viable utf8 so_far (so_far.names ++ v ∷ [])
 
 -- ---- the literal
 
@@ -160,35 +160,35 @@ no_other_word P octets v r w is = elim (r.only [] octets [] w is tt (append-nil 
 
 module _ (utf8 : Bool) (tag : List ℕ) (size : ℕ) (a : Awaited) where
   abbrev pub Left : List ℕ → Tagged → Type 0
-  Left = left_of utf8 (Behind tag size a)
+  Left = left_of utf8 (AfterLiteral tag size a)
 
   pub literal_viable : IsSized size a → IsViable (IsRestAtLiteral utf8 size a) []
-  literal_viable some = then_viable (IsLiteralBody size a) (IsBehindLiteral utf8 a) (record { rest = xs size; value = xs size; is_word = body_xs size a some }) (behind_viable utf8 a)
+  literal_viable some = then_viable (IsLiteralBody size a) (IsAfterLiteral utf8 a) (record { rest = xs size; value = xs size; is_word = body_xs size a some }) (after_viable utf8 a)
 
   pub left_viable : IsSized size a → IsViable Left []
   left_viable some = then_viable (IsRestAtLiteral utf8 size a) _ (literal_viable some) (λ c. is_viable _)
 
-  left_fails : (literal rest : List ℕ) (left : ℕ) → IsLiteralBody size a literal literal → FailsAt (IsBehindLiteral utf8 a literal) never rest left → FailsAt Left never (literal ++ rest) left
+  left_fails : (literal rest : List ℕ) (left : ℕ) → IsLiteralBody size a literal literal → FailsAt (IsAfterLiteral utf8 a literal) never rest left → FailsAt Left never (literal ++ rest) left
   left_fails literal rest left body fails =
       first_stops (IsRestAtLiteral utf8 size a) (λ c. Is (record { tag = tag; command = c })) never never (literal ++ rest) (Bad left)
-      (then_stops (IsLiteralBody size a) (IsBehindLiteral utf8 a) never never (literal ++ rest) rest literal (Bad left) (body_reads size a literal rest body) (λ u. never_avoids _) fails)
+      (then_stops (IsLiteralBody size a) (IsAfterLiteral utf8 a) never never (literal ++ rest) rest literal (Bad left) (body_reads size a literal rest body) (λ u. never_avoids _) fails)
       (λ u. never_avoids _) (λ u. is_viable _)
 
-  module _ (front : List ℕ) (l : Leaves (IsCommand utf8) front (left_of utf8 (Behind tag size a)) []) where
+  module _ (front : List ℕ) (l : Leaves (IsCommand utf8) front (left_of utf8 (AfterLiteral tag size a)) []) where
     pub front_viable : IsSized size a → IsViable (IsCommand utf8) front
     front_viable some = subst (λ z. IsViable (IsCommand utf8) z) (append-nil front) ((leaves_later (IsCommand utf8) Left front [] l).stops never More (left_viable some))
 
     -- no command has the literal before it and then an octet that no command has there
-    no_command_with : (literal : List ℕ) (x : ℕ) (rest : List ℕ) → IsLiteralBody size a literal literal → NeverAt (IsBehindLiteral utf8 a literal) x
+    no_command_with : (literal : List ℕ) (x : ℕ) (rest : List ℕ) → IsLiteralBody size a literal literal → NeverAt (IsAfterLiteral utf8 a literal) x
         → (u b : List ℕ) (c : Tagged) → IsCommand utf8 u c → u ++ b ≡ front ++ (literal ++ x ∷ rest) → ⊥
     no_command_with literal x rest body none =
         no_word_before (IsCommand utf8) (front ++ (literal ++ x ∷ rest)) _
-        ((leaves_later (IsCommand utf8) Left front (literal ++ x ∷ rest) l).stops never (Bad (length (x ∷ rest))) (left_fails literal (x ∷ rest) _ body (fails_first (IsBehindLiteral utf8 a literal) never x rest (behind_viable utf8 a literal) none)))
+        ((leaves_later (IsCommand utf8) Left front (literal ++ x ∷ rest) l).stops never (Bad (length (x ∷ rest))) (left_fails literal (x ∷ rest) _ body (fails_first (IsAfterLiteral utf8 a literal) never x rest (after_viable utf8 a literal) none)))
 
     -- No command ends behind a header of which a literal is left, nor before it.
     pub no_command_yet : IsSized size a → (u b : List ℕ) (c : Tagged) → IsCommand utf8 u c → u ++ b ≡ front → ⊥
     no_command_yet some u b c is e =
-        no_command_with (xs size) 97 [] (body_xs size a some) (behind_never utf8 a (xs size) 97 (λ e. omega (arith, e)) (λ e. omega (arith, e)) (λ e. omega (arith, e)))
+        no_command_with (xs size) 97 [] (body_xs size a some) (after_never utf8 a (xs size) 97 (λ e. omega (arith, e)) (λ e. omega (arith, e)) (λ e. omega (arith, e)))
         u (b ++ (xs size ++ 97 ∷ [])) c is (sym (append_assoc u b (xs size ++ 97 ∷ [])) ∙ ap (λ z. z ++ (xs size ++ 97 ∷ [])) e)
 
 -- ---- APPEND
@@ -367,12 +367,12 @@ store_no by_uid = then_no _ _ (λ _. then_no _ _ (λ set. then_no _ _ (λ storin
 not_here_no : NoAppend IsNotHere
 not_here_no a c is = ap is_append is.1
 
-behind_uid_no : (utf8 : Bool) (n : UidName) → NoAppend (IsBehindUid utf8 n)
-behind_uid_no utf8 uid.Fetch = fetch_no utf8 true
-behind_uid_no utf8 uid.Store = store_no true
-behind_uid_no utf8 uid.NotHere = not_here_no
+after_uid_no : (utf8 : Bool) (n : UidName) → NoAppend (IsAfterUid utf8 n)
+after_uid_no utf8 uid.Fetch = fetch_no utf8 true
+after_uid_no utf8 uid.Store = store_no true
+after_uid_no utf8 uid.NotHere = not_here_no
 
-name_no : (utf8 : Bool) (n : Name) → is_append_name n ≡ false → NoAppend (IsBehindName utf8 n)
+name_no : (utf8 : Bool) (n : Name) → is_append_name n ≡ false → NoAppend (IsAfterName utf8 n)
 name_no utf8 name.Capability lacks = bare_no _ refl
 name_no utf8 name.Noop lacks = bare_no _ refl
 name_no utf8 name.Check lacks = bare_no _ refl
@@ -387,7 +387,7 @@ name_no utf8 name.Status lacks = status_no utf8
 name_no utf8 name.Append lacks = absurd (both_ways true lacks refl)
 name_no utf8 name.Fetch lacks = fetch_no utf8 false
 name_no utf8 name.Store lacks = store_no false
-name_no utf8 name.Uid lacks = then_no _ _ (λ _. then_no _ _ (behind_uid_no utf8))
+name_no utf8 name.Uid lacks = then_no _ _ (λ _. then_no _ _ (after_uid_no utf8))
 name_no utf8 name.Expunge lacks = bare_no _ refl
 name_no utf8 name.Close lacks = bare_no _ refl
 name_no utf8 name.NotHere lacks = not_here_no
@@ -453,17 +453,17 @@ append_parts utf8 octets c is appends = elim (cases_Bool (is_append_name w.value
       let named : w.value ≡ name.Append = name_is w.value given in
       subst (λ z. AppendParts utf8 octets z) (sym b.second.1)
       (named_parts utf8 octets is.front sp.front w.front b.front is.value b.value whole is.first
-      (subst (λ z. IsSpace sp.front z) sp.first.1 sp.first) (to_append w.front (subst (λ z. IsWordOf command_names w.front z) named w.first)) (subst (λ z. IsBehindName utf8 z b.front b.value) named b.first))
+      (subst (λ z. IsSpace sp.front z) sp.first.1 sp.first) (to_append w.front (subst (λ z. IsWordOf command_names w.front z) named w.first)) (subst (λ z. IsAfterName utf8 z b.front b.value) named b.first))
   | inr lacks ↦ absurd (both_ways (is_append c.command) (ap (λ (z : Tagged). is_append z.command) b.second.1 ∙ name_no utf8 w.value lacks b.front b.value b.first) appends)
 ]
   where
-    sp : After IsSpace (Then (IsWordOf command_names) (λ n. Then (IsBehindName utf8 n) (λ d. Is (tagged is.value d)))) is.back c
+    sp : After IsSpace (Then (IsWordOf command_names) (λ n. Then (IsAfterName utf8 n) (λ d. Is (tagged is.value d)))) is.back c
     sp = is.second
 
-    w : Then (IsWordOf command_names) (λ n. Then (IsBehindName utf8 n) (λ d. Is (tagged is.value d))) sp.back c
+    w : Then (IsWordOf command_names) (λ n. Then (IsAfterName utf8 n) (λ d. Is (tagged is.value d))) sp.back c
     w = sp.second
 
-    b : Then (IsBehindName utf8 w.value) (λ d. Is (tagged is.value d)) w.back c
+    b : Then (IsAfterName utf8 w.value) (λ d. Is (tagged is.value d)) w.back c
     b = w.second
 
     whole : octets ≡ is.front ++ (sp.front ++ (w.front ++ b.front))
@@ -471,9 +471,9 @@ append_parts utf8 octets c is appends = elim (cases_Bool (is_append_name w.value
 
 -- ---- which stages are those of data
 
-behind_data_reads : (mailbox : List ℕ) (flags : ℕ) (date : Option (List ℕ)) (in_utf8 : Bool) (literal : List ℕ)
-    → Reads (IsBehindData mailbox flags date in_utf8 literal) never (data_end in_utf8) (command.Append mailbox flags date in_utf8 literal) []
-behind_data_reads mailbox flags date in_utf8 literal = record {
+after_data_reads : (mailbox : List ℕ) (flags : ℕ) (date : Option (List ℕ)) (in_utf8 : Bool) (literal : List ℕ)
+    → Reads (IsAfterData mailbox flags date in_utf8 literal) never (data_end in_utf8) (command.Append mailbox flags date in_utf8 literal) []
+after_data_reads mailbox flags date in_utf8 literal = record {
   word = data_end in_utf8;
   whole = sym (append-nil (data_end in_utf8));
   is_word = record { value = 10; front = data_end in_utf8; back = []; whole = sym (append-nil (data_end in_utf8)); first = data_end_has in_utf8; second = (refl, refl) };
@@ -481,20 +481,20 @@ behind_data_reads mailbox flags date in_utf8 literal = record {
 }
 
 module _ (utf8 : Bool) (tag : List ℕ) (size : ℕ) (a : Awaited) where
-  left_reads : (literal rest : List ℕ) (c : Command) → IsLiteralBody size a literal literal → Reads (IsBehindLiteral utf8 a literal) never rest c [] → Reads (left_of utf8 (Behind tag size a)) never (literal ++ rest) (tagged tag c) []
+  left_reads : (literal rest : List ℕ) (c : Command) → IsLiteralBody size a literal literal → Reads (IsAfterLiteral utf8 a literal) never rest c [] → Reads (left_of utf8 (AfterLiteral tag size a)) never (literal ++ rest) (tagged tag c) []
   left_reads literal rest c body r =
       mapped_reads (IsRestAtLiteral utf8 size a) (tagged tag) never never (literal ++ rest) [] c (λ v b h. h)
-      (then_reads (IsLiteralBody size a) (IsBehindLiteral utf8 a) never never (literal ++ rest) rest [] literal c (body_reads size a literal rest body) (λ u. never_avoids _) r)
+      (then_reads (IsLiteralBody size a) (IsAfterLiteral utf8 a) never never (literal ++ rest) rest [] literal c (body_reads size a literal rest body) (λ u. never_avoids _) r)
 
-  module _ (front : List ℕ) (l : Leaves (IsCommand utf8) front (left_of utf8 (Behind tag size a)) []) where
-    whole_reads : (literal rest : List ℕ) (c : Command) → IsLiteralBody size a literal literal → Reads (IsBehindLiteral utf8 a literal) never rest c [] → Reads (IsCommand utf8) never (front ++ (literal ++ rest)) (tagged tag c) []
-    whole_reads literal rest c body r = (leaves_later (IsCommand utf8) (left_of utf8 (Behind tag size a)) front (literal ++ rest) l).reads never (tagged tag c) [] (left_reads literal rest c body r)
+  module _ (front : List ℕ) (l : Leaves (IsCommand utf8) front (left_of utf8 (AfterLiteral tag size a)) []) where
+    whole_reads : (literal rest : List ℕ) (c : Command) → IsLiteralBody size a literal literal → Reads (IsAfterLiteral utf8 a literal) never rest c [] → Reads (IsCommand utf8) never (front ++ (literal ++ rest)) (tagged tag c) []
+    whole_reads literal rest c body r = (leaves_later (IsCommand utf8) (left_of utf8 (AfterLiteral tag size a)) front (literal ++ rest) l).reads never (tagged tag c) [] (left_reads literal rest c body r)
 
 -- Behind what awaits data stands an APPEND up to its data.
 pub at_data : (utf8 : Bool) (tag : List ℕ) (size : ℕ) (mailbox : List ℕ) (flags : ℕ) (date : Option (List ℕ)) (in_utf8 : Bool) (front : List ℕ)
-    → Leaves (IsCommand utf8) front (left_of utf8 (Behind tag size (awaited.AppendData mailbox flags date in_utf8))) [] → (appends : Appends) × IsAppending utf8 front appends
+    → Leaves (IsCommand utf8) front (left_of utf8 (AfterLiteral tag size (awaited.AppendData mailbox flags date in_utf8))) [] → (appends : Appends) × IsAppending utf8 front appends
 at_data utf8 tag size mailbox flags date in_utf8 front l =
-    let q = whole_reads utf8 tag size (awaited.AppendData mailbox flags date in_utf8) front l (xs size) (data_end in_utf8) (command.Append mailbox flags date in_utf8 (xs size)) (xs_len size, refl) (behind_data_reads mailbox flags date in_utf8 (xs size)) in
+    let q = whole_reads utf8 tag size (awaited.AppendData mailbox flags date in_utf8) front l (xs size) (data_end in_utf8) (command.Append mailbox flags date in_utf8 (xs size)) (xs_len size, refl) (after_data_reads mailbox flags date in_utf8 (xs size)) in
     let is : IsCommand utf8 (front ++ (xs size ++ data_end in_utf8)) (tagged tag (command.Append mailbox flags date in_utf8 (xs size))) = subst (λ z. IsCommand utf8 z (tagged tag (command.Append mailbox flags date in_utf8 (xs size)))) (sym (q.whole ∙ append-nil q.word)) q.is_word in
     let p = append_parts utf8 _ _ is refl in
     let content : p.content ≡ xs size = sym (ap (λ (z : Tagged). octets_of z.command) p.is) in
@@ -503,23 +503,23 @@ at_data utf8 tag size mailbox flags date in_utf8 front l =
     let same : front ≡ p.head = append_cancel_right front p.head (xs size ++ data_end in_utf8) (p.whole ∙ (ap (λ z. p.head ++ (z ++ p.end)) content ∙ ap (λ z. p.head ++ (xs size ++ z)) end)) in
     (p.appends, subst (λ z. IsAppending utf8 z p.appends) (sym same) p.is_head)
 
-module _ (utf8 : Bool) (tag : List ℕ) (size : ℕ) (a : Awaited) (front : List ℕ) (l : Leaves (IsCommand utf8) front (left_of utf8 (Behind tag size a)) []) (some : IsSized size a) (appends : Appends) (is : IsAppending utf8 front appends) (same : size ≡ appends.front.announced.size) where
+module _ (utf8 : Bool) (tag : List ℕ) (size : ℕ) (a : Awaited) (front : List ℕ) (l : Leaves (IsCommand utf8) front (left_of utf8 (AfterLiteral tag size a)) []) (some : IsSized size a) (appends : Appends) (is : IsAppending utf8 front appends) (same : size ≡ appends.front.announced.size) where
   whole_command : IsCommand utf8 (front ++ (xs size ++ data_end appends.front.announced.utf8)) (tagged appends.tag (appended appends.front (xs size)))
   whole_command = appending_command utf8 front appends (xs size) is (xs_len size ∙ same)
 
   -- where the octet that ends data can't follow
-  not_there : (in_utf8 : Bool) → appends.front.announced.utf8 ≡ in_utf8 → (x : ℕ) (rest : List ℕ) → data_end in_utf8 ≡ x ∷ rest → NeverAt (IsBehindLiteral utf8 a (xs size)) x → ⊥
+  not_there : (in_utf8 : Bool) → appends.front.announced.utf8 ≡ in_utf8 → (x : ℕ) (rest : List ℕ) → data_end in_utf8 ≡ x ∷ rest → NeverAt (IsAfterLiteral utf8 a (xs size)) x → ⊥
   not_there in_utf8 e x rest begins none =
       no_command_with utf8 tag size a front l (xs size) x rest (body_xs size a some) none (front ++ (xs size ++ data_end appends.front.announced.utf8)) [] _ whole_command
       (append-nil _ ∙ ap (λ z. front ++ (xs size ++ z)) (ap data_end e ∙ begins))
 
-  no_spaced : ((x : ℕ) → (x ≡ 32 → ⊥) → NeverAt (IsBehindLiteral utf8 a (xs size)) x) → ⊥
+  no_spaced : ((x : ℕ) → (x ≡ 32 → ⊥) → NeverAt (IsAfterLiteral utf8 a (xs size)) x) → ⊥
   no_spaced none = elim (cases_Bool appends.front.announced.utf8) [
     | inl given ↦ not_there true given 41 (13 ∷ 10 ∷ []) refl (none 41 (λ e. omega (arith, e)))
     | inr lacks ↦ not_there false lacks 13 (10 ∷ []) refl (none 13 (λ e. omega (arith, e)))
   ]
 
-  no_bare : (c : Command) → is_append c ≡ false → Reads (IsBehindLiteral utf8 a (xs size)) never (13 ∷ 10 ∷ []) c [] → NeverAt (IsBehindLiteral utf8 a (xs size)) 41 → ⊥
+  no_bare : (c : Command) → is_append c ≡ false → Reads (IsAfterLiteral utf8 a (xs size)) never (13 ∷ 10 ∷ []) c [] → NeverAt (IsAfterLiteral utf8 a (xs size)) 41 → ⊥
   no_bare c lacks r none = elim (cases_Bool appends.front.announced.utf8) [
     | inl given ↦ not_there true given 41 (13 ∷ 10 ∷ []) refl none
     | inr plain ↦
@@ -543,7 +543,7 @@ named_no naming.Examine v = refl
 named_no naming.Create v = refl
 
 -- behind the parenthesis that ends names of fields comes a bracket
-names_fail : (utf8 : Bool) (so_far : FieldNames) (names : List (List ℕ)) → FailsAt (IsBehindNames utf8 so_far names) never (41 ∷ 13 ∷ 10 ∷ []) 2
+names_fail : (utf8 : Bool) (so_far : FieldNames) (names : List (List ℕ)) → FailsAt (IsAfterNames utf8 so_far names) never (41 ∷ 13 ∷ 10 ∷ []) 2
 names_fail utf8 so_far names =
     then_stops (IsMoreThan IsSpace (IsHeaderName utf8) IsCloseParenthesis names) _ never never (41 ∷ 13 ∷ 10 ∷ []) (13 ∷ 10 ∷ []) names (Bad 2)
     ((list_ending IsSpace (IsHeaderName utf8) IsCloseParenthesis names 41 (13 ∷ 10 ∷ []) (octet_never 32 41 (λ e. omega (arith, e)))).reads never names (13 ∷ 10 ∷ [])
@@ -555,7 +555,7 @@ sized : (utf8 : Bool) (front : List ℕ) (size : ℕ) → Announces front size �
 sized utf8 front size announces appends is = announces_once front size appends.front.announced.size announces (appending_announces utf8 front appends is)
 
 -- Nowhere else does an APPEND up to its data stand.
-pub not_data : (utf8 : Bool) (tag : List ℕ) (size : ℕ) (a : Awaited) (front : List ℕ) → Leaves (IsCommand utf8) front (left_of utf8 (Behind tag size a)) [] → Announces front size → IsSized size a → IsAtData utf8 a front
+pub not_data : (utf8 : Bool) (tag : List ℕ) (size : ℕ) (a : Awaited) (front : List ℕ) → Leaves (IsCommand utf8) front (left_of utf8 (AfterLiteral tag size a)) [] → Announces front size → IsSized size a → IsAtData utf8 a front
 not_data utf8 tag size (awaited.AppendData mailbox flags date in_utf8) front l announces some = at_data utf8 tag size mailbox flags date in_utf8 front l
 not_data utf8 tag size awaited.LoginName front l announces some = λ appends is. no_spaced utf8 tag size awaited.LoginName front l some appends is (sized utf8 front size announces appends is) (λ x other. spaced_never _ x other)
 not_data utf8 tag size (awaited.LoginPassword user) front l announces some = λ appends is.
@@ -570,7 +570,7 @@ not_data utf8 tag size awaited.AppendName front l announces some = λ appends is
 not_data utf8 tag size (awaited.FieldName so_far) front l announces some = λ appends is. elim (cases_Bool appends.front.announced.utf8) [
   | inl given ↦
       no_word_before (IsCommand utf8) (front ++ (xs size ++ 41 ∷ 13 ∷ 10 ∷ [])) _
-      ((leaves_later (IsCommand utf8) (left_of utf8 (Behind tag size (awaited.FieldName so_far))) front (xs size ++ 41 ∷ 13 ∷ 10 ∷ []) l).stops never (Bad 2)
+      ((leaves_later (IsCommand utf8) (left_of utf8 (AfterLiteral tag size (awaited.FieldName so_far))) front (xs size ++ 41 ∷ 13 ∷ 10 ∷ []) l).stops never (Bad 2)
       (left_fails utf8 tag size (awaited.FieldName so_far) (xs size) (41 ∷ 13 ∷ 10 ∷ []) 2 (body_xs size (awaited.FieldName so_far) some) (names_fail utf8 so_far (so_far.names ++ xs size ∷ []))))
       (front ++ (xs size ++ data_end appends.front.announced.utf8)) [] _ (whole_command utf8 tag size (awaited.FieldName so_far) front l some appends is (sized utf8 front size announces appends is))
       (append-nil _ ∙ ap (λ z. front ++ (xs size ++ data_end z)) given)

@@ -16,7 +16,7 @@ use Rattle.imap_words.proofs.Parting.{through_value}
 use Rattle.imap_grammar.specs.declared.command.Command.{Command}
 use Rattle.imap_grammar.specs.declared.command.Command.TheVariants as command
 use Rattle.imap_grammar.specs.declared.command.StoreOp.{StoreOp}
-use Rattle.imap_grammar.specs.Flags.{IsFlagsToEnd, HasFlags, flags_of, storing_words, behind_storing}
+use Rattle.imap_grammar.specs.Flags.{IsFlagsToEnd, HasFlags, flags_of, storing_words, after_storing}
 use Rattle.imap_grammar.proofs.FlagSteps.{to_end_word}
 
 pub range_viable : IsViable IsSeqRange []
@@ -32,24 +32,24 @@ module _ (by_uid : Bool) (set : List (Option ℕ × Option ℕ)) where
   abbrev pub Stored : StoreOp × Bool → ℕ → Command
   Stored storing flags = command.Store by_uid (record { ranges = set }) storing.0 storing.1 flags
 
-  abbrev pub IsBehindWord : StoreOp × Bool → List ℕ → Command → Type 0
-  IsBehindWord storing = After IsSpace (Then IsFlagsToEnd (λ flags. Is (Stored storing (flags_of flags))))
+  abbrev pub IsAfterWord : StoreOp × Bool → List ℕ → Command → Type 0
+  IsAfterWord storing = After IsSpace (Then IsFlagsToEnd (λ flags. Is (Stored storing (flags_of flags))))
 
-  pub word_avoids : (storing : StoreOp × Bool) → Avoids (behind_storing storing) (IsBehindWord storing)
-  word_avoids storing = then_avoids (behind_storing storing) (IsOctet 32) _ (octet_avoids (behind_storing storing) 32 refl)
+  pub word_avoids : (storing : StoreOp × Bool) → Avoids (after_storing storing) (IsAfterWord storing)
+  word_avoids storing = then_avoids (after_storing storing) (IsOctet 32) _ (octet_avoids (after_storing storing) 32 refl)
 
   pub flags_viable : (storing : StoreOp × Bool) → IsViable (Then IsFlagsToEnd (λ flags. Is (Stored storing (flags_of flags)))) []
   flags_viable storing = then_viable IsFlagsToEnd _ to_end_word (λ flags. is_viable (Stored storing (flags_of flags)))
 
-  pub behind_word_viable : (storing : StoreOp × Bool) → IsViable (IsBehindWord storing) []
-  behind_word_viable storing = then_viable IsSpace _ (octet_viable 32) (λ _. flags_viable storing)
+  pub after_word_viable : (storing : StoreOp × Bool) → IsViable (IsAfterWord storing) []
+  after_word_viable storing = then_viable IsSpace _ (octet_viable 32) (λ _. flags_viable storing)
 
-  pub behind_set_viable : IsViable (Then (IsWordOf storing_words) IsBehindWord) []
-  behind_set_viable = then_viable (IsWordOf storing_words) IsBehindWord (word_viable storing_words storing_table) behind_word_viable
+  pub after_set_viable : IsViable (Then (IsWordOf storing_words) IsAfterWord) []
+  after_set_viable = then_viable (IsWordOf storing_words) IsAfterWord (word_viable storing_words storing_table) after_word_viable
 
   -- the flags are told by their bits
   pub told_by_bits : (storing : StoreOp × Bool) (text : List ℕ) → Continues (Then IsFlagsToEnd (λ flags. Is (Stored storing (flags_of flags)))) text (Then (HasFlags IsFlagsToEnd) (λ n. Is (Stored storing n))) text
   told_by_bits storing text = through_value IsFlagsToEnd flags_of (λ n. Is (Stored storing n)) text
 
-pub store_viable : (by_uid : Bool) → IsViable (Then IsSetAndSpace (λ set. Then (IsWordOf storing_words) (IsBehindWord by_uid set))) []
-store_viable by_uid = then_viable IsSetAndSpace _ set_viable (behind_set_viable by_uid)
+pub store_viable : (by_uid : Bool) → IsViable (Then IsSetAndSpace (λ set. Then (IsWordOf storing_words) (IsAfterWord by_uid set))) []
+store_viable by_uid = then_viable IsSetAndSpace _ set_viable (after_set_viable by_uid)

@@ -21,7 +21,7 @@ use Rattle.imap_grammar.specs.declared.command.Command.{Command}
 use Rattle.imap_grammar.specs.declared.awaited.Next.{Next}
 use Rattle.imap_grammar.specs.declared.awaited.Next.TheVariants.{Whole, Awaits}
 use Rattle.imap_grammar.specs.declared.reader.Stage.{Stage}
-use Rattle.imap_grammar.specs.declared.reader.Stage.TheVariants.{Behind}
+use Rattle.imap_grammar.specs.declared.reader.Stage.TheVariants.{AfterLiteral}
 use Rattle.imap_grammar.proofs.LineLaws.{cut_same, right_empty}
 use Rattle.imap_grammar.proofs.Closing.{command_ends}
 use Rattle.imap_grammar.proofs.StageLaws.{tagged}
@@ -98,7 +98,7 @@ pub tagged_comes : (utf8 : Bool) (tag : List ℕ) (P : List ℕ → Tagged → T
     → Leaves P text (Then L (λ c. Is (tagged tag c))) mid → Comes utf8 L mid next rest → TaggedComes utf8 tag P text next rest
 tagged_comes utf8 tag P L text mid (Whole c) rest l r = (here l).reads never (tagged tag c) rest (mapped_reads L (tagged tag) never never mid rest c (λ v b h. h) r)
 tagged_comes utf8 tag P L text mid (Awaits size a) rest l r =
-    (r.1, leaves_on P (Then L (λ c. Is (tagged tag c))) (left_of utf8 (Behind tag size a)) text mid rest l (tagged_leaves tag L (IsRestAtLiteral utf8 size a) mid rest r.2))
+    (r.1, leaves_on P (Then L (λ c. Is (tagged tag c))) (left_of utf8 (AfterLiteral tag size a)) text mid rest l (tagged_leaves tag L (IsRestAtLiteral utf8 size a) mid rest r.2))
 
 pub header_of : (utf8 : Bool) (L : List ℕ → Command → Type 0) (text : List ℕ) (next : Next) (rest : List ℕ) → Comes utf8 L text next rest → HasHeader text next rest
 header_of utf8 L text (Whole c) rest r = tt

@@ -15,7 +15,7 @@ use Rattle.imap_words.specs.declared.stop.Stop.TheVariants.{More, Bad, Memory}
 use Rattle.imap_grammar.specs.Commands.{Tagged, IsCommand}
 use Rattle.imap_grammar.specs.Events.{IsWholeLine, BeginsWithTag, HasTag, Appends, IsAppending}
 use Rattle.mail_wire.specs.declared.values.Memory.{Memory as MemoryFault}
-use Rattle.imap_grammar.specs.Awaiting.{Comes, IsLiteralBody, IsBehindLiteral, IsRestAtLiteral, IsSized}
+use Rattle.imap_grammar.specs.Awaiting.{Comes, IsLiteralBody, IsAfterLiteral, IsRestAtLiteral, IsSized}
 use Rattle.imap_grammar.specs.Standing.{IsAtData, left_of, Reached, HasNoDataBefore, TaggedComes, HasHeader, LineComes, TurnTells, went_on, Stopped, size_of}
 use Rattle.imap_grammar.specs.declared.awaited.Awaited.{Awaited}
 use Rattle.imap_grammar.specs.declared.awaited.Awaited.TheVariants as awaited
@@ -23,7 +23,7 @@ use Rattle.imap_grammar.specs.declared.awaited.Next.{Next}
 use Rattle.imap_grammar.specs.declared.awaited.Next.TheVariants.{Whole, Awaits}
 use Rattle.imap_grammar.specs.declared.reader.Turn.{Turn}
 use Rattle.imap_grammar.specs.declared.reader.Stage.{Stage}
-use Rattle.imap_grammar.specs.declared.reader.Stage.TheVariants.{Begin, Behind}
+use Rattle.imap_grammar.specs.declared.reader.Stage.TheVariants.{Begin, AfterLiteral}
 use Rattle.imap_grammar.proofs.LineLaws.{ends_some, fronts_same}
 use Rattle.imap_grammar.proofs.Closing.{ends_announces, command_ends}
 use Rattle.imap_grammar.proofs.EventLaws.{nowhere_front}
@@ -56,7 +56,7 @@ module _ (utf8 : Bool) (stage : Stage) (front literal line : List ℕ) (reached 
       whole_tells utf8 (front ++ (literal ++ line)) tag c rest r (command_rest utf8 stage front (literal ++ line) r.word rest _ reached none line is_line rest_is r.is_word (sym r.whole))
   turn_tells none tag (Awaits size a) rest no_data header begins comes =
       let ends = header_ends line size rest is_line header in
-      awaits_tells utf8 (front ++ (literal ++ line)) tag size a (subst (λ z. Leaves (IsCommand utf8) (front ++ (literal ++ line)) (left_of utf8 (Behind tag size a)) z) ends.0 comes.1) comes.0
+      awaits_tells utf8 (front ++ (literal ++ line)) tag size a (subst (λ z. Leaves (IsCommand utf8) (front ++ (literal ++ line)) (left_of utf8 (AfterLiteral tag size a)) z) ends.0 comes.1) comes.0
       (ends_announces (front ++ (literal ++ line)) size (whole_has utf8 front literal line (Some size) stage reached sized is_line ends.1)) begins
       (alone_more utf8 front literal line stage reached alone sized is_line no_data)
 
@@ -90,30 +90,30 @@ first_stops utf8 front literal line tag stop r reached sized stops has is =
 
 -- where a literal is awaited then, no data were
 no_data_then : (utf8 : Bool) (tag : List ℕ) (size : ℕ) (a : Awaited) (front literal line : List ℕ) (next : Next) (rest : List ℕ) → IsWholeLine line → IsAtData utf8 a front
-    → Comes utf8 (IsBehindLiteral utf8 a literal) line next rest → NoDataThen utf8 front next
+    → Comes utf8 (IsAfterLiteral utf8 a literal) line next rest → NoDataThen utf8 front next
 no_data_then utf8 tag size a front literal line (Whole c) rest is_line at comes = tt
 no_data_then utf8 tag size (awaited.AppendData mailbox flags date in_utf8) front literal line (Awaits more other) rest is_line at comes =
     absurd (no_literal_then utf8 mailbox flags date in_utf8 literal line more other rest comes.0 comes.1 comes.2 (header_ends line more rest is_line comes.0).0)
 no_data_then utf8 tag size a front literal line (Awaits more other) rest is_line at comes = at
 
-module _ (utf8 : Bool) (tag : List ℕ) (size : ℕ) (a : Awaited) (front literal line : List ℕ) (l : Leaves (IsCommand utf8) front (left_of utf8 (Behind tag size a)) []) (reached : Reached utf8 (Behind tag size a) front) (sized : length literal ≡ size) where
+module _ (utf8 : Bool) (tag : List ℕ) (size : ℕ) (a : Awaited) (front literal line : List ℕ) (l : Leaves (IsCommand utf8) front (left_of utf8 (AfterLiteral tag size a)) []) (reached : Reached utf8 (AfterLiteral tag size a) front) (sized : length literal ≡ size) where
   octets_begin : BeginsWithTag (front ++ (literal ++ line)) tag
   octets_begin = tag_more front (literal ++ line) tag reached.2
 
   pub is_sized : IsSized (length literal) a
   is_sized = subst (λ z. IsSized z a) (sym sized) reached.1
 
-  pub behind_tells : HasNoDataBefore utf8 front → IsWholeLine line → (next : Next) (rest : List ℕ) → IsLiteralBody (length literal) a literal literal → Comes utf8 (IsBehindLiteral utf8 a literal) line next rest
+  pub after_tells : HasNoDataBefore utf8 front → IsWholeLine line → (next : Next) (rest : List ℕ) → IsLiteralBody (length literal) a literal literal → Comes utf8 (IsAfterLiteral utf8 a literal) line next rest
       → TurnTells utf8 (front ++ (literal ++ line)) (went_on tag next)
-  behind_tells alone is_line next rest body comes =
+  after_tells alone is_line next rest body comes =
       let there = literal_leaves utf8 tag size a front literal line l (subst (λ z. IsLiteralBody z a literal literal) sized body) in
-      turn_tells utf8 (Behind tag size a) front literal line reached alone sized is_line (no_command_yet utf8 tag size a front l reached.1) tag next rest
-      (no_data_then utf8 tag size a front literal line next rest is_line reached.3 comes) (header_of utf8 (IsBehindLiteral utf8 a literal) line next rest comes) octets_begin
-      (tagged_comes utf8 tag (IsCommand utf8) (IsBehindLiteral utf8 a literal) (front ++ (literal ++ line)) line next rest there comes)
+      turn_tells utf8 (AfterLiteral tag size a) front literal line reached alone sized is_line (no_command_yet utf8 tag size a front l reached.1) tag next rest
+      (no_data_then utf8 tag size a front literal line next rest is_line reached.3 comes) (header_of utf8 (IsAfterLiteral utf8 a literal) line next rest comes) octets_begin
+      (tagged_comes utf8 tag (IsCommand utf8) (IsAfterLiteral utf8 a literal) (front ++ (literal ++ line)) line next rest there comes)
 
-  pub behind_stops : (r : Result Turn MemoryFault) (stop : Stop) → StopsReading (IsRestAtLiteral utf8 (length literal) a) never (literal ++ line) stop → IfOk r (Stopped (Some tag) stop)
+  pub after_stops : (r : Result Turn MemoryFault) (stop : Stop) → StopsReading (IsRestAtLiteral utf8 (length literal) a) never (literal ++ line) stop → IfOk r (Stopped (Some tag) stop)
       → IfOk r (TurnTells utf8 (front ++ (literal ++ line)))
-  behind_stops r stop stops is =
+  after_stops r stop stops is =
       stops_tell utf8 (front ++ (literal ++ line)) (Some tag) octets_begin r stop
       (literal_stops utf8 tag size a front literal line l stop (subst (λ z. StopsReading (IsRestAtLiteral utf8 z a) never (literal ++ line) stop) sized stops)) is
 

@@ -18,7 +18,7 @@ use Rattle.imap_words.proofs.Composing.{first_stops}
 use Rattle.imap_words.proofs.Leaving.{here, leaves_all, leaves_then, leaves_on, leaves_later}
 use Rattle.imap_grammar.specs.Commands.{IsCommand}
 use Rattle.imap_grammar.specs.Events.{IsWholeLine, EndsCommandLine, Announces, BeginsWithTag, HasTag, IsFirstBad, Appends, IsAppending, HasData, Counts, IsShort, IsTooLarge, IsDue}
-use Rattle.imap_grammar.specs.Awaiting.{IsAfterHeader, IsLiteralBody, IsBehindData, IsBehindLiteral, IsRestAtLiteral, IsSized}
+use Rattle.imap_grammar.specs.Awaiting.{IsAfterHeader, IsLiteralBody, IsAfterData, IsAfterLiteral, IsRestAtLiteral, IsSized}
 use Rattle.imap_grammar.specs.Standing.{left_of, Reached, HasNoDataBefore, FitsStage, HasSeen, IsAtLine, TurnTells, size_of, is_data, too_large}
 use Rattle.imap_grammar.specs.declared.command.Command.{Command}
 use Rattle.imap_grammar.specs.declared.awaited.Awaited.{Awaited}
@@ -27,11 +27,11 @@ use Rattle.imap_grammar.specs.declared.event.Event.TheVariants as event
 use Rattle.imap_grammar.specs.declared.event.TheConstants.{APPEND_MAX}
 use Rattle.imap_grammar.specs.declared.reader.Reader.{Reader}
 use Rattle.imap_grammar.specs.declared.reader.Stage.{Stage}
-use Rattle.imap_grammar.specs.declared.reader.Stage.TheVariants.{Begin, Behind}
+use Rattle.imap_grammar.specs.declared.reader.Stage.TheVariants.{Begin, AfterLiteral}
 use Rattle.imap_grammar.specs.declared.reader.Turn.{Turn}
 use Rattle.imap_grammar.specs.declared.reader.Turn.TheVariants as turn
 use Rattle.imap_grammar.proofs.LineLaws.{header_form, right_empty, line_some, announces_once}
-use Rattle.imap_grammar.proofs.Closing.{LastHas, Ends, ends_line, announces_has, one_line, behind_announced, header_line, appending_announces}
+use Rattle.imap_grammar.proofs.Closing.{LastHas, Ends, ends_line, announces_has, one_line, after_announced, header_line, appending_announces}
 use Rattle.imap_grammar.proofs.StageLaws.{tagged, xs, xs_len, body_reads, literal_viable, front_viable, no_command_yet, not_data, data_end, data_end_is, appended, appending_command}
 use Rattle.imap_grammar.proofs.EventLaws.{HeadAt, AtFront, AtLine, head_at, first_bad, count_of, AtStage, IsData, NoData, at_stage, data_count, plain_count, if_false, viable_front}
 use Rattle.imap_grammar.proofs.TurnLaws.{line_rest, leaves_more, tagged_leaves, same_tag}
@@ -65,7 +65,7 @@ no_octets (x ∷ literal) e = absurd (omega (arith, e))
 module _ (utf8 : Bool) (front literal line : List ℕ) where
   pub whole_has : (kind : Option ℕ) (stage : Stage) → Reached utf8 stage front → length literal ≡ size_of stage → IsWholeLine line → LastHas kind line → Ends kind (front ++ (literal ++ line))
   whole_has kind Begin reached sized is has = subst (λ z. Ends kind (z ++ (literal ++ line))) (sym reached) (subst (λ z. Ends kind (z ++ line)) (sym (no_octets literal sized)) (one_line kind line is has))
-  whole_has kind (Behind tag size a) reached sized is has = behind_announced kind front literal line size (announces_has front size reached.0) sized (one_line kind line is has)
+  whole_has kind (AfterLiteral tag size a) reached sized is has = after_announced kind front literal line size (announces_has front size reached.0) sized (one_line kind line is has)
 
   pub whole_ends : (stage : Stage) → Reached utf8 stage front → length literal ≡ size_of stage → IsWholeLine line → EndsCommandLine (front ++ (literal ++ line))
   whole_ends stage reached sized is = ends_line (front ++ (literal ++ line)) (whole_has None stage reached sized is tt)
@@ -79,7 +79,7 @@ module _ (utf8 : Bool) (front literal line : List ℕ) where
       by (AtLine others cut f found) = line_rest line others back cut is (sym (drop_at literal line (size_of stage) sized) ∙ f) found
 
 -- a literal is awaited behind the whole line
-pub awaits_tells : (utf8 : Bool) (octets tag : List ℕ) (size : ℕ) (a : Awaited) → Leaves (IsCommand utf8) octets (left_of utf8 (Behind tag size a)) [] → IsSized size a → Announces octets size → BeginsWithTag octets tag → HasNoDataBefore utf8 octets
+pub awaits_tells : (utf8 : Bool) (octets tag : List ℕ) (size : ℕ) (a : Awaited) → Leaves (IsCommand utf8) octets (left_of utf8 (AfterLiteral tag size a)) [] → IsSized size a → Announces octets size → BeginsWithTag octets tag → HasNoDataBefore utf8 octets
     → TurnTells utf8 octets (turn.Awaits tag size a)
 awaits_tells utf8 octets tag size a l some announces begins alone = (l, (announces, some, begins, not_data utf8 tag size a octets l announces some), alone)
 
@@ -121,22 +121,22 @@ bad_tells utf8 octets tag left f has = (omega (arith, ap length f.whole, length-
 
 -- ---- behind a literal
 
-module _ (utf8 : Bool) (tag : List ℕ) (size : ℕ) (a : Awaited) (front literal line : List ℕ) (l : Leaves (IsCommand utf8) front (left_of utf8 (Behind tag size a)) []) where
-  pub literal_leaves : IsLiteralBody size a literal literal → Leaves (IsCommand utf8) (front ++ (literal ++ line)) (Then (IsBehindLiteral utf8 a literal) (λ c. Is (tagged tag c))) line
+module _ (utf8 : Bool) (tag : List ℕ) (size : ℕ) (a : Awaited) (front literal line : List ℕ) (l : Leaves (IsCommand utf8) front (left_of utf8 (AfterLiteral tag size a)) []) where
+  pub literal_leaves : IsLiteralBody size a literal literal → Leaves (IsCommand utf8) (front ++ (literal ++ line)) (Then (IsAfterLiteral utf8 a literal) (λ c. Is (tagged tag c))) line
   literal_leaves body =
-      leaves_on (IsCommand utf8) (left_of utf8 (Behind tag size a)) (Then (IsBehindLiteral utf8 a literal) (λ c. Is (tagged tag c))) (front ++ (literal ++ line)) (literal ++ line) line
-      (leaves_more (IsCommand utf8) (left_of utf8 (Behind tag size a)) front (literal ++ line) l)
-      (tagged_leaves tag (IsRestAtLiteral utf8 size a) (IsBehindLiteral utf8 a literal) (literal ++ line) line
+      leaves_on (IsCommand utf8) (left_of utf8 (AfterLiteral tag size a)) (Then (IsAfterLiteral utf8 a literal) (λ c. Is (tagged tag c))) (front ++ (literal ++ line)) (literal ++ line) line
+      (leaves_more (IsCommand utf8) (left_of utf8 (AfterLiteral tag size a)) front (literal ++ line) l)
+      (tagged_leaves tag (IsRestAtLiteral utf8 size a) (IsAfterLiteral utf8 a literal) (literal ++ line) line
       (leaves_then (leaves_all (IsRestAtLiteral utf8 size a) (literal ++ line)) (body_reads size a literal line body) (λ u. never_avoids _)))
 
   pub literal_stops : (stop : Stop) → StopsReading (IsRestAtLiteral utf8 size a) never (literal ++ line) stop → StopsReading (IsCommand utf8) never (front ++ (literal ++ line)) stop
   literal_stops stop s =
-      (leaves_later (IsCommand utf8) (left_of utf8 (Behind tag size a)) front (literal ++ line) l).stops never stop
+      (leaves_later (IsCommand utf8) (left_of utf8 (AfterLiteral tag size a)) front (literal ++ line) l).stops never stop
       (first_stops (IsRestAtLiteral utf8 size a) (λ c. Is (tagged tag c)) never never (literal ++ line) stop s (λ u. never_avoids _) (λ u. is_viable _))
 
 -- behind data no literal is awaited
 pub no_literal_then : (utf8 : Bool) (mailbox : List ℕ) (flags : ℕ) (date : Option (List ℕ)) (in_utf8 : Bool) (octets line : List ℕ) (size : ℕ) (a : Awaited) (rest : List ℕ)
-    → IsAfterHeader line size rest → IsSized size a → Leaves (IsBehindData mailbox flags date in_utf8 octets) line (IsRestAtLiteral utf8 size a) rest → rest ≡ [] → ⊥
+    → IsAfterHeader line size rest → IsSized size a → Leaves (IsAfterData mailbox flags date in_utf8 octets) line (IsRestAtLiteral utf8 size a) rest → rest ≡ [] → ⊥
 no_literal_then utf8 mailbox flags date in_utf8 octets line size a rest h some l none =
     let viable = (here l).stops never More (subst (λ z. IsViable (IsRestAtLiteral utf8 size a) z) (sym none) (literal_viable utf8 (mailbox) size a some)) in
     let is = viable.is_word in
@@ -154,11 +154,11 @@ large_is : (size : ℕ) (a : Awaited) → too_large size a ≡ true → APPEND_M
 large_is size (awaited.AppendData mailbox flags date in_utf8) e = ltb-true APPEND_MAX size e
 large_is size a e = absurd (both_ways false refl e)
 
-large_data : (tag : List ℕ) (size : ℕ) (a : Awaited) → too_large size a ≡ true → is_data (Behind tag size a) ≡ true
+large_data : (tag : List ℕ) (size : ℕ) (a : Awaited) → too_large size a ≡ true → is_data (AfterLiteral tag size a) ≡ true
 large_data tag size (awaited.AppendData mailbox flags date in_utf8) e = refl
 large_data tag size a e = absurd (both_ways false refl e)
 
-small_is : (size : ℕ) (a : Awaited) (tag : List ℕ) → is_data (Behind tag size a) ≡ true → too_large size a ≡ false → size ≤ APPEND_MAX
+small_is : (size : ℕ) (a : Awaited) (tag : List ℕ) → is_data (AfterLiteral tag size a) ≡ true → too_large size a ≡ false → size ≤ APPEND_MAX
 small_is size (awaited.AppendData mailbox flags date in_utf8) tag given e = by (cases_lt APPEND_MAX size)
   where
     by : (APPEND_MAX < size) ⊎ (size ≤ APPEND_MAX) → size ≤ APPEND_MAX
@@ -211,8 +211,8 @@ module _ (utf8 : Bool) (reader : Reader) (seen : List ℕ) (s : IsAtLine utf8 re
   pub turned : (line : List ℕ) → line ≡ reader.line → (t : Turn)
       → ((front : List ℕ) → Leaves (IsCommand utf8) front (left_of utf8 reader.stage) [] → Reached utf8 reader.stage front → HasNoDataBefore utf8 front → length reader.literal ≡ size_of reader.stage → IsWholeLine line → TurnTells utf8 (front ++ (reader.literal ++ line)) t)
       → TurnTells utf8 seen t
-  turned line same t tells =
-      subst (λ z. TurnTells utf8 z t) (ap (λ z. s.front ++ (reader.literal ++ z)) same ∙ sym s.whole) (tells s.front s.leaves s.reached s.alone s.sized (subst IsWholeLine (sym same) s.is_line))
+  turned line same t observed =
+      subst (λ z. TurnTells utf8 z t) (ap (λ z. s.front ++ (reader.literal ++ z)) same ∙ sym s.whole) (observed s.front s.leaves s.reached s.alone s.sized (subst IsWholeLine (sym same) s.is_line))
 
   -- the line ends here
   pub is_end : EndsCommandLine seen
@@ -257,54 +257,54 @@ module _ (utf8 : Bool) (reader : Reader) (seen : List ℕ) (s : IsAtLine utf8 re
   is_short either = (count_of reader.stage s.front body, subst (λ z. Counts utf8 z (count_of reader.stage s.front body)) (sym s.whole) (whole_counts either), few)
 
   pub due_command : (tag : List ℕ) (c : Command) → TurnTells utf8 seen (turn.Whole tag c) → IsDue utf8 seen (event.Command tag c)
-  due_command tag c tells = (is_short (inr tells.1), tells.0)
+  due_command tag c observed = (is_short (inr observed.1), observed.0)
 
   pub due_bad : (tag : Option (List ℕ)) (left at : ℕ) → at ≡ length seen - left → TurnTells utf8 seen (turn.Bad tag left) → IsDue utf8 seen (event.Bad tag at)
-  due_bad tag left at e tells =
-      (is_short (inr (λ a is. tells.1.bad (viable_front (IsCommand utf8) seen (length seen - left + 1) (appending_viable utf8 seen a is)))), is_end, subst (λ z. IsFirstBad (IsCommand utf8) seen z) (sym e) tells.1, tells.2)
+  due_bad tag left at e observed =
+      (is_short (inr (λ a is. observed.1.bad (viable_front (IsCommand utf8) seen (length seen - left + 1) (appending_viable utf8 seen a is)))), is_end, subst (λ z. IsFirstBad (IsCommand utf8) seen z) (sym e) observed.1, observed.2)
 
-  module _ (tag : List ℕ) (size : ℕ) (a : Awaited) (tells : TurnTells utf8 seen (turn.Awaits tag size a)) where
+  module _ (tag : List ℕ) (size : ℕ) (a : Awaited) (observed : TurnTells utf8 seen (turn.Awaits tag size a)) where
     appending_or_not : ((b : Appends) × IsAppending utf8 seen b) ⊎ ((b : Appends) → IsAppending utf8 seen b → ⊥)
-    appending_or_not = by (at_stage utf8 (Behind tag size a) seen tells.1)
+    appending_or_not = by (at_stage utf8 (AfterLiteral tag size a) seen observed.1)
       where
-        by : AtStage utf8 (Behind tag size a) seen → ((b : Appends) × IsAppending utf8 seen b) ⊎ ((b : Appends) → IsAppending utf8 seen b → ⊥)
+        by : AtStage utf8 (AfterLiteral tag size a) seen → ((b : Appends) × IsAppending utf8 seen b) ⊎ ((b : Appends) → IsAppending utf8 seen b → ⊥)
         by (IsData given b is same) = inl (b, is)
         by (NoData lacks none) = inr none
 
     -- the literal is too large
     pub due_large : too_large size a ≡ true → IsDue utf8 seen (event.TooLarge tag)
-    due_large large = (is_short appending_or_not, by (at_stage utf8 (Behind tag size a) seen tells.1))
+    due_large large = (is_short appending_or_not, by (at_stage utf8 (AfterLiteral tag size a) seen observed.1))
       where
-        by : AtStage utf8 (Behind tag size a) seen → IsTooLarge utf8 seen tag
-        by (IsData given b is same) = (b, is, same_tag seen tag b.tag tells.1.2 (appending_tag utf8 seen b is), omega (arith, large_is size a large, same))
-        by (NoData lacks none) = absurd (both_ways (is_data (Behind tag size a)) lacks (large_data tag size a large))
+        by : AtStage utf8 (AfterLiteral tag size a) seen → IsTooLarge utf8 seen tag
+        by (IsData given b is same) = (b, is, same_tag seen tag b.tag observed.1.2 (appending_tag utf8 seen b is), omega (arith, large_is size a large, same))
+        by (NoData lacks none) = absurd (both_ways (is_data (AfterLiteral tag size a)) lacks (large_data tag size a large))
 
     pub due_go : too_large size a ≡ false → IsDue utf8 seen event.Go
     due_go small = (
       is_short appending_or_not,
       record {
         ends = is_end;
-        viable = front_viable utf8 tag size a seen tells.0 tells.1.1;
-        no_command = λ c is. no_command_yet utf8 tag size a seen tells.0 tells.1.1 seen [] c is (append-nil seen);
-        not_large = λ other is. not_large (at_stage utf8 (Behind tag size a) seen tells.1) other is;
+        viable = front_viable utf8 tag size a seen observed.0 observed.1.1;
+        no_command = λ c is. no_command_yet utf8 tag size a seen observed.0 observed.1.1 seen [] c is (append-nil seen);
+        not_large = λ other is. not_large (at_stage utf8 (AfterLiteral tag size a) seen observed.1) other is;
       },
     )
       where
-        not_large : AtStage utf8 (Behind tag size a) seen → (other : List ℕ) → IsTooLarge utf8 seen other → ⊥
+        not_large : AtStage utf8 (AfterLiteral tag size a) seen → (other : List ℕ) → IsTooLarge utf8 seen other → ⊥
         not_large (IsData given b is same) other large =
-            let sizes : size ≡ large.0.front.announced.size = announces_once seen size large.0.front.announced.size tells.1.0 (appending_announces utf8 seen large.0 large.1) in
+            let sizes : size ≡ large.0.front.announced.size = announces_once seen size large.0.front.announced.size observed.1.0 (appending_announces utf8 seen large.0 large.1) in
             omega (arith, sizes, large.3, small_is size a tag given small)
         not_large (NoData lacks none) other large = none large.0 large.1
 
     -- the reader stands behind the header
-    pub stands_go : too_large size a ≡ false → (after : Reader) → after.stage ≡ Behind tag size a → after.literal ≡ [] → after.line ≡ [] → after.seen ≡ length seen → after.counted ≡ reader.counted → HasSeen utf8 after seen
+    pub stands_go : too_large size a ≡ false → (after : Reader) → after.stage ≡ AfterLiteral tag size a → after.literal ≡ [] → after.line ≡ [] → after.seen ≡ length seen → after.counted ≡ reader.counted → HasSeen utf8 after seen
     stands_go small after stage literal line place counted = record {
       front = seen;
       whole = sym (ap (λ z. seen ++ (z ++ after.line)) literal ∙ (ap (λ z. seen ++ z) line ∙ append-nil seen));
       so_many = sym place;
-      leaves = subst (λ z. Leaves (IsCommand utf8) seen (left_of utf8 z) []) (sym stage) tells.0;
-      reached = subst (λ z. Reached utf8 z seen) (sym stage) tells.1;
-      alone = tells.2;
+      leaves = subst (λ z. Leaves (IsCommand utf8) seen (left_of utf8 z) []) (sym stage) observed.0;
+      reached = subst (λ z. Reached utf8 z seen) (sym stage) observed.1;
+      alone = observed.2;
       bounded = λ given. subst (λ z. size_of z ≤ APPEND_MAX) (sym stage) (small_is size a tag (sym (ap is_data stage) ∙ given) small);
       fits = subst (λ z. FitsStage z after.literal after.line) (sym stage) (omega (arith, ap length literal), inr line);
       no_line = ap (λ z. first_line z) line ∙ none_here;
@@ -320,5 +320,5 @@ module _ (utf8 : Bool) (reader : Reader) (seen : List ℕ) (s : IsAtLine utf8 re
         some_body e = line_some reader.line s.is_line (right_empty reader.literal reader.line e)
 
         all : AtStage utf8 reader.stage s.front → count_of reader.stage s.front body ≡ length seen
-        all (IsData given b is same) = absurd (some_body (tells.2 s.front body b s.whole is))
+        all (IsData given b is same) = absurd (some_body (observed.2 s.front body b s.whole is))
         all (NoData lacks none) = sym (if_false (is_data reader.stage) (length s.front + length (drop (size_of reader.stage) body)) (length s.front + length body) lacks) ∙ (sym (length-append s.front body) ∙ sym (ap length s.whole))

@@ -140,14 +140,14 @@ uid_names =
     ∷ record { word = codes "SEARCH"; says = uid.NotHere } ∷ []
 
 -- What follows the word behind UID: a FETCH or a STORE by unique identifiers, or a command that isn't here (RFC 3501, 6.4.8).
-abbrev pub IsBehindUid : Bool → UidName → List ℕ → Command → Type 0
-IsBehindUid utf8 uid.Fetch = IsFetch utf8 true
-IsBehindUid utf8 uid.Store = IsStore true
-IsBehindUid utf8 uid.NotHere = IsNotHere
+abbrev pub IsAfterUid : Bool → UidName → List ℕ → Command → Type 0
+IsAfterUid utf8 uid.Fetch = IsFetch utf8 true
+IsAfterUid utf8 uid.Store = IsStore true
+IsAfterUid utf8 uid.NotHere = IsNotHere
 
 -- What follows UID: a space, FETCH, STORE, COPY or SEARCH, and the words of that (RFC 3501, 6.4.8).
 abbrev pub IsUid : Bool → List ℕ → Command → Type 0
-IsUid utf8 = After IsSpace (Then (IsWordOf uid_names) (IsBehindUid utf8))
+IsUid utf8 = After IsSpace (Then (IsWordOf uid_names) (IsAfterUid utf8))
 
 -- ---- all commands
 
@@ -169,25 +169,25 @@ command_names =
     ∷ record { word = codes "LSUB"; says = name.NotHere } ∷ record { word = codes "SEARCH"; says = name.NotHere } ∷ []
 
 -- what follows a command's name, to the CRLF that ends it
-abbrev pub IsBehindName : Bool → Name → List ℕ → Command → Type 0
-IsBehindName utf8 name.Capability = IsBareCommand command.Capability
-IsBehindName utf8 name.Noop = IsBareCommand command.Noop
-IsBehindName utf8 name.Check = IsBareCommand command.Check
-IsBehindName utf8 name.Logout = IsBareCommand command.Logout
-IsBehindName utf8 name.Login = IsLoginCommand utf8
-IsBehindName utf8 name.Enable = IsEnable
-IsBehindName utf8 name.Select = IsNaming utf8 command.Select
-IsBehindName utf8 name.Examine = IsNaming utf8 command.Examine
-IsBehindName utf8 name.Create = IsNaming utf8 command.Create
-IsBehindName utf8 name.List = IsListing utf8
-IsBehindName utf8 name.Status = IsStatus utf8
-IsBehindName utf8 name.Append = IsAppend utf8
-IsBehindName utf8 name.Fetch = IsFetch utf8 false
-IsBehindName utf8 name.Store = IsStore false
-IsBehindName utf8 name.Uid = IsUid utf8
-IsBehindName utf8 name.Expunge = IsBareCommand command.Expunge
-IsBehindName utf8 name.Close = IsBareCommand command.Close
-IsBehindName utf8 name.NotHere = IsNotHere
+abbrev pub IsAfterName : Bool → Name → List ℕ → Command → Type 0
+IsAfterName utf8 name.Capability = IsBareCommand command.Capability
+IsAfterName utf8 name.Noop = IsBareCommand command.Noop
+IsAfterName utf8 name.Check = IsBareCommand command.Check
+IsAfterName utf8 name.Logout = IsBareCommand command.Logout
+IsAfterName utf8 name.Login = IsLoginCommand utf8
+IsAfterName utf8 name.Enable = IsEnable
+IsAfterName utf8 name.Select = IsNaming utf8 command.Select
+IsAfterName utf8 name.Examine = IsNaming utf8 command.Examine
+IsAfterName utf8 name.Create = IsNaming utf8 command.Create
+IsAfterName utf8 name.List = IsListing utf8
+IsAfterName utf8 name.Status = IsStatus utf8
+IsAfterName utf8 name.Append = IsAppend utf8
+IsAfterName utf8 name.Fetch = IsFetch utf8 false
+IsAfterName utf8 name.Store = IsStore false
+IsAfterName utf8 name.Uid = IsUid utf8
+IsAfterName utf8 name.Expunge = IsBareCommand command.Expunge
+IsAfterName utf8 name.Close = IsBareCommand command.Close
+IsAfterName utf8 name.NotHere = IsNotHere
 
 -- a command with its tag
 pub record Tagged : Type 0 where
@@ -196,4 +196,4 @@ pub record Tagged : Type 0 where
 
 -- command = tag SP (command-any / command-auth / command-nonauth / command-select) CRLF
 abbrev pub IsCommand : Bool → List ℕ → Tagged → Type 0
-IsCommand utf8 = Then IsTag (λ tag. After IsSpace (Then (IsWordOf command_names) (λ n. Then (IsBehindName utf8 n) (λ c. Is (record { tag = tag; command = c })))))
+IsCommand utf8 = Then IsTag (λ tag. After IsSpace (Then (IsWordOf command_names) (λ n. Then (IsAfterName utf8 n) (λ c. Is (record { tag = tag; command = c })))))

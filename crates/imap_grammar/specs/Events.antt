@@ -1,6 +1,7 @@
 -- What is due at the octets of a command that came so far, and what a reader tells of a piece (RFC 3501, 2.2, 4.3, 6.3.11 and 7.5).
 use Rattle.std.specs.Prelude.{◌≡◌, ℕ, ◌+◌, ◌<◌, ◌≤◌, Bool, List, [], ◌∷◌, ◌++◌, length, take, ◌⊎◌, Option, None, Some, codes}
 use Rattle.std.specs.List.{All, flat_map}
+use Rattle.mail_wire.specs.Characters.{space}
 use Rattle.mail_wire.specs.Lines.{first_line}
 use Rattle.mail_wire.specs.declared.framing.TheConstants.{LINE_MAX}
 use Rattle.imap_words.specs.Languages.{Then, After, Is, IsViable}
@@ -68,7 +69,7 @@ pub record IsFirstBad {V : Type 0} (P : List ℕ → V → Type 0) (octets : Lis
 -- a tag and a space, and whatever follows
 pub record BeginsWithTag (octets tag : List ℕ) : Type 0 where
   pub rest : List ℕ
-  pub whole : octets ≡ tag ++ 32 ∷ rest
+  pub whole : octets ≡ tag ++ space ∷ rest
   pub is_tag : IsTag tag tag
 
 -- The octets begin with this tag and a space, or with no tag where none is given.

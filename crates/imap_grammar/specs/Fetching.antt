@@ -1,5 +1,6 @@
 -- What FETCH asks (RFC 3501, 6.4.5 and 9).
 use Rattle.std.specs.Prelude.{ℕ, Bool, true, false, ◌||◌, ◌==◌, List, [], ◌∷◌, ◌++◌, codes}
+use Rattle.mail_wire.specs.Characters.{dot, less_than, greater_than, left_bracket, right_bracket}
 use Rattle.imap_words.specs.Languages.{Then, After, Or, Is, IsOctet, IsList, Maybe}
 use Rattle.imap_words.specs.Tokens.{IsNumber32, IsNonZero, IsSpace, IsOpenParenthesis, IsCloseParenthesis}
 use Rattle.imap_words.specs.Keywords.{Named, IsWordOf}
@@ -31,20 +32,20 @@ text_words false = msgtext_words
 text_words true = msgtext_words ++ record { word = codes "MIME"; says = section.Mime } ∷ []
 
 -- what follows the word
-abbrev pub IsBehindWord : Bool → SectionWord → List ℕ → SectionPart → Type 0
-IsBehindWord utf8 section.Header = Is part.Header
-IsBehindWord utf8 section.Fields = After IsSpace (Then (IsHeaderList utf8) (λ names. Is (part.Fields names false)))
-IsBehindWord utf8 section.FieldsNot = After IsSpace (Then (IsHeaderList utf8) (λ names. Is (part.Fields names true)))
-IsBehindWord utf8 section.Text = Is part.Text
-IsBehindWord utf8 section.Mime = Is part.Mime
+abbrev pub IsAfterWord : Bool → SectionWord → List ℕ → SectionPart → Type 0
+IsAfterWord utf8 section.Header = Is part.Header
+IsAfterWord utf8 section.Fields = After IsSpace (Then (IsHeaderList utf8) (λ names. Is (part.Fields names false)))
+IsAfterWord utf8 section.FieldsNot = After IsSpace (Then (IsHeaderList utf8) (λ names. Is (part.Fields names true)))
+IsAfterWord utf8 section.Text = Is part.Text
+IsAfterWord utf8 section.Mime = Is part.Mime
 
 -- section-msgtext = "HEADER" / "HEADER.FIELDS" [".NOT"] SP header-list / "TEXT"
 abbrev pub IsSectionMsgtext : Bool → List ℕ → SectionPart → Type 0
-IsSectionMsgtext utf8 = Then (IsWordOf (text_words false)) (IsBehindWord utf8)
+IsSectionMsgtext utf8 = Then (IsWordOf (text_words false)) (IsAfterWord utf8)
 
 -- section-text = section-msgtext / "MIME" (RFC 3501, 9).
 abbrev pub IsSectionText : Bool → List ℕ → SectionPart → Type 0
-IsSectionText utf8 = Then (IsWordOf (text_words true)) (IsBehindWord utf8)
+IsSectionText utf8 = Then (IsWordOf (text_words true)) (IsAfterWord utf8)
 
 -- nothing follows
 abbrev pub IsNothing : List ℕ → ℕ → Type 0
@@ -52,7 +53,7 @@ IsNothing = Is 0
 
 -- section-part = nz-number *("." nz-number) ; body part nesting
 abbrev pub IsSectionPart : List ℕ → List ℕ → Type 0
-IsSectionPart = IsList (IsOctet 46) IsNonZero IsNothing
+IsSectionPart = IsList (IsOctet dot) IsNonZero IsNothing
 
 -- what a section names
 pub record SectionName : Type 0 where
@@ -63,15 +64,16 @@ pub record SectionName : Type 0 where
 abbrev pub IsSectionSpec : Bool → List ℕ → SectionName → Type 0
 IsSectionSpec utf8 =
     Or (Then (IsSectionMsgtext utf8) (λ p. Is (record { path = []; part = p })))
-    (Then IsSectionPart (λ numbers. Or (Is (record { path = numbers; part = part.Whole })) (After (IsOctet 46) (Then (IsSectionText utf8) (λ p. Is (record { path = numbers; part = p }))))))
+    (Then IsSectionPart (λ numbers. Or (Is (record { path = numbers; part = part.Whole })) (After (IsOctet dot) (Then (IsSectionText utf8) (λ p. Is (record { path = numbers; part = p }))))))
 
 -- section = "[" [section-spec] "]"
 abbrev pub IsSection : Bool → List ℕ → SectionName → Type 0
-IsSection utf8 = After (IsOctet 91) (Then (Or (Is (record { path = []; part = part.Whole })) (IsSectionSpec utf8)) (λ s. After (IsOctet 93) (Is s)))
+IsSection utf8 =
+    After (IsOctet left_bracket) (Then (Or (Is (record { path = []; part = part.Whole })) (IsSectionSpec utf8)) (λ s. After (IsOctet right_bracket) (Is s)))
 
 -- "<" number "." nz-number ">"
 abbrev pub IsPartial : List ℕ → ℕ × ℕ → Type 0
-IsPartial = After (IsOctet 60) (Then IsNumber32 (λ from. After (IsOctet 46) (Then IsNonZero (λ most. After (IsOctet 62) (Is (from, most))))))
+IsPartial = After (IsOctet less_than) (Then IsNumber32 (λ from. After (IsOctet dot) (Then IsNonZero (λ most. After (IsOctet greater_than) (Is (from, most))))))
 
 -- ---- items
 
@@ -92,26 +94,26 @@ abbrev pub IsSectionItem : Bool → (peek : Bool) → List ℕ → FetchItem →
 IsSectionItem utf8 peek = Then (IsSection utf8) (λ s. Then (Maybe IsPartial) (λ partial. Is (item.Section peek s.path s.part partial)))
 
 -- what follows the word of an item
-abbrev pub IsBehindItem : Bool → ItemWord → List ℕ → FetchItem → Type 0
-IsBehindItem utf8 word.Flags = Is item.Flags
-IsBehindItem utf8 word.Uid = Is item.Uid
-IsBehindItem utf8 word.InternalDate = Is item.InternalDate
-IsBehindItem utf8 word.Size = Is item.Size
-IsBehindItem utf8 word.Rfc822 = Is item.Rfc822
-IsBehindItem utf8 word.Rfc822Header = Is item.Rfc822Header
-IsBehindItem utf8 word.Rfc822Text = Is item.Rfc822Text
-IsBehindItem utf8 word.Envelope = Is item.Envelope
-IsBehindItem utf8 word.BodyStructure = Is item.BodyStructure
-IsBehindItem utf8 word.Body = Or (Is item.Body) (IsSectionItem utf8 false)
-IsBehindItem utf8 word.BodyPeek = IsSectionItem utf8 true
-IsBehindItem utf8 word.All = λ octets value. ⊥
-IsBehindItem utf8 word.Fast = λ octets value. ⊥
-IsBehindItem utf8 word.Full = λ octets value. ⊥
+abbrev pub IsAfterItem : Bool → ItemWord → List ℕ → FetchItem → Type 0
+IsAfterItem utf8 word.Flags = Is item.Flags
+IsAfterItem utf8 word.Uid = Is item.Uid
+IsAfterItem utf8 word.InternalDate = Is item.InternalDate
+IsAfterItem utf8 word.Size = Is item.Size
+IsAfterItem utf8 word.Rfc822 = Is item.Rfc822
+IsAfterItem utf8 word.Rfc822Header = Is item.Rfc822Header
+IsAfterItem utf8 word.Rfc822Text = Is item.Rfc822Text
+IsAfterItem utf8 word.Envelope = Is item.Envelope
+IsAfterItem utf8 word.BodyStructure = Is item.BodyStructure
+IsAfterItem utf8 word.Body = Or (Is item.Body) (IsSectionItem utf8 false)
+IsAfterItem utf8 word.BodyPeek = IsSectionItem utf8 true
+IsAfterItem utf8 word.All = λ octets value. ⊥
+IsAfterItem utf8 word.Fast = λ octets value. ⊥
+IsAfterItem utf8 word.Full = λ octets value. ⊥
 
 -- fetch-att = "ENVELOPE" / "FLAGS" / "INTERNALDATE" / "RFC822" [".HEADER" / ".SIZE" / ".TEXT"] / "BODY" ["STRUCTURE"] / "UID" /
 --   "BODY" section ["<" number "." nz-number ">"] / "BODY.PEEK" section ["<" number "." nz-number ">"]
 abbrev pub IsFetchAtt : Bool → List ℕ → FetchItem → Type 0
-IsFetchAtt utf8 = Then (IsWordOf item_words) (IsBehindItem utf8)
+IsFetchAtt utf8 = Then (IsWordOf item_words) (IsAfterItem utf8)
 
 -- what a macro stands for (RFC 3501, 6.4.5)
 abbrev pub fast_items : List FetchItem
@@ -134,13 +136,13 @@ IsFetchItems utf8 =
 -- ---- what may go on behind a word, as a longer one begins with it
 
 -- The octet goes on to a longer item word: a dot behind RFC822 and BODY, and an S behind BODY (RFC 3501, 6.4.5).
-abbrev pub behind_item_word : ItemWord → ℕ → Bool
-behind_item_word word.Rfc822 x = x == 46
-behind_item_word word.Body x = x == 46 || x == 83 || x == 115
-behind_item_word w x = false
+abbrev pub after_item_word : ItemWord → ℕ → Bool
+after_item_word word.Rfc822 x = x == dot
+after_item_word word.Body x = x == dot || x == 83 || x == 115
+after_item_word w x = false
 
 -- The octet goes on to a longer section word: a dot behind HEADER and HEADER.FIELDS (RFC 3501, 6.4.5).
-abbrev pub behind_section_word : SectionWord → ℕ → Bool
-behind_section_word section.Header x = x == 46
-behind_section_word section.Fields x = x == 46
-behind_section_word w x = false
+abbrev pub after_section_word : SectionWord → ℕ → Bool
+after_section_word section.Header x = x == dot
+after_section_word section.Fields x = x == dot
+after_section_word w x = false

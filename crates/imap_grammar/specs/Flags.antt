@@ -1,6 +1,7 @@
 -- Flags (RFC 3501, 2.3.2 and 9).
 use Rattle.std.specs.Prelude.{◌≡◌, ℕ, ◌+◌, Bool, true, false, List, [], ◌∷◌, ◌==◌, codes, if◌then◌else◌}
 use Rattle.std.specs.List.{list_any}
+use Rattle.mail_wire.specs.Characters.{space, dot, backslash}
 use Rattle.mail_wire.specs.Octets.{same_name}
 use Rattle.imap_words.specs.Languages.{Then, After, Or, Is, IsOctet, SaysItself, IsList}
 use Rattle.imap_words.specs.Tokens.{IsImapAtom, IsSpace, IsOpenParenthesis, IsCloseParenthesis, IsCrlf, is_atom_char}
@@ -12,7 +13,7 @@ use Rattle.imap_grammar.specs.declared.command.StoreOp.TheVariants.{Replace, Add
 -- flag = "\Answered" / "\Flagged" / "\Deleted" / "\Seen" / "\Draft" / flag-keyword / flag-extension
 -- flag-extension = "\" atom; flag-keyword = atom
 abbrev pub IsFlag : List ℕ → List ℕ → Type 0
-IsFlag = Or IsImapAtom (SaysItself (After (IsOctet 92) IsImapAtom))
+IsFlag = Or IsImapAtom (SaysItself (After (IsOctet backslash) IsImapAtom))
 
 -- the bit, where one of the flags is named so
 abbrev pub bit_of : ℕ → List ℕ → List (List ℕ) → ℕ
@@ -50,7 +51,7 @@ HasFlags P = Then P (λ flags. Is (flags_of flags))
 
 -- the octet goes on neither a flag nor a list of them
 abbrev pub EndsFlags : ℕ → Type 0
-EndsFlags close = (is_atom_char close ≡ false) × (close ≡ 32 → ⊥)
+EndsFlags close = (is_atom_char close ≡ false) × (close ≡ space → ⊥)
 
 -- which flags are named
 pub record IsBits (flags : List (List ℕ)) (bits : Bits) : Type 0 where
@@ -61,5 +62,5 @@ pub record IsBits (flags : List (List ℕ)) (bits : Bits) : Type 0 where
   pub is_draft : bits.draft ≡ list_any (same_name (codes "\\Draft")) flags
 
 -- what may go on behind the word: `.SILENT`
-abbrev pub behind_storing : StoreOp × Bool → ℕ → Bool
-behind_storing storing x = x == 46
+abbrev pub after_storing : StoreOp × Bool → ℕ → Bool
+after_storing storing x = x == dot

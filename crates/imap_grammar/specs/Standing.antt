@@ -24,13 +24,13 @@ use Rattle.imap_grammar.specs.declared.event.Event.TheVariants as event
 use Rattle.imap_grammar.specs.declared.reader.Found.{Found}
 use Rattle.imap_grammar.specs.declared.reader.Found.TheVariants as found
 use Rattle.imap_grammar.specs.declared.reader.Stage.{Stage}
-use Rattle.imap_grammar.specs.declared.reader.Stage.TheVariants.{Begin, Behind}
+use Rattle.imap_grammar.specs.declared.reader.Stage.TheVariants.{Begin, AfterLiteral}
 use Rattle.imap_grammar.specs.declared.reader.Reader.{Reader}
 
 -- what is left of a command
 abbrev pub left_of : Bool → Stage → List ℕ → Tagged → Type 0
 left_of utf8 Begin = IsCommand utf8
-left_of utf8 (Behind tag size a) = Then (IsRestAtLiteral utf8 size a) (λ c. Is (record { tag = tag; command = c }))
+left_of utf8 (AfterLiteral tag size a) = Then (IsRestAtLiteral utf8 size a) (λ c. Is (record { tag = tag; command = c }))
 
 -- Data are awaited behind an APPEND up to its data, and nowhere else.
 abbrev pub IsAtData : Bool → Awaited → List ℕ → Type 0
@@ -40,7 +40,7 @@ IsAtData utf8 a front = (appends : Appends) → IsAppending utf8 front appends �
 -- The octets have reached the stage.
 abbrev pub Reached : Bool → Stage → List ℕ → Type 0
 Reached utf8 Begin front = front ≡ []
-Reached utf8 (Behind tag size a) front = Announces front size × IsSized size a × BeginsWithTag front tag × IsAtData utf8 a front
+Reached utf8 (AfterLiteral tag size a) front = Announces front size × IsSized size a × BeginsWithTag front tag × IsAtData utf8 a front
 
 -- no data come before
 abbrev pub HasNoDataBefore : Bool → List ℕ → Type 0
@@ -49,16 +49,16 @@ HasNoDataBefore utf8 front = (head back : List ℕ) (appends : Appends) → fron
 -- no more octets of the literal than it has, and none of a line before it is whole
 abbrev pub FitsStage : Stage → (literal line : List ℕ) → Type 0
 FitsStage Begin literal line = literal ≡ []
-FitsStage (Behind tag size a) literal line = (length literal ≤ size) × ((length literal ≡ size) ⊎ (line ≡ []))
+FitsStage (AfterLiteral tag size a) literal line = (length literal ≤ size) × ((length literal ≡ size) ⊎ (line ≡ []))
 
 -- how many octets the literal has
 abbrev pub size_of : Stage → ℕ
 size_of Begin = 0
-size_of (Behind tag size a) = size
+size_of (AfterLiteral tag size a) = size
 
 -- The literal that is awaited is the data of an APPEND.
 abbrev pub is_data : Stage → Bool
-is_data (Behind tag size (awaited.AppendData mailbox flags date in_utf8)) = true
+is_data (AfterLiteral tag size (awaited.AppendData mailbox flags date in_utf8)) = true
 is_data stage = false
 
 -- APPEND announced more octets than a message may have
@@ -93,7 +93,7 @@ pub record HasSeen (utf8 : Bool) (reader : Reader) (seen : List ℕ) : Type 0 wh
 -- the command is whole, or so far that a literal is awaited
 abbrev pub TaggedComes : Bool → List ℕ → (List ℕ → Tagged → Type 0) → List ℕ → Next → List ℕ → Type 0
 TaggedComes utf8 tag P text (next.Whole c) rest = Reads P never text (record { tag = tag; command = c }) rest
-TaggedComes utf8 tag P text (next.Awaits size a) rest = IsSized size a × Leaves P text (left_of utf8 (Behind tag size a)) rest
+TaggedComes utf8 tag P text (next.Awaits size a) rest = IsSized size a × Leaves P text (left_of utf8 (AfterLiteral tag size a)) rest
 
 -- a literal that is awaited was announced at the end of these octets
 abbrev pub HasHeader : List ℕ → Next → List ℕ → Type 0
@@ -107,7 +107,7 @@ LineComes utf8 line next = (tag : List ℕ) × (rest : List ℕ) × BeginsWithTa
 -- what comes of these octets of a command, which end a line
 abbrev pub TurnTells : Bool → List ℕ → Turn → Type 0
 TurnTells utf8 octets (turn.Whole tag c) = IsCommand utf8 octets (record { tag = tag; command = c }) × ((appends : Appends) → IsAppending utf8 octets appends → ⊥)
-TurnTells utf8 octets (turn.Awaits tag size a) = Leaves (IsCommand utf8) octets (left_of utf8 (Behind tag size a)) [] × Reached utf8 (Behind tag size a) octets × HasNoDataBefore utf8 octets
+TurnTells utf8 octets (turn.Awaits tag size a) = Leaves (IsCommand utf8) octets (left_of utf8 (AfterLiteral tag size a)) [] × Reached utf8 (AfterLiteral tag size a) octets × HasNoDataBefore utf8 octets
 TurnTells utf8 octets (turn.Bad tag left) = (left ≤ length octets) × IsFirstBad (IsCommand utf8) octets (length octets - left) × HasTag octets tag
 
 -- What a line brings behind this tag: a whole command, or a wait for a literal.

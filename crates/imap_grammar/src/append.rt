@@ -7,7 +7,7 @@ ghost use Rattle.imap_words.specs.declared.stop.Stop.TheVariants.{More};
 ghost use Rattle.imap_words.specs.Languages.{After, Is};
 ghost use Rattle.imap_words.specs.Reading.{Reads, StopsReading, always, never};
 ghost use Rattle.imap_grammar.specs.Commands.{at_octet, IsAppend, IsDataFront, IsDataEnd, IsFlagBits, IsDateAndSpace};
-ghost use Rattle.imap_grammar.specs.Awaiting.{Comes, IsBehindAppendName, announced_of};
+ghost use Rattle.imap_grammar.specs.Awaiting.{Comes, IsAfterAppendName, announced_of};
 
 use crate::awaited::{Awaited, Next};
 use crate::command::Command;
@@ -30,10 +30,10 @@ fn data_front(text: &[u8]) -> Result<((bool, u32), &[u8]), Stop>
         let (size, rest) = header(text)?;
         return Ok(((false, size), rest));
     }
-    let (_, behind_word) = utf8_word(text)?;
-    let behind_space = octet(b' ', behind_word)?;
-    let behind_open = octet(b'(', behind_space)?;
-    let (size, rest) = header8(behind_open)?;
+    let (_, after_word) = utf8_word(text)?;
+    let after_space = octet(b' ', after_word)?;
+    let after_open = octet(b'(', after_space)?;
+    let (size, rest) = header8(after_open)?;
     Ok(((true, size), rest))
 }
 
@@ -47,8 +47,8 @@ fn maybe_flags(text: &[u8]) -> Result<(u8, &[u8]), Stop>
     if *first != b'(' {
         return Ok((0, text));
     }
-    let (flags, behind_flags) = flag_list(text)?;
-    let rest = octet(b' ', behind_flags)?;
+    let (flags, after_flags) = flag_list(text)?;
+    let rest = octet(b' ', after_flags)?;
     Ok((flags, rest))
 }
 
@@ -62,22 +62,22 @@ fn maybe_date(alloc: Global, text: &[u8]) -> Result<(Option<Octets>, &[u8]), Sto
     if *first != b'"' {
         return Ok((None, text));
     }
-    let (date, behind_date) = date_time(text)?;
-    let rest = octet(b' ', behind_date)?;
+    let (date, after_date) = date_time(text)?;
+    let rest = octet(b' ', after_date)?;
     let Ok(date) = Octets::from_slice(alloc, date) else {
         return Err(Stop::Memory);
     };
     Ok((Some(date), rest))
 }
 
-pub fn behind_append_name(alloc: Global, name: Octets, text: &[u8]) -> Result<(Next, &[u8]), Stop>
+pub fn after_append_name(alloc: Global, name: Octets, text: &[u8]) -> Result<(Next, &[u8]), Stop>
     ensures more { result ≡ Err More → first_line text.now ≡ None }
-    ensures reads { MatchResult result (λ x. (utf8 : Bool) → Comes utf8 (IsBehindAppendName name) text.now x.0 x.1.now) (λ stop. StopsReading (IsBehindAppendName name) never text.now stop) }
+    ensures reads { MatchResult result (λ x. (utf8 : Bool) → Comes utf8 (IsAfterAppendName name) text.now x.0 x.1.now) (λ stop. StopsReading (IsAfterAppendName name) never text.now stop) }
 {
-    let behind_space = octet(b' ', text)?;
-    let (flags, behind_flags) = maybe_flags(behind_space)?;
-    let (date, behind_date) = maybe_date(alloc, behind_flags)?;
-    let ((utf8, size), rest) = data_front(behind_date)?;
+    let after_space = octet(b' ', text)?;
+    let (flags, after_flags) = maybe_flags(after_space)?;
+    let (date, after_date) = maybe_date(alloc, after_flags)?;
+    let ((utf8, size), rest) = data_front(after_date)?;
     let awaited = Awaited::AppendData {
         name,
         flags,
@@ -91,16 +91,16 @@ pub fn append(alloc: Global, utf8: bool, text: &[u8]) -> Result<(Next, &[u8]), S
     ensures more { result ≡ Err More → first_line text.now ≡ None }
     ensures reads { MatchResult result (λ x. Comes utf8 (IsAppend utf8) text.now x.0 x.1.now) (λ stop. StopsReading (IsAppend utf8) never text.now stop) }
 {
-    let behind_space = octet(b' ', text)?;
-    let (head, rest) = string_head(alloc, utf8, Kind::Astring, behind_space)?;
+    let after_space = octet(b' ', text)?;
+    let (head, rest) = string_head(alloc, utf8, Kind::Astring, after_space)?;
     match head {
-        Head::Whole(name) => behind_append_name(alloc, name, rest),
+        Head::Whole(name) => after_append_name(alloc, name, rest),
         Head::Literal(size) => Ok((Next::Awaits(size, Awaited::AppendName), rest)),
     }
 }
 
 // Reads what follows the data, with which this command is whole. In the form with `UTF8` they stand in parentheses.
-pub fn behind_data(in_utf8: bool, command: Command, text: &[u8]) -> Result<(Next, &[u8]), Stop>
+pub fn after_data(in_utf8: bool, command: Command, text: &[u8]) -> Result<(Next, &[u8]), Stop>
     ensures more { result ≡ Err More → first_line text.now ≡ None }
     ensures reads { MatchResult result (λ x. (utf8 : Bool) → Comes utf8 (After (IsDataEnd in_utf8) (Is command)) text.now x.0 x.1.now) (λ stop. StopsReading (After (IsDataEnd in_utf8) (Is command)) never text.now stop) }
 {

@@ -5,8 +5,8 @@ ghost use Rattle.std.specs.Prelude.{◌≡◌, ◌≤◌, ℕ, Bool, true, false
 ghost use Rattle.imap_words.specs.declared.stop.Stop.TheVariants.{More};
 ghost use Rattle.mail_wire.specs.Lines.{first_line};
 ghost use Rattle.imap_words.specs.Reading.{Reads, StopsReading, never};
-ghost use Rattle.imap_grammar.specs.Commands.{IsBareCommand, IsLoginCommand, IsAtoms, IsEnable, IsNaming, IsListing, IsStatusItems, IsStatus, IsStore, IsNotHere, IsUid, IsBehindName};
-ghost use Rattle.imap_grammar.specs.Awaiting.{Comes, named, IsBehindUser, IsBehindReference, IsBehindStatusName};
+ghost use Rattle.imap_grammar.specs.Commands.{IsBareCommand, IsLoginCommand, IsAtoms, IsEnable, IsNaming, IsListing, IsStatusItems, IsStatus, IsStore, IsNotHere, IsUid, IsAfterName};
+ghost use Rattle.imap_grammar.specs.Awaiting.{Comes, named, IsAfterUser, IsAfterReference, IsAfterStatusName};
 
 use crate::append::append;
 use crate::awaited::{Awaited, Naming, Next};
@@ -30,17 +30,17 @@ pub fn bare(command: Command, text: &[u8]) -> Result<(Next, &[u8]), Stop>
 
 // ---- LOGIN
 
-pub fn behind_user(
+pub fn after_user(
     alloc: Global,
     utf8: bool,
     name: Octets,
     text: &[u8],
 ) -> Result<(Next, &[u8]), Stop>
     ensures more { result ≡ Err More → first_line text.now ≡ None }
-    ensures reads { MatchResult result (λ x. Comes utf8 (IsBehindUser utf8 name) text.now x.0 x.1.now) (λ stop. StopsReading (IsBehindUser utf8 name) never text.now stop) }
+    ensures reads { MatchResult result (λ x. Comes utf8 (IsAfterUser utf8 name) text.now x.0 x.1.now) (λ stop. StopsReading (IsAfterUser utf8 name) never text.now stop) }
 {
-    let behind_space = octet(b' ', text)?;
-    let (head, rest) = string_head(alloc, utf8, Kind::Astring, behind_space)?;
+    let after_space = octet(b' ', text)?;
+    let (head, rest) = string_head(alloc, utf8, Kind::Astring, after_space)?;
     match head {
         Head::Whole(password) => bare(Command::Login { name, password }, rest),
         Head::Literal(size) => Ok((Next::Awaits(size, Awaited::LoginPassword { name }), rest)),
@@ -51,10 +51,10 @@ fn login(alloc: Global, utf8: bool, text: &[u8]) -> Result<(Next, &[u8]), Stop>
     ensures more { result ≡ Err More → first_line text.now ≡ None }
     ensures reads { MatchResult result (λ x. Comes utf8 (IsLoginCommand utf8) text.now x.0 x.1.now) (λ stop. StopsReading (IsLoginCommand utf8) never text.now stop) }
 {
-    let behind_space = octet(b' ', text)?;
-    let (head, rest) = string_head(alloc, utf8, Kind::Astring, behind_space)?;
+    let after_space = octet(b' ', text)?;
+    let (head, rest) = string_head(alloc, utf8, Kind::Astring, after_space)?;
     match head {
-        Head::Whole(name) => behind_user(alloc, utf8, name, rest),
+        Head::Whole(name) => after_user(alloc, utf8, name, rest),
         Head::Literal(size) => Ok((Next::Awaits(size, Awaited::LoginName), rest)),
     }
 }
@@ -66,7 +66,7 @@ fn atoms(alloc: Global, text: &[u8]) -> Result<(Items<Octets>, &[u8]), Stop>
     ensures more { result ≡ Err More → first_line text.now ≡ None }
     ensures reads { MatchResult result (λ x. Reads IsAtoms never text.now x.0 x.1.now) (λ stop. StopsReading IsAtoms never text.now stop) }
 {
-    let (first, behind_first) = run(Kind::Atom, text)?;
+    let (first, after_first) = run(Kind::Atom, text)?;
     let Ok(first) = Octets::from_slice(alloc, first) else {
         return Err(Stop::Memory);
     };
@@ -74,20 +74,20 @@ fn atoms(alloc: Global, text: &[u8]) -> Result<(Items<Octets>, &[u8]), Stop>
     let Ok(()) = atoms.push(first) else {
         return Err(Stop::Memory);
     };
-    let mut rest = behind_first;
+    let mut rest = after_first;
     while let Some((separator, others)) = rest.split_first() {
         if *separator != b' ' {
-            let behind = line_end(rest)?;
-            return Ok((atoms, behind));
+            let following = line_end(rest)?;
+            return Ok((atoms, following));
         }
-        let (atom, behind) = run(Kind::Atom, others)?;
+        let (atom, following) = run(Kind::Atom, others)?;
         let Ok(atom) = Octets::from_slice(alloc, atom) else {
             return Err(Stop::Memory);
         };
         let Ok(()) = atoms.push(atom) else {
             return Err(Stop::Memory);
         };
-        rest = behind;
+        rest = following;
     }
     Err(Stop::More)
 }
@@ -96,8 +96,8 @@ fn enable(alloc: Global, text: &[u8]) -> Result<(Next, &[u8]), Stop>
     ensures more { result ≡ Err More → first_line text.now ≡ None }
     ensures reads { MatchResult result (λ x. (utf8 : Bool) → Comes utf8 IsEnable text.now x.0 x.1.now) (λ stop. StopsReading IsEnable never text.now stop) }
 {
-    let behind_space = octet(b' ', text)?;
-    let (words, rest) = atoms(alloc, behind_space)?;
+    let after_space = octet(b' ', text)?;
+    let (words, rest) = atoms(alloc, after_space)?;
     Ok((Next::Whole(Command::Enable { words }), rest))
 }
 
@@ -114,7 +114,7 @@ fn command_with(naming: Naming, name: Octets) -> Command
     }
 }
 
-pub fn behind_mailbox(naming: Naming, name: Octets, text: &[u8]) -> Result<(Next, &[u8]), Stop>
+pub fn after_mailbox(naming: Naming, name: Octets, text: &[u8]) -> Result<(Next, &[u8]), Stop>
     ensures more { result ≡ Err More → first_line text.now ≡ None }
     ensures reads { MatchResult result (λ x. (utf8 : Bool) → Comes utf8 (IsBareCommand (named naming name)) text.now x.0 x.1.now) (λ stop. StopsReading (IsBareCommand (named naming name)) never text.now stop) }
 {
@@ -130,27 +130,27 @@ fn with_mailbox(
     ensures more { result ≡ Err More → first_line text.now ≡ None }
     ensures reads { MatchResult result (λ x. Comes utf8 (IsNaming utf8 (named naming)) text.now x.0 x.1.now) (λ stop. StopsReading (IsNaming utf8 (named naming)) never text.now stop) }
 {
-    let behind_space = octet(b' ', text)?;
-    let (head, rest) = string_head(alloc, utf8, Kind::Astring, behind_space)?;
+    let after_space = octet(b' ', text)?;
+    let (head, rest) = string_head(alloc, utf8, Kind::Astring, after_space)?;
     match head {
-        Head::Whole(name) => behind_mailbox(naming, name, rest),
+        Head::Whole(name) => after_mailbox(naming, name, rest),
         Head::Literal(size) => Ok((Next::Awaits(size, Awaited::Mailbox(naming)), rest)),
     }
 }
 
 // ---- LIST
 
-pub fn behind_reference(
+pub fn after_reference(
     alloc: Global,
     utf8: bool,
     reference: Octets,
     text: &[u8],
 ) -> Result<(Next, &[u8]), Stop>
     ensures more { result ≡ Err More → first_line text.now ≡ None }
-    ensures reads { MatchResult result (λ x. Comes utf8 (IsBehindReference utf8 reference) text.now x.0 x.1.now) (λ stop. StopsReading (IsBehindReference utf8 reference) never text.now stop) }
+    ensures reads { MatchResult result (λ x. Comes utf8 (IsAfterReference utf8 reference) text.now x.0 x.1.now) (λ stop. StopsReading (IsAfterReference utf8 reference) never text.now stop) }
 {
-    let behind_space = octet(b' ', text)?;
-    let (head, rest) = string_head(alloc, utf8, Kind::ListMailbox, behind_space)?;
+    let after_space = octet(b' ', text)?;
+    let (head, rest) = string_head(alloc, utf8, Kind::ListMailbox, after_space)?;
     match head {
         Head::Whole(pattern) => bare(Command::List { reference, pattern }, rest),
         Head::Literal(size) => Ok((Next::Awaits(size, Awaited::ListPattern { reference }), rest)),
@@ -161,10 +161,10 @@ fn list(alloc: Global, utf8: bool, text: &[u8]) -> Result<(Next, &[u8]), Stop>
     ensures more { result ≡ Err More → first_line text.now ≡ None }
     ensures reads { MatchResult result (λ x. Comes utf8 (IsListing utf8) text.now x.0 x.1.now) (λ stop. StopsReading (IsListing utf8) never text.now stop) }
 {
-    let behind_space = octet(b' ', text)?;
-    let (head, rest) = string_head(alloc, utf8, Kind::Astring, behind_space)?;
+    let after_space = octet(b' ', text)?;
+    let (head, rest) = string_head(alloc, utf8, Kind::Astring, after_space)?;
     match head {
-        Head::Whole(reference) => behind_reference(alloc, utf8, reference, rest),
+        Head::Whole(reference) => after_reference(alloc, utf8, reference, rest),
         Head::Literal(size) => Ok((Next::Awaits(size, Awaited::ListReference), rest)),
     }
 }
@@ -175,33 +175,33 @@ fn list(alloc: Global, utf8: bool, text: &[u8]) -> Result<(Next, &[u8]), Stop>
 fn status_items(alloc: Global, text: &[u8]) -> Result<(Items<StatusItem>, &[u8]), Stop>
     ensures { MatchResult result (λ x. Reads IsStatusItems never text.now x.0 x.1.now) (λ stop. StopsReading IsStatusItems never text.now stop) }
 {
-    let behind_open = octet(b'(', text)?;
-    let (first, behind_first) = status_word(behind_open)?;
+    let after_open = octet(b'(', text)?;
+    let (first, after_first) = status_word(after_open)?;
     let mut items = Items::new(alloc);
     let Ok(()) = items.push(first) else {
         return Err(Stop::Memory);
     };
-    let mut rest = behind_first;
+    let mut rest = after_first;
     while let Some((separator, others)) = rest.split_first() {
         if *separator != b' ' {
-            let behind = octet(b')', rest)?;
-            return Ok((items, behind));
+            let following = octet(b')', rest)?;
+            return Ok((items, following));
         }
-        let (item, behind) = status_word(others)?;
+        let (item, following) = status_word(others)?;
         let Ok(()) = items.push(item) else {
             return Err(Stop::Memory);
         };
-        rest = behind;
+        rest = following;
     }
     Err(Stop::More)
 }
 
-pub fn behind_status_name(alloc: Global, name: Octets, text: &[u8]) -> Result<(Next, &[u8]), Stop>
+pub fn after_status_name(alloc: Global, name: Octets, text: &[u8]) -> Result<(Next, &[u8]), Stop>
     ensures more { result ≡ Err More → first_line text.now ≡ None }
-    ensures reads { MatchResult result (λ x. (utf8 : Bool) → Comes utf8 (IsBehindStatusName name) text.now x.0 x.1.now) (λ stop. StopsReading (IsBehindStatusName name) never text.now stop) }
+    ensures reads { MatchResult result (λ x. (utf8 : Bool) → Comes utf8 (IsAfterStatusName name) text.now x.0 x.1.now) (λ stop. StopsReading (IsAfterStatusName name) never text.now stop) }
 {
-    let behind_space = octet(b' ', text)?;
-    let (items, rest) = status_items(alloc, behind_space)?;
+    let after_space = octet(b' ', text)?;
+    let (items, rest) = status_items(alloc, after_space)?;
     bare(Command::Status { name, items }, rest)
 }
 
@@ -209,10 +209,10 @@ fn status(alloc: Global, utf8: bool, text: &[u8]) -> Result<(Next, &[u8]), Stop>
     ensures more { result ≡ Err More → first_line text.now ≡ None }
     ensures reads { MatchResult result (λ x. Comes utf8 (IsStatus utf8) text.now x.0 x.1.now) (λ stop. StopsReading (IsStatus utf8) never text.now stop) }
 {
-    let behind_space = octet(b' ', text)?;
-    let (head, rest) = string_head(alloc, utf8, Kind::Astring, behind_space)?;
+    let after_space = octet(b' ', text)?;
+    let (head, rest) = string_head(alloc, utf8, Kind::Astring, after_space)?;
     match head {
-        Head::Whole(name) => behind_status_name(alloc, name, rest),
+        Head::Whole(name) => after_status_name(alloc, name, rest),
         Head::Literal(size) => Ok((Next::Awaits(size, Awaited::StatusName), rest)),
     }
 }
@@ -223,11 +223,11 @@ fn store(alloc: Global, uid: bool, text: &[u8]) -> Result<(Next, &[u8]), Stop>
     ensures more { result ≡ Err More → first_line text.now ≡ None }
     ensures reads { MatchResult result (λ x. (utf8 : Bool) → Comes utf8 (IsStore uid) text.now x.0 x.1.now) (λ stop. StopsReading (IsStore uid) never text.now stop) }
 {
-    let behind_space = octet(b' ', text)?;
-    let (ranges, behind_set) = set_and_space(alloc, behind_space)?;
-    let ((op, silent), behind_word) = storing_word(behind_set)?;
-    let behind = octet(b' ', behind_word)?;
-    let (flags, rest) = flags_to_end(behind)?;
+    let after_space = octet(b' ', text)?;
+    let (ranges, after_set) = set_and_space(alloc, after_space)?;
+    let ((op, silent), after_word) = storing_word(after_set)?;
+    let following = octet(b' ', after_word)?;
+    let (flags, rest) = flags_to_end(following)?;
     let set = Set { ranges };
     Ok((
         Next::Whole(Command::Store {
@@ -264,8 +264,8 @@ fn uid(alloc: Global, utf8: bool, text: &[u8]) -> Result<(Next, &[u8]), Stop>
     ensures more { result ≡ Err More → first_line text.now ≡ None }
     ensures reads { MatchResult result (λ x. Comes utf8 (IsUid utf8) text.now x.0 x.1.now) (λ stop. StopsReading (IsUid utf8) never text.now stop) }
 {
-    let behind_space = octet(b' ', text)?;
-    let (name, rest) = uid_name(behind_space)?;
+    let after_space = octet(b' ', text)?;
+    let (name, rest) = uid_name(after_space)?;
     match name {
         UidName::Fetch => fetch(alloc, utf8, true, rest),
         UidName::Store => store(alloc, true, rest),
@@ -276,14 +276,9 @@ fn uid(alloc: Global, utf8: bool, text: &[u8]) -> Result<(Next, &[u8]), Stop>
 // ---- all of them
 
 // Reads what follows a command's name.
-pub fn behind_name(
-    alloc: Global,
-    utf8: bool,
-    name: Name,
-    text: &[u8],
-) -> Result<(Next, &[u8]), Stop>
+pub fn after_name(alloc: Global, utf8: bool, name: Name, text: &[u8]) -> Result<(Next, &[u8]), Stop>
     ensures more { result ≡ Err More → first_line text.now ≡ None }
-    ensures reads { MatchResult result (λ x. Comes utf8 (IsBehindName utf8 name) text.now x.0 x.1.now) (λ stop. StopsReading (IsBehindName utf8 name) never text.now stop) }
+    ensures reads { MatchResult result (λ x. Comes utf8 (IsAfterName utf8 name) text.now x.0 x.1.now) (λ stop. StopsReading (IsAfterName utf8 name) never text.now stop) }
 {
     match name {
         Name::Capability => bare(Command::Capability, text),

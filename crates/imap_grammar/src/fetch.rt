@@ -10,11 +10,11 @@ ghost use Rattle.imap_words.specs.Tokens.{is_digit as is_digit_of};
 ghost use Rattle.imap_words.specs.declared.stop.Stop.TheVariants.{More, Memory};
 ghost use Rattle.imap_grammar.specs.declared.command.SectionPart.TheVariants.{Fields as FieldsPart};
 ghost use Rattle.imap_grammar.specs.declared.words.ItemWord.TheVariants.{Body as BodyWord, All as AllWord, Full as FullWord, Fast as FastWord};
-ghost use Rattle.imap_grammar.specs.Fetching.{item_words, macro_words, text_words, behind_item_word, behind_section_word, IsPartial, macro_items};
+ghost use Rattle.imap_grammar.specs.Fetching.{item_words, macro_words, text_words, after_item_word, after_section_word, IsPartial, macro_items};
 ghost use Rattle.imap_grammar.specs.declared.command.Command.TheVariants.{Fetch as FetchCommand};
 ghost use Rattle.imap_grammar.specs.Commands.{IsBareCommand, IsFetch};
-ghost use Rattle.imap_grammar.specs.Awaiting.{Comes, IsBehindItems, IsBehindNames};
-ghost use Rattle.imap_grammar.specs.FetchParts.{is_read, PassesNoEnd, with_items, with_name as with_name_of, with_number as with_number_of, IsBehindThese, IsBehindStep, Goes, StepComes, behind_partial, IsSectionEnd, AreNames, IsBehindText, AreNumbers, IsSectionOf, IsRestOf, IsListed, IsLoneItem};
+ghost use Rattle.imap_grammar.specs.Awaiting.{Comes, IsAfterItems, IsAfterNames};
+ghost use Rattle.imap_grammar.specs.FetchParts.{is_read, PassesNoEnd, with_items, with_name as with_name_of, with_number as with_number_of, IsAfterThese, IsAfterStep, Goes, StepComes, after_partial, IsSectionEnd, AreNames, IsAfterText, AreNumbers, IsSectionOf, IsRestOf, IsListed, IsLoneItem};
 
 use crate::awaited::{Awaited, Fetching, FieldNames, Next};
 use crate::command::{Command, FetchItem, SectionPart, Set};
@@ -55,14 +55,14 @@ const ITEMS: usize = 11;
 
 // Reads the word of an item or a macro.
 fn item_word(text: &[u8]) -> Result<(ItemWord, &[u8]), Stop>
-    ensures { MatchResult result (λ x. Reads (IsWordOf (item_words ++ macro_words)) behind_item_word text.now x.0 x.1.now) (λ stop. StopsReading (IsWordOf (item_words ++ macro_words)) behind_item_word text.now stop) }
+    ensures { MatchResult result (λ x. Reads (IsWordOf (item_words ++ macro_words)) after_item_word text.now x.0 x.1.now) (λ stop. StopsReading (IsWordOf (item_words ++ macro_words)) after_item_word text.now stop) }
 {
     read_word(&ITEM_WORDS, text)
 }
 
 // Reads the word of an item alone.
 fn listed_word(text: &[u8]) -> Result<(ItemWord, &[u8]), Stop>
-    ensures { MatchResult result (λ x. Reads (IsWordOf item_words) behind_item_word text.now x.0 x.1.now) (λ stop. StopsReading (IsWordOf item_words) behind_item_word text.now stop) }
+    ensures { MatchResult result (λ x. Reads (IsWordOf item_words) after_item_word text.now x.0 x.1.now) (λ stop. StopsReading (IsWordOf item_words) after_item_word text.now stop) }
 {
     read_word(&ITEM_WORDS[..ITEMS], text)
 }
@@ -77,10 +77,10 @@ const SECTION_WORDS: [TableWord<SectionWord>; 5] = [
 ];
 
 // Reads a word of a section.
-fn section_word(behind_numbers: bool, text: &[u8]) -> Result<(SectionWord, &[u8]), Stop>
-    ensures { MatchResult result (λ x. Reads (IsWordOf (text_words behind_numbers)) behind_section_word text.now x.0 x.1.now) (λ stop. StopsReading (IsWordOf (text_words behind_numbers)) behind_section_word text.now stop) }
+fn section_word(after_numbers: bool, text: &[u8]) -> Result<(SectionWord, &[u8]), Stop>
+    ensures { MatchResult result (λ x. Reads (IsWordOf (text_words after_numbers)) after_section_word text.now x.0 x.1.now) (λ stop. StopsReading (IsWordOf (text_words after_numbers)) after_section_word text.now stop) }
 {
-    if behind_numbers {
+    if after_numbers {
         return read_word(&SECTION_WORDS, text);
     }
     read_word(&SECTION_WORDS[..4], text)
@@ -92,17 +92,17 @@ fn section_word(behind_numbers: bool, text: &[u8]) -> Result<(SectionWord, &[u8]
 fn octets_part(text: &[u8]) -> Result<((u32, u32), &[u8]), Stop>
     ensures { MatchResult result (λ x. Reads IsPartial never text.now x.0 x.1.now) (λ stop. StopsReading IsPartial never text.now stop) }
 {
-    let behind_open = octet(b'<', text)?;
-    let (from, behind_from) = number(behind_open)?;
-    let behind_dot = octet(b'.', behind_from)?;
-    let (most, behind_most) = non_zero(behind_dot)?;
-    let rest = octet(b'>', behind_most)?;
+    let after_open = octet(b'<', text)?;
+    let (from, after_from) = number(after_open)?;
+    let after_dot = octet(b'.', after_from)?;
+    let (most, after_most) = non_zero(after_dot)?;
+    let rest = octet(b'>', after_most)?;
     Ok(((from, most), rest))
 }
 
 // The same, where it comes next.
 fn partial(text: &[u8]) -> Result<(Option<(u32, u32)>, &[u8]), Stop>
-    ensures { MatchResult result (λ x. Reads (Maybe IsPartial) behind_partial text.now x.0 x.1.now) (λ stop. StopsReading (Maybe IsPartial) behind_partial text.now stop) }
+    ensures { MatchResult result (λ x. Reads (Maybe IsPartial) after_partial text.now x.0 x.1.now) (λ stop. StopsReading (Maybe IsPartial) after_partial text.now stop) }
 {
     let Some((first, _)) = text.split_first() else {
         return Err(Stop::More);
@@ -149,8 +149,8 @@ fn section_end(begun: Begun, part: SectionPart, text: &[u8]) -> Result<(Step, &[
     ensures passes { IfOk result (λ x. PassesNoEnd text.now x.0 x.1.now) }
     ensures reads { (utf8 : Bool) → MatchResult result (λ x. Goes utf8 (IsSectionEnd utf8 begun.fetching begun.peek begun.path part) text.now x.0 x.1.now) (λ stop. StopsReading (IsSectionEnd utf8 begun.fetching begun.peek begun.path part) never text.now stop) }
 {
-    let behind_close = octet(b']', text)?;
-    let (partial, rest) = partial(behind_close)?;
+    let after_close = octet(b']', text)?;
+    let (partial, rest) = partial(after_close)?;
     let Begun {
         fetching,
         peek,
@@ -214,21 +214,21 @@ fn names_end(so_far: FieldNames, text: &[u8]) -> Result<(Step, &[u8]), Stop>
 fn more_names(alloc: Global, so_far: FieldNames, text: &[u8]) -> Result<(Step, &[u8]), Stop>
     ensures more { result ≡ Err More → first_line text.now ≡ None }
     ensures passes { IfOk result (λ x. PassesNoEnd text.now x.0 x.1.now) }
-    ensures reads { (utf8 : Bool) → MatchResult result (λ x. Goes utf8 (IsBehindNames utf8 so_far so_far.names) text.now x.0 x.1.now) (λ stop. StopsReading (IsBehindNames utf8 so_far so_far.names) never text.now stop) }
+    ensures reads { (utf8 : Bool) → MatchResult result (λ x. Goes utf8 (IsAfterNames utf8 so_far so_far.names) text.now x.0 x.1.now) (λ stop. StopsReading (IsAfterNames utf8 so_far so_far.names) never text.now stop) }
 {
     let mut named = so_far;
     let mut rest = text;
     while let Some((separator, others)) = rest.split_first() {
         if *separator != b' ' {
-            let behind_names = octet(b')', rest)?;
-            return names_end(named, behind_names);
+            let after_names = octet(b')', rest)?;
+            return names_end(named, after_names);
         }
-        let (head, behind) = name_head(alloc, others)?;
+        let (head, following) = name_head(alloc, others)?;
         match head {
-            Head::Literal(size) => return Ok((Step::Awaits(size, named), behind)),
+            Head::Literal(size) => return Ok((Step::Awaits(size, named), following)),
             Head::Whole(name) => named = with_name(named, name)?,
         }
-        rest = behind;
+        rest = following;
     }
     Err(Stop::More)
 }
@@ -244,9 +244,9 @@ fn field_names(
     ensures passes { IfOk result (λ x. PassesNoEnd text.now x.0 x.1.now) }
     ensures reads { (utf8 : Bool) → MatchResult result (λ x. Goes utf8 (AreNames utf8 begun.fetching begun.peek begun.path negated) text.now x.0 x.1.now) (λ stop. StopsReading (AreNames utf8 begun.fetching begun.peek begun.path negated) never text.now stop) }
 {
-    let behind_space = octet(b' ', text)?;
-    let behind_open = octet(b'(', behind_space)?;
-    let (head, rest) = name_head(alloc, behind_open)?;
+    let after_space = octet(b' ', text)?;
+    let after_open = octet(b'(', after_space)?;
+    let (head, rest) = name_head(alloc, after_open)?;
     let Begun {
         fetching,
         peek,
@@ -269,7 +269,7 @@ fn field_names(
 }
 
 // Reads what follows a word of a section.
-fn behind_text(
+fn after_text(
     alloc: Global,
     begun: Begun,
     word: SectionWord,
@@ -277,7 +277,7 @@ fn behind_text(
 ) -> Result<(Step, &[u8]), Stop>
     ensures more { result ≡ Err More → first_line text.now ≡ None }
     ensures passes { IfOk result (λ x. PassesNoEnd text.now x.0 x.1.now) }
-    ensures reads { (utf8 : Bool) → MatchResult result (λ x. Goes utf8 (IsBehindText utf8 begun.fetching begun.peek begun.path word) text.now x.0 x.1.now) (λ stop. StopsReading (IsBehindText utf8 begun.fetching begun.peek begun.path word) never text.now stop) }
+    ensures reads { (utf8 : Bool) → MatchResult result (λ x. Goes utf8 (IsAfterText utf8 begun.fetching begun.peek begun.path word) text.now x.0 x.1.now) (λ stop. StopsReading (IsAfterText utf8 begun.fetching begun.peek begun.path word) never text.now stop) }
 {
     match word {
         SectionWord::Header => section_end(begun, SectionPart::Header, text),
@@ -320,9 +320,9 @@ fn numbered(alloc: Global, begun: Begun, text: &[u8]) -> Result<(Step, &[u8]), S
     ensures passes { IfOk result (λ x. PassesNoEnd text.now x.0 x.1.now) }
     ensures reads { (utf8 : Bool) → MatchResult result (λ x. Goes utf8 (AreNumbers utf8 begun.fetching begun.peek begun.path) text.now x.0 x.1.now) (λ stop. StopsReading (AreNumbers utf8 begun.fetching begun.peek begun.path) never text.now stop) }
 {
-    let (first, behind_first) = non_zero(text)?;
+    let (first, after_first) = non_zero(text)?;
     let mut so_far = with_number(begun, first)?;
-    let mut rest = behind_first;
+    let mut rest = after_first;
     while let Some((separator, others)) = rest.split_first() {
         if *separator != b'.' {
             return section_end(so_far, SectionPart::Whole, rest);
@@ -331,12 +331,12 @@ fn numbered(alloc: Global, begun: Begun, text: &[u8]) -> Result<(Step, &[u8]), S
             return Err(Stop::More);
         };
         if !is_digit(*next) {
-            let (word, behind_word) = section_word(true, others)?;
-            return behind_text(alloc, so_far, word, behind_word);
+            let (word, after_word) = section_word(true, others)?;
+            return after_text(alloc, so_far, word, after_word);
         }
-        let (number, behind) = non_zero(others)?;
+        let (number, following) = non_zero(others)?;
         so_far = with_number(so_far, number)?;
-        rest = behind;
+        rest = following;
     }
     Err(Stop::More)
 }
@@ -352,23 +352,23 @@ fn section(
     ensures passes { IfOk result (λ x. PassesNoEnd text.now x.0 x.1.now) }
     ensures reads { (utf8 : Bool) → MatchResult result (λ x. Goes utf8 (IsSectionOf utf8 fetching peek) text.now x.0 x.1.now) (λ stop. StopsReading (IsSectionOf utf8 fetching peek) never text.now stop) }
 {
-    let behind_open = octet(b'[', text)?;
+    let after_open = octet(b'[', text)?;
     let begun = Begun {
         fetching,
         peek,
         path: Items::new(alloc),
     };
-    let Some((first, _)) = behind_open.split_first() else {
+    let Some((first, _)) = after_open.split_first() else {
         return Err(Stop::More);
     };
     if *first == b']' {
-        return section_end(begun, SectionPart::Whole, behind_open);
+        return section_end(begun, SectionPart::Whole, after_open);
     }
     if is_digit(*first) {
-        return numbered(alloc, begun, behind_open);
+        return numbered(alloc, begun, after_open);
     }
-    let (word, rest) = section_word(false, behind_open)?;
-    behind_text(alloc, begun, word, rest)
+    let (word, rest) = section_word(false, after_open)?;
+    after_text(alloc, begun, word, rest)
 }
 
 // ---- items
@@ -377,7 +377,7 @@ fn section(
 fn read_item(fetching: Fetching, item: FetchItem, text: &[u8]) -> Result<(Step, &[u8]), Stop>
     ensures more { result ≡ Err More → first_line text.now ≡ None }
     ensures passes { IfOk result (λ x. PassesNoEnd text.now x.0 x.1.now) }
-    ensures reads { (utf8 : Bool) → MatchResult result (λ x. Goes utf8 (IsBehindThese utf8 fetching (item ∷ [])) text.now x.0 x.1.now) (λ stop. StopsReading (IsBehindThese utf8 fetching (item ∷ [])) never text.now stop) }
+    ensures reads { (utf8 : Bool) → MatchResult result (λ x. Goes utf8 (IsAfterThese utf8 fetching (item ∷ [])) text.now x.0 x.1.now) (λ stop. StopsReading (IsAfterThese utf8 fetching (item ∷ [])) never text.now stop) }
 {
     let made = push_item(fetching, item)?;
     Ok((Step::Read(made), text))
@@ -412,7 +412,7 @@ fn with_full(fetching: Fetching) -> Result<Fetching, Stop>
 }
 
 // Reads what follows BODY.
-fn behind_body(alloc: Global, fetching: Fetching, text: &[u8]) -> Result<(Step, &[u8]), Stop>
+fn after_body(alloc: Global, fetching: Fetching, text: &[u8]) -> Result<(Step, &[u8]), Stop>
     ensures more { result ≡ Err More → first_line text.now ≡ None }
     ensures passes { IfOk result (λ x. PassesNoEnd text.now x.0 x.1.now) }
     ensures reads { (utf8 : Bool) → MatchResult result (λ x. Goes utf8 (IsRestOf utf8 fetching BodyWord) text.now x.0 x.1.now) (λ stop. StopsReading (IsRestOf utf8 fetching BodyWord) never text.now stop) }
@@ -427,7 +427,7 @@ fn behind_body(alloc: Global, fetching: Fetching, text: &[u8]) -> Result<(Step, 
 }
 
 // Reads what follows the word of an item or a macro.
-fn behind_word(
+fn after_word(
     alloc: Global,
     fetching: Fetching,
     word: ItemWord,
@@ -447,7 +447,7 @@ fn behind_word(
         ItemWord::Rfc822Text => read_item(fetching, FetchItem::Rfc822Text, text),
         ItemWord::Envelope => read_item(fetching, FetchItem::Envelope, text),
         ItemWord::BodyStructure => read_item(fetching, FetchItem::BodyStructure, text),
-        ItemWord::Body => behind_body(alloc, fetching, text),
+        ItemWord::Body => after_body(alloc, fetching, text),
         ItemWord::BodyPeek => section(alloc, fetching, true, text),
         ItemWord::All => {
             let made = with_all(fetching)?;
@@ -471,7 +471,7 @@ fn listed_item(alloc: Global, fetching: Fetching, text: &[u8]) -> Result<(Step, 
     ensures reads { (utf8 : Bool) → MatchResult result (λ x. Goes utf8 (IsListed utf8 fetching) text.now x.0 x.1.now) (λ stop. StopsReading (IsListed utf8 fetching) never text.now stop) }
 {
     let (word, rest) = listed_word(text)?;
-    behind_word(alloc, fetching, word, rest)
+    after_word(alloc, fetching, word, rest)
 }
 
 // Reads an item alone, or a macro.
@@ -481,7 +481,7 @@ fn lone_item(alloc: Global, fetching: Fetching, text: &[u8]) -> Result<(Step, &[
     ensures reads { (utf8 : Bool) → MatchResult result (λ x. Goes utf8 (IsLoneItem utf8 fetching) text.now x.0 x.1.now) (λ stop. StopsReading (IsLoneItem utf8 fetching) never text.now stop) }
 {
     let (word, rest) = item_word(text)?;
-    behind_word(alloc, fetching, word, rest)
+    after_word(alloc, fetching, word, rest)
 }
 
 // Reads the end of the line, with which FETCH is whole.
@@ -501,7 +501,7 @@ fn whole(fetching: Fetching, text: &[u8]) -> Result<(Next, &[u8]), Stop>
 // Reads what follows an item.
 fn more_items(alloc: Global, fetching: Fetching, text: &[u8]) -> Result<(Next, &[u8]), Stop>
     ensures more { result ≡ Err More → first_line text.now ≡ None }
-    ensures reads { (utf8 : Bool) → MatchResult result (λ x. Comes utf8 (IsBehindItems fetching.listed utf8 fetching.uid fetching.set.ranges fetching.items) text.now x.0 x.1.now) (λ stop. StopsReading (IsBehindItems fetching.listed utf8 fetching.uid fetching.set.ranges fetching.items) never text.now stop) }
+    ensures reads { (utf8 : Bool) → MatchResult result (λ x. Comes utf8 (IsAfterItems fetching.listed utf8 fetching.uid fetching.set.ranges fetching.items) text.now x.0 x.1.now) (λ stop. StopsReading (IsAfterItems fetching.listed utf8 fetching.uid fetching.set.ranges fetching.items) never text.now stop) }
 {
     let mut so_far = fetching;
     let mut rest = text;
@@ -510,26 +510,26 @@ fn more_items(alloc: Global, fetching: Fetching, text: &[u8]) -> Result<(Next, &
             return whole(so_far, rest);
         }
         if *separator != b' ' {
-            let behind_items = octet(b')', rest)?;
-            return whole(so_far, behind_items);
+            let after_items = octet(b')', rest)?;
+            return whole(so_far, after_items);
         }
-        let (step, behind) = listed_item(alloc, so_far, others)?;
+        let (step, following) = listed_item(alloc, so_far, others)?;
         match step {
             Step::Awaits(size, names) => {
-                return Ok((Next::Awaits(size, Awaited::FieldName(names)), behind));
+                return Ok((Next::Awaits(size, Awaited::FieldName(names)), following));
             }
             Step::Read(made) => so_far = made,
         }
-        rest = behind;
+        rest = following;
     }
     Err(Stop::More)
 }
 
 // Reads what follows, or awaits the octets of a literal.
-fn behind_step(alloc: Global, step: Step, text: &[u8]) -> Result<(Next, &[u8]), Stop>
+fn following_step(alloc: Global, step: Step, text: &[u8]) -> Result<(Next, &[u8]), Stop>
     ensures more { result ≡ Err More → first_line text.now ≡ None }
     ensures read { result ≡ Err More → is_read step ≡ true }
-    ensures reads { (utf8 : Bool) → MatchResult result (λ x. StepComes utf8 step text.now x.0 x.1.now) (λ stop. StopsReading (IsBehindStep utf8 step) never text.now stop) }
+    ensures reads { (utf8 : Bool) → MatchResult result (λ x. StepComes utf8 step text.now x.0 x.1.now) (λ stop. StopsReading (IsAfterStep utf8 step) never text.now stop) }
 {
     match step {
         Step::Awaits(size, names) => Ok((Next::Awaits(size, Awaited::FieldName(names)), text)),
@@ -538,7 +538,7 @@ fn behind_step(alloc: Global, step: Step, text: &[u8]) -> Result<(Next, &[u8]), 
 }
 
 // Reads what follows a literal that is a field's name.
-pub fn behind_field_name(
+pub fn after_field_name(
     alloc: Global,
     utf8: bool,
     so_far: FieldNames,
@@ -546,11 +546,11 @@ pub fn behind_field_name(
     text: &[u8],
 ) -> Result<(Next, &[u8]), Stop>
     ensures more { result ≡ Err More → first_line text.now ≡ None }
-    ensures reads { MatchResult result (λ x. Comes utf8 (IsBehindNames utf8 so_far (so_far.names ++ name ∷ [])) text.now x.0 x.1.now) (λ stop. StopsReading (IsBehindNames utf8 so_far (so_far.names ++ name ∷ [])) never text.now stop) }
+    ensures reads { MatchResult result (λ x. Comes utf8 (IsAfterNames utf8 so_far (so_far.names ++ name ∷ [])) text.now x.0 x.1.now) (λ stop. StopsReading (IsAfterNames utf8 so_far (so_far.names ++ name ∷ [])) never text.now stop) }
 {
     let made = with_name(so_far, name)?;
     let (step, rest) = more_names(alloc, made, text)?;
-    behind_step(alloc, step, rest)
+    following_step(alloc, step, rest)
 }
 
 // Reads what follows FETCH.
@@ -558,9 +558,9 @@ pub fn fetch(alloc: Global, utf8: bool, uid: bool, text: &[u8]) -> Result<(Next,
     ensures more { result ≡ Err More → first_line text.now ≡ None }
     ensures reads { MatchResult result (λ x. Comes utf8 (IsFetch utf8 uid) text.now x.0 x.1.now) (λ stop. StopsReading (IsFetch utf8 uid) never text.now stop) }
 {
-    let behind_space = octet(b' ', text)?;
-    let (ranges, behind_set) = set_and_space(alloc, behind_space)?;
-    let Some((first, others)) = behind_set.split_first() else {
+    let after_space = octet(b' ', text)?;
+    let (ranges, after_set) = set_and_space(alloc, after_space)?;
+    let Some((first, others)) = after_set.split_first() else {
         return Err(Stop::More);
     };
     let set = Set { ranges };
@@ -572,7 +572,7 @@ pub fn fetch(alloc: Global, utf8: bool, uid: bool, text: &[u8]) -> Result<(Next,
             listed: true,
         };
         let (step, rest) = listed_item(alloc, begun, others)?;
-        return behind_step(alloc, step, rest);
+        return following_step(alloc, step, rest);
     }
     let begun = Fetching {
         uid,
@@ -580,6 +580,6 @@ pub fn fetch(alloc: Global, utf8: bool, uid: bool, text: &[u8]) -> Result<(Next,
         items: Items::new(alloc),
         listed: false,
     };
-    let (step, rest) = lone_item(alloc, begun, behind_set)?;
-    behind_step(alloc, step, rest)
+    let (step, rest) = lone_item(alloc, begun, after_set)?;
+    following_step(alloc, step, rest)
 }

@@ -7,7 +7,7 @@ ghost use Rattle.imap_words.specs.declared.stop.Stop.TheVariants.{More};
 ghost use Rattle.imap_words.specs.Reading.{Reads, StopsReading, never, always};
 ghost use Rattle.imap_words.specs.Tokens.{is_atom_char};
 ghost use Rattle.imap_words.specs.Keywords.{IsWordOf};
-ghost use Rattle.imap_grammar.specs.Flags.{IsFlag, IsFlagList, IsFlagsToEnd, AreFlags, HasFlags, EndsFlags, flags_of, storing_words, behind_storing, IsBits};
+ghost use Rattle.imap_grammar.specs.Flags.{IsFlag, IsFlagList, IsFlagsToEnd, AreFlags, HasFlags, EndsFlags, flags_of, storing_words, after_storing, IsBits};
 
 use crate::command::StoreOp;
 use imap_words::{Kind, Stop, line_end, line_feed, octet, read_word, run};
@@ -70,8 +70,8 @@ fn flag(text: &[u8]) -> Result<(&[u8], &[u8]), Stop>
         let (name, rest) = run(Kind::Atom, text)?;
         return Ok((name, rest));
     }
-    let (_, behind) = run(Kind::Atom, others)?;
-    Ok(text.split_at(text.len() - behind.len()))
+    let (_, following) = run(Kind::Atom, others)?;
+    Ok(text.split_at(text.len() - following.len()))
 }
 
 // Reads flags with a space between any two, and this octet behind them.
@@ -79,17 +79,17 @@ fn flags_until(close: u8, text: &[u8]) -> Result<(u8, &[u8]), Stop>
     requires { EndsFlags close }
     ensures { MatchResult result (λ x. Reads (HasFlags (AreFlags close)) never text.now x.0 x.1.now) (λ stop. StopsReading (HasFlags (AreFlags close)) never text.now stop) }
 {
-    let (first, behind_first) = flag(text)?;
+    let (first, after_first) = flag(text)?;
     let mut bits = with_flag(no_bits(), first);
-    let mut rest = behind_first;
+    let mut rest = after_first;
     while let Some((separator, others)) = rest.split_first() {
         if *separator != b' ' {
-            let behind = octet(close, rest)?;
-            return Ok((value(bits), behind));
+            let following = octet(close, rest)?;
+            return Ok((value(bits), following));
         }
-        let (name, behind) = flag(others)?;
+        let (name, following) = flag(others)?;
         bits = with_flag(bits, name);
-        rest = behind;
+        rest = following;
     }
     Err(Stop::More)
 }
@@ -98,14 +98,14 @@ fn flags_until(close: u8, text: &[u8]) -> Result<(u8, &[u8]), Stop>
 pub fn flag_list(text: &[u8]) -> Result<(u8, &[u8]), Stop>
     ensures { MatchResult result (λ x. Reads (HasFlags IsFlagList) never text.now x.0 x.1.now) (λ stop. StopsReading (HasFlags IsFlagList) never text.now stop) }
 {
-    let behind_open = octet(b'(', text)?;
-    let Some((first, others)) = behind_open.split_first() else {
+    let after_open = octet(b'(', text)?;
+    let Some((first, others)) = after_open.split_first() else {
         return Err(Stop::More);
     };
     if *first == b')' {
         return Ok((0, others));
     }
-    let (flags, rest) = flags_until(b')', behind_open)?;
+    let (flags, rest) = flags_until(b')', after_open)?;
     Ok((flags, rest))
 }
 
@@ -118,12 +118,12 @@ pub fn flags_to_end(text: &[u8]) -> Result<(u8, &[u8]), Stop>
         return Err(Stop::More);
     };
     if *first == b'(' {
-        let (flags, behind_list) = flag_list(text)?;
-        let rest = line_end(behind_list)?;
+        let (flags, after_list) = flag_list(text)?;
+        let rest = line_end(after_list)?;
         return Ok((flags, rest));
     }
-    let (flags, behind_return) = flags_until(b'\r', text)?;
-    let rest = line_feed(behind_return)?;
+    let (flags, after_return) = flags_until(b'\r', text)?;
+    let rest = line_feed(after_return)?;
     Ok((flags, rest))
 }
 
@@ -139,7 +139,7 @@ const STORING_WORDS: [TableWord<(StoreOp, bool)>; 6] = [
 
 // Reads a word of that table.
 pub fn storing_word(text: &[u8]) -> Result<((StoreOp, bool), &[u8]), Stop>
-    ensures { MatchResult result (λ x. Reads (IsWordOf storing_words) behind_storing text.now x.0 x.1.now) (λ stop. StopsReading (IsWordOf storing_words) behind_storing text.now stop) }
+    ensures { MatchResult result (λ x. Reads (IsWordOf storing_words) after_storing text.now x.0 x.1.now) (λ stop. StopsReading (IsWordOf storing_words) after_storing text.now stop) }
 {
     read_word(&STORING_WORDS, text)
 }

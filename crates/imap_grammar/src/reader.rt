@@ -7,18 +7,18 @@ ghost use Rattle.imap_words.specs.Reading.{StopsReading, never};
 ghost use Rattle.imap_words.specs.Going.{Leaves};
 ghost use Rattle.imap_words.specs.Tokens.{is_name_char};
 ghost use Rattle.imap_grammar.specs.Commands.{IsCommand};
-ghost use Rattle.imap_grammar.specs.Awaiting.{Comes, IsLiteralBody, IsBehindLiteral, IsRestAtLiteral, IsSized};
+ghost use Rattle.imap_grammar.specs.Awaiting.{Comes, IsLiteralBody, IsAfterLiteral, IsRestAtLiteral, IsSized};
 ghost use Rattle.imap_grammar.specs.Events.{Tells, HasTag, IsDue, IsWholeLine, seen_after};
 ghost use Rattle.imap_grammar.specs.Standing.{HasSeen, Reached, HasNoDataBefore, left_of, LineComes, TurnTells, HasBadName, line_with, HasLineEnd, EndsThere, went_on, Stopped, size_of, is_data, too_large, IsFoundWithin, Finds, HasPut, IsAtLine, left_after};
 
-use crate::append::{behind_append_name, behind_data};
+use crate::append::{after_append_name, after_data};
 use crate::awaited::{Awaited, Next};
 use crate::command::Command;
 use crate::commands::{
-    bare, behind_mailbox, behind_name, behind_reference, behind_status_name, behind_user,
+    after_mailbox, after_name, after_reference, after_status_name, after_user, bare,
 };
 use crate::event::{APPEND_MAX, Event};
-use crate::fetch::behind_field_name;
+use crate::fetch::after_field_name;
 use crate::tables::command_name;
 use imap_words::{Kind, Stop, octet, passes, run};
 use mail_wire::{LINE_MAX, Memory, Octets, line_end};
@@ -28,7 +28,7 @@ use std::alloc::Global;
 #[derive(Drop)]
 pub enum Stage {
     Begin,
-    Behind {
+    AfterLiteral {
         tag: Octets,
         size: usize,
         awaited: Awaited,
@@ -76,7 +76,7 @@ impl Reader {
     /// Uses octets up to the next event, and says how many. `utf8` says whether the session has enabled UTF-8; it stays the same
     /// within a command.
     pub fn feed(&mut self, piece: &[u8], utf8: bool) -> Result<(usize, Event), Memory>
-        ensures tells { (seen : List ℕ) → HasSeen utf8 self.old seen → IfOk result (λ r. Tells utf8 seen piece.now r.0 r.1) }
+        ensures observed { (seen : List ℕ) → HasSeen utf8 self.old seen → IfOk result (λ r. Tells utf8 seen piece.now r.0 r.1) }
         ensures stands { (seen : List ℕ) → HasSeen utf8 self.old seen → IfOk result (λ r. HasSeen utf8 self.new (seen_after seen piece.now r.0 r.1)) }
     {
         match self.find(piece) {
@@ -103,7 +103,7 @@ impl Reader {
     {
         match &self.stage {
             Stage::Begin => 0,
-            Stage::Behind { size, .. } => (*size).saturating_sub(self.literal.len()),
+            Stage::AfterLiteral { size, .. } => (*size).saturating_sub(self.literal.len()),
         }
     }
 
@@ -113,7 +113,7 @@ impl Reader {
     {
         matches!(
             &self.stage,
-            Stage::Behind {
+            Stage::AfterLiteral {
                 awaited: Awaited::AppendData { .. },
                 ..
             }
@@ -142,8 +142,8 @@ impl Reader {
         if piece.len() < wanted {
             return None;
         }
-        let (_, behind) = piece.split_at(wanted);
-        let end = line_end(self.line.as_slice(), behind)?;
+        let (_, following) = piece.split_at(wanted);
+        let end = line_end(self.line.as_slice(), following)?;
         Some(wanted + end)
     }
 
@@ -198,9 +198,9 @@ impl Reader {
         } else {
             octets.len()
         };
-        let (front, behind) = octets.split_at(taken);
+        let (front, following) = octets.split_at(taken);
         self.literal.push_slice(front)?;
-        self.line.push_slice(behind)?;
+        self.line.push_slice(following)?;
         self.counted = self.counted.saturating_add(counting);
         Ok(())
     }
@@ -212,13 +212,13 @@ impl Reader {
     {
         let begun = Reader::open(self.alloc);
         let reader = std::mem::replace(self, begun);
-        let (event, next) = reader.behind_line(utf8)?;
+        let (event, next) = reader.following_line(utf8)?;
         *self = next;
         Ok(event)
     }
 
     // What is due at the end of the line, and the reader that goes on.
-    fn behind_line(self, utf8: bool) -> Result<(Event, Reader), Memory>
+    fn following_line(self, utf8: bool) -> Result<(Event, Reader), Memory>
         requires { HasLineEnd self.line }
         ensures { (seen : List ℕ) → IsAtLine utf8 self seen → IfOk result (λ r. IsDue utf8 seen r.0 × HasSeen utf8 r.1 (left_after seen r.0)) }
     {
@@ -246,7 +246,7 @@ impl Reader {
                 let size = size as usize;
                 let next = Reader {
                     alloc,
-                    stage: Stage::Behind { tag, size, awaited },
+                    stage: Stage::AfterLiteral { tag, size, awaited },
                     literal: Octets::new(alloc),
                     line: Octets::new(alloc),
                     seen,
@@ -307,10 +307,10 @@ fn begun_line(alloc: Global, utf8: bool, line: &[u8]) -> Result<Next, Stop>
     ensures more { result ≡ Err More → first_line line.now ≡ None }
     ensures reads { MatchResult result (λ next. LineComes utf8 line.now next) (λ stop. StopsReading (IsCommand utf8) never line.now stop) }
 {
-    let (_, behind_tag) = run(Kind::Tag, line)?;
-    let behind_space = octet(b' ', behind_tag)?;
-    let (name, arguments) = command_name(behind_space)?;
-    let (next, _) = behind_name(alloc, utf8, name, arguments)?;
+    let (_, after_tag) = run(Kind::Tag, line)?;
+    let after_space = octet(b' ', after_tag)?;
+    let (name, arguments) = command_name(after_space)?;
+    let (next, _) = after_name(alloc, utf8, name, arguments)?;
     Ok(next)
 }
 
@@ -360,8 +360,8 @@ fn line_turn(
                 Err(stop) => stopped(tag, stop),
             }
         }
-        Stage::Behind { tag, awaited, .. } => {
-            match behind_literal(alloc, utf8, awaited, literal, line) {
+        Stage::AfterLiteral { tag, awaited, .. } => {
+            match following_literal(alloc, utf8, awaited, literal, line) {
                 Ok((next, _)) => Ok(went(tag, next)),
                 Err(stop) => stopped(Some(tag), stop),
             }
@@ -387,7 +387,7 @@ fn name_left(literal: &[u8], line: &[u8]) -> Option<usize>
 }
 
 // Reads what follows a literal.
-fn behind_literal(
+fn following_literal(
     alloc: Global,
     utf8: bool,
     awaited: Awaited,
@@ -395,11 +395,11 @@ fn behind_literal(
     line: &[u8],
 ) -> Result<(Next, &[u8]), Stop>
     ensures more { result ≡ Err More → first_line line.now ≡ None }
-    ensures reads { IsSized (length literal) awaited → MatchResult result (λ x. IsLiteralBody (length literal) awaited literal literal × Comes utf8 (IsBehindLiteral utf8 awaited literal) line.now x.0 x.1.now)
+    ensures reads { IsSized (length literal) awaited → MatchResult result (λ x. IsLiteralBody (length literal) awaited literal literal × Comes utf8 (IsAfterLiteral utf8 awaited literal) line.now x.0 x.1.now)
         (λ stop. StopsReading (IsRestAtLiteral utf8 (length literal) awaited) never (literal ++ line.now) stop) }
 {
     match awaited {
-        Awaited::LoginName => behind_user(alloc, utf8, literal, line),
+        Awaited::LoginName => after_user(alloc, utf8, literal, line),
         Awaited::LoginPassword { name } => bare(
             Command::Login {
                 name,
@@ -407,8 +407,8 @@ fn behind_literal(
             },
             line,
         ),
-        Awaited::Mailbox(naming) => behind_mailbox(naming, literal, line),
-        Awaited::ListReference => behind_reference(alloc, utf8, literal, line),
+        Awaited::Mailbox(naming) => after_mailbox(naming, literal, line),
+        Awaited::ListReference => after_reference(alloc, utf8, literal, line),
         Awaited::ListPattern { reference } => bare(
             Command::List {
                 reference,
@@ -416,14 +416,14 @@ fn behind_literal(
             },
             line,
         ),
-        Awaited::StatusName => behind_status_name(alloc, literal, line),
-        Awaited::AppendName => behind_append_name(alloc, literal, line),
+        Awaited::StatusName => after_status_name(alloc, literal, line),
+        Awaited::AppendName => after_append_name(alloc, literal, line),
         Awaited::AppendData {
             name,
             flags,
             date,
             utf8,
-        } => behind_data(
+        } => after_data(
             utf8,
             Command::Append {
                 name,
@@ -438,7 +438,7 @@ fn behind_literal(
             if let Some(left) = name_left(literal.as_slice(), line) {
                 return Err(Stop::Bad(left));
             }
-            behind_field_name(alloc, utf8, so_far, literal, line)
+            after_field_name(alloc, utf8, so_far, literal, line)
         }
     }
 }

@@ -71,9 +71,9 @@ pub word_first : (front text next word : List ℕ) (words : List (List ℕ)) (fi
 word_first front text next word [] first so_far same e = record { is = e ∙ ap (λ t. t ++ word) (so_far.is ∙ append-nil front); none = refl }
 word_first front text next word (other ∷ words) first so_far same e = absurd (both_ways first so_far.none same)
 
-pub word_behind : (front text next word : List ℕ) (words : List (List ℕ)) (first : Bool) → EndsWithWords front words text first → first ≡ false → next ≡ (text ++ 32 ∷ []) ++ word → EndsWithWords front (words ++ word ∷ []) next false
-word_behind front text next word [] first so_far differs e = absurd (both_ways first differs so_far.none)
-word_behind front text next word (other ∷ words) first so_far differs e = record {
+pub word_after : (front text next word : List ℕ) (words : List (List ℕ)) (first : Bool) → EndsWithWords front words text first → first ≡ false → next ≡ (text ++ 32 ∷ []) ++ word → EndsWithWords front (words ++ word ∷ []) next false
+word_after front text next word [] first so_far differs e = absurd (both_ways first differs so_far.none)
+word_after front text next word (other ∷ words) first so_far differs e = record {
   is = e ∙ (append_assoc text (32 ∷ []) word ∙ (ap (λ t. t ++ 32 ∷ word) so_far.is
       ∙ (append_assoc front (join_with_byte 32 (other ∷ words)) (32 ∷ word) ∙ ap (λ t. front ++ t) (sym (join-push other word words)))));
   none = refl;

@@ -83,15 +83,15 @@ pub match-nothing : (name : List ℕ) (b : Bool) → (b ≡ true → name ≡ []
 match-nothing name b to from = same_truth b (is_match [] name) (λ e. ap (is_match []) (to e) ∙ match-end) (λ e. from (only_end name e))
 
 -- what patterns that mean the same mean behind the same octets
-pub match-behind : (run p q name : List ℕ) → ((n : List ℕ) → is_match p n ≡ is_match q n) → is_match (run ++ p) name ≡ is_match (run ++ q) name
-match-behind [] p q name same = same name
-match-behind (x ∷ run) p q [] same = elim (cases_Bool (is_list_wildcard x)) [
-  | inl wild ↦ match-wildcard x (run ++ p) [] wild ∙ (match-behind run p q [] same ∙ sym (match-wildcard x (run ++ q) [] wild))
+pub match-following : (run p q name : List ℕ) → ((n : List ℕ) → is_match p n ≡ is_match q n) → is_match (run ++ p) name ≡ is_match (run ++ q) name
+match-following [] p q name same = same name
+match-following (x ∷ run) p q [] same = elim (cases_Bool (is_list_wildcard x)) [
+  | inl wild ↦ match-wildcard x (run ++ p) [] wild ∙ (match-following run p q [] same ∙ sym (match-wildcard x (run ++ q) [] wild))
   | inr plain ↦ match-plain_end x (run ++ p) plain ∙ sym (match-plain_end x (run ++ q) plain)
 ]
-match-behind (x ∷ run) p q (y ∷ name) same = elim (cases_Bool (is_list_wildcard x)) [
-  | inl wild ↦ match-wildcard x (run ++ p) (y ∷ name) wild ∙ (same_tails (is_match (run ++ p)) (is_match (run ++ q)) (λ n. match-behind run p q n same) (y ∷ name) ∙ sym (match-wildcard x (run ++ q) (y ∷ name) wild))
-  | inr plain ↦ match-plain x y (run ++ p) name plain ∙ (ap (λ b. x == y && b) (match-behind run p q name same) ∙ sym (match-plain x y (run ++ q) name plain))
+match-following (x ∷ run) p q (y ∷ name) same = elim (cases_Bool (is_list_wildcard x)) [
+  | inl wild ↦ match-wildcard x (run ++ p) (y ∷ name) wild ∙ (same_tails (is_match (run ++ p)) (is_match (run ++ q)) (λ n. match-following run p q n same) (y ∷ name) ∙ sym (match-wildcard x (run ++ q) (y ∷ name) wild))
+  | inr plain ↦ match-plain x y (run ++ p) name plain ∙ (ap (λ b. x == y && b) (match-following run p q name same) ∙ sym (match-plain x y (run ++ q) name plain))
 ]
 
 -- one wildcard does for two, and each for the other
@@ -143,14 +143,14 @@ run_within : (run pattern name : List ℕ) → list_all is_no_wildcard run ≡ t
 run_within run pattern name plain e =
     let t = tail_found (is_match (run ++ pattern)) name (sym (match-wildcard 42 (run ++ pattern) name refl) ∙ e) in
     let r = run_first run pattern (drop t.at name) plain t.passes in
-    let behind : drop (t.at + length run) name ≡ r.rest = sym (drop-drop (length run) t.at name) ∙ (ap (drop (length run)) r.is ∙ drop_at run r.rest (length run) refl) in
+    let following : drop (t.at + length run) name ≡ r.rest = sym (drop-drop (length run) t.at name) ∙ (ap (drop (length run)) r.is ∙ drop_at run r.rest (length run) refl) in
     record {
       at = t.at;
       stands = record {
         fits = omega (arith, t.within, length-drop t.at name, ap length r.is, length-append run r.rest);
         reads = at_reads 0 name run t.at r.rest r.is;
       };
-      matches = ap (is_match pattern) behind ∙ r.matches;
+      matches = ap (is_match pattern) following ∙ r.matches;
     }
 
 pub match-missing : (run pattern name : List ℕ) → list_all is_no_wildcard run ≡ true → Nowhere (OccursAt name run) 0 (length name + 1) → is_match (42 ∷ (run ++ pattern)) name ≡ false

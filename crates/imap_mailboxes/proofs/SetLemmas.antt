@@ -20,9 +20,9 @@ last_uid-is [] one some = absurd (omega (arith, some))
 last_uid-is (first ∷ []) one some = refl
 last_uid-is (first ∷ next ∷ others) one some =
     let last : suc (length others) - 1 ≡ length others = omega arith in
-    let behind : suc (suc (length others)) - 1 ≡ suc (length others) = omega arith in
+    let following : suc (suc (length others)) - 1 ≡ suc (length others) = omega arith in
     last_uid-is (next ∷ others) one (omega arith)
-    ∙ (ap (λ k. (get_or (next ∷ others) k one).uid) last ∙ sym (ap (λ k. (get_or (first ∷ next ∷ others) k one).uid) behind))
+    ∙ (ap (λ k. (get_or (next ∷ others) k one).uid) last ∙ sym (ap (λ k. (get_or (first ∷ next ∷ others) k one).uid) following))
 
 -- ---- the places of all messages
 

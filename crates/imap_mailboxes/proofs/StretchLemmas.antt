@@ -68,8 +68,8 @@ gap stretches i next one rise done lt is k low high = list_any_none (is_inside k
     each : All (λ s. is_inside k s ≡ false) stretches
     each j d l = elim (cases_lt j i) [
       | inl before ↦ and_right (nat_le (get_or stretches j d).from k) (nat_lt k (get_or stretches j d).to) (le-ltb k (get_or stretches j d).to (omega (arith, done.ended j d before)))
-      | inr behind ↦ and_left (nat_le (get_or stretches j d).from k) (nat_lt k (get_or stretches j d).to)
-          (lt-leb (get_or stretches j d).from k (omega (arith, rise i j d behind l, ap (λ (s : Stretch). s.from) (get_or_read stretches i one lt is d))))
+      | inr following ↦ and_left (nat_le (get_or stretches j d).from k) (nat_lt k (get_or stretches j d).to)
+          (lt-leb (get_or stretches j d).from k (omega (arith, rise i j d following l, ap (λ (s : Stretch). s.from) (get_or_read stretches i one lt is d))))
     ]
 
 inside : (stretches : List Stretch) (i : ℕ) (one : Stretch) → i < length stretches → one ≡ get_or stretches i one → (k : ℕ) → one.from ≤ k → k < one.to → in_stretches stretches k ≡ true

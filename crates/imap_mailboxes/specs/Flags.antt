@@ -1,6 +1,7 @@
 -- Flags of messages (RFC 3501, 2.3.2, 6.4.6, 7.4.2 and 9).
 use Rattle.std.specs.Prelude.{ℕ, ◌/◌, ◌%◌, ◌==◌, Bool, not, ◌&&◌, ◌||◌, List, [], ◌∷◌, ◌++◌, codes, sum_by, if◌then◌else◌}
 use Rattle.std.specs.List.{join_with_byte}
+use Rattle.mail_wire.specs.Characters.{space, left_parenthesis, right_parenthesis}
 use Rattle.imap_grammar.specs.declared.command.StoreOp.{StoreOp}
 use Rattle.imap_grammar.specs.declared.command.StoreOp.TheVariants.{Replace, Add, Remove}
 
@@ -20,7 +21,7 @@ flag_words flags =
 
 -- words with a space between any two
 abbrev pub in_parentheses : List (List ℕ) → List ℕ
-in_parentheses words = 40 ∷ (join_with_byte 32 words ++ 41 ∷ [])
+in_parentheses words = left_parenthesis ∷ (join_with_byte space words ++ right_parenthesis ∷ [])
 
 -- "FLAGS" SP "(" [flag-fetch *(SP flag-fetch)] ")"
 unfoldable pub flags_text : ℕ → List ℕ

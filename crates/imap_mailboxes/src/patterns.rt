@@ -3,7 +3,7 @@ ghost use Rattle.std.specs.Prelude.{◌≡◌, ◌≤◌, ◌<◌, ℕ, List, �
 ghost use Rattle.std.specs.List.{list_all, count_by};
 ghost use Rattle.imap_words.specs.Tokens.{is_list_wildcard};
 ghost use Rattle.imap_mailboxes.specs.Patterns.{is_match};
-ghost use Rattle.imap_mailboxes.specs.private.Runs.{is_no_wildcard, ArePlainRuns, IsCut, plain_runs, behind_wildcards};
+ghost use Rattle.imap_mailboxes.specs.private.Runs.{is_no_wildcard, ArePlainRuns, IsCut, plain_runs, after_wildcards};
 
 use mail_wire::{Memory, Octets, Span};
 use memchr::memmem;
@@ -75,7 +75,7 @@ fn cut(alloc: Global, octets: &[u8], from: usize) -> Result<(Vec<Span>, usize), 
 }
 
 // What follows the first place where the run stands in the name.
-fn behind_run<'a>(run: &[u8], name: &'a [u8]) -> Option<&'a [u8]>
+fn after_run<'a>(run: &[u8], name: &'a [u8]) -> Option<&'a [u8]>
     requires { list_all is_no_wildcard run.now ≡ true }
     ensures { (pattern : List ℕ) → MatchOption result (is_match (42 ∷ (run.now ++ 42 ∷ pattern)) name.now ≡ false)
         (λ rest. is_match (42 ∷ (run.now ++ 42 ∷ pattern)) name.now ≡ is_match (42 ∷ pattern) rest.now) }
@@ -88,14 +88,14 @@ fn behind_run<'a>(run: &[u8], name: &'a [u8]) -> Option<&'a [u8]>
 fn has_runs(octets: &[u8], runs: &[Span], last: &[u8], name: &[u8]) -> bool
     requires runs { ArePlainRuns octets.now runs.now }
     requires last { list_all is_no_wildcard last.now ≡ true }
-    ensures { result ≡ is_match (behind_wildcards (plain_runs octets.now runs.now) last.now) name.now }
+    ensures { result ≡ is_match (after_wildcards (plain_runs octets.now runs.now) last.now) name.now }
 {
     let mut rest = name;
     for run in runs {
-        let Some(behind) = behind_run(&octets[run.at..run.at + run.len], rest) else {
+        let Some(following) = after_run(&octets[run.at..run.at + run.len], rest) else {
             return false;
         };
-        rest = behind;
+        rest = following;
     }
     rest.ends_with(last)
 }

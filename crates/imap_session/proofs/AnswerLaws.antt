@@ -16,7 +16,7 @@ use Rattle.mail_store.specs.declared.changing.StoreFault.TheVariants as refusal
 use Rattle.surrogate_cache.specs.Caching.{Asked}
 use Rattle.surrogate_cache.specs.Served.{Mode, legacy, enabled, is_enabled}
 use Rattle.session_core.specs.Acts.{Act, asked_in, asking, changes, changes_in, gives}
-use Rattle.session_core.specs.Meanings.{Meanings}
+use Rattle.session_core.specs.Oracles.{Oracles}
 use Rattle.session_core.proofs.DoneLemmas.{asked_in-acts, asked_in-append, asked_in-asking, changes_in-acts, changes_in-append, changes_in-asking}
 use Rattle.imap_grammar.specs.declared.command.Command.{Command}
 use Rattle.imap_grammar.specs.declared.command.Command.TheVariants as command
@@ -74,84 +74,84 @@ module _ (P : Step → Type 0) (tag : List ℕ) (answered : (words : List ℕ) (
   status_all state mode store items None = said_only (codes "NO no such folder") state
   status_all state mode store items (Some folder) = answered done (status_line mode store folder items) state
 
-  unauthenticated_all : (meanings : Meanings) (store : StoreState) (said : Command) → P (not_authenticated_step meanings tag store said)
-  unauthenticated_all meanings store command.Capability = common_all not_authenticated command.Capability
-  unauthenticated_all meanings store command.Noop = common_all not_authenticated command.Noop
-  unauthenticated_all meanings store command.Check = common_all not_authenticated command.Check
-  unauthenticated_all meanings store command.Logout = common_all not_authenticated command.Logout
-  unauthenticated_all meanings store (command.Login user password) = login_all (logged_in meanings.path_of store.kept user password)
-  unauthenticated_all meanings store (command.Enable words) = common_all not_authenticated (command.Enable words)
-  unauthenticated_all meanings store (command.Select written) = common_all not_authenticated (command.Select written)
-  unauthenticated_all meanings store (command.Examine written) = common_all not_authenticated (command.Examine written)
-  unauthenticated_all meanings store (command.Create written) = common_all not_authenticated (command.Create written)
-  unauthenticated_all meanings store (command.List reference pattern) = common_all not_authenticated (command.List reference pattern)
-  unauthenticated_all meanings store (command.Status written items) = common_all not_authenticated (command.Status written items)
-  unauthenticated_all meanings store (command.Append written flags date in_utf8 octets) = common_all not_authenticated (command.Append written flags date in_utf8 octets)
-  unauthenticated_all meanings store (command.Fetch by_uid set items) = common_all not_authenticated (command.Fetch by_uid set items)
-  unauthenticated_all meanings store (command.Store by_uid set op silent flags) = common_all not_authenticated (command.Store by_uid set op silent flags)
-  unauthenticated_all meanings store command.Expunge = common_all not_authenticated command.Expunge
-  unauthenticated_all meanings store command.Close = common_all not_authenticated command.Close
-  unauthenticated_all meanings store command.NotHere = common_all not_authenticated command.NotHere
+  unauthenticated_all : (oracles : Oracles) (store : StoreState) (said : Command) → P (not_authenticated_step oracles tag store said)
+  unauthenticated_all oracles store command.Capability = common_all not_authenticated command.Capability
+  unauthenticated_all oracles store command.Noop = common_all not_authenticated command.Noop
+  unauthenticated_all oracles store command.Check = common_all not_authenticated command.Check
+  unauthenticated_all oracles store command.Logout = common_all not_authenticated command.Logout
+  unauthenticated_all oracles store (command.Login user password) = login_all (logged_in oracles.path_of store.kept user password)
+  unauthenticated_all oracles store (command.Enable words) = common_all not_authenticated (command.Enable words)
+  unauthenticated_all oracles store (command.Select written) = common_all not_authenticated (command.Select written)
+  unauthenticated_all oracles store (command.Examine written) = common_all not_authenticated (command.Examine written)
+  unauthenticated_all oracles store (command.Create written) = common_all not_authenticated (command.Create written)
+  unauthenticated_all oracles store (command.List reference pattern) = common_all not_authenticated (command.List reference pattern)
+  unauthenticated_all oracles store (command.Status written items) = common_all not_authenticated (command.Status written items)
+  unauthenticated_all oracles store (command.Append written flags date in_utf8 octets) = common_all not_authenticated (command.Append written flags date in_utf8 octets)
+  unauthenticated_all oracles store (command.Fetch by_uid set items) = common_all not_authenticated (command.Fetch by_uid set items)
+  unauthenticated_all oracles store (command.Store by_uid set op silent flags) = common_all not_authenticated (command.Store by_uid set op silent flags)
+  unauthenticated_all oracles store command.Expunge = common_all not_authenticated command.Expunge
+  unauthenticated_all oracles store command.Close = common_all not_authenticated command.Close
+  unauthenticated_all oracles store command.NotHere = common_all not_authenticated command.NotHere
 
-  mailbox_all : (meanings : Meanings) (now : List ℕ) (state : State) (mode : Mode) (account : ℕ) (store : StoreState) (said : Command)
-      → (adds_to_store said ≡ true → P (mailbox_step meanings now tag state mode account store said)) → P (mailbox_step meanings now tag state mode account store said)
-  mailbox_all meanings now state mode account store command.Capability more = common_all state command.Capability
-  mailbox_all meanings now state mode account store command.Noop more = common_all state command.Noop
-  mailbox_all meanings now state mode account store command.Check more = common_all state command.Check
-  mailbox_all meanings now state mode account store command.Logout more = common_all state command.Logout
-  mailbox_all meanings now state mode account store (command.Login user password) more = common_all state (command.Login user password)
-  mailbox_all meanings now state mode account store (command.Enable words) more = common_all state (command.Enable words)
-  mailbox_all meanings now state mode account store (command.Select written) more = select_all mode account false store (folder_named meanings mode store account written)
-  mailbox_all meanings now state mode account store (command.Examine written) more = select_all mode account true store (folder_named meanings mode store account written)
-  mailbox_all meanings now state mode account store (command.Create written) more = more refl
-  mailbox_all meanings now state mode account store (command.List reference pattern) more = answered done (list_lines mode store account reference pattern) state
-  mailbox_all meanings now state mode account store (command.Status written items) more = status_all state mode store items (folder_named meanings mode store account written)
-  mailbox_all meanings now state mode account store (command.Append written flags date in_utf8 octets) more = more refl
-  mailbox_all meanings now state mode account store (command.Fetch by_uid set items) more = common_all state (command.Fetch by_uid set items)
-  mailbox_all meanings now state mode account store (command.Store by_uid set op silent flags) more = common_all state (command.Store by_uid set op silent flags)
-  mailbox_all meanings now state mode account store command.Expunge more = common_all state command.Expunge
-  mailbox_all meanings now state mode account store command.Close more = common_all state command.Close
-  mailbox_all meanings now state mode account store command.NotHere more = common_all state command.NotHere
+  mailbox_all : (oracles : Oracles) (now : List ℕ) (state : State) (mode : Mode) (account : ℕ) (store : StoreState) (said : Command)
+      → (adds_to_store said ≡ true → P (mailbox_step oracles now tag state mode account store said)) → P (mailbox_step oracles now tag state mode account store said)
+  mailbox_all oracles now state mode account store command.Capability more = common_all state command.Capability
+  mailbox_all oracles now state mode account store command.Noop more = common_all state command.Noop
+  mailbox_all oracles now state mode account store command.Check more = common_all state command.Check
+  mailbox_all oracles now state mode account store command.Logout more = common_all state command.Logout
+  mailbox_all oracles now state mode account store (command.Login user password) more = common_all state (command.Login user password)
+  mailbox_all oracles now state mode account store (command.Enable words) more = common_all state (command.Enable words)
+  mailbox_all oracles now state mode account store (command.Select written) more = select_all mode account false store (folder_named oracles mode store account written)
+  mailbox_all oracles now state mode account store (command.Examine written) more = select_all mode account true store (folder_named oracles mode store account written)
+  mailbox_all oracles now state mode account store (command.Create written) more = more refl
+  mailbox_all oracles now state mode account store (command.List reference pattern) more = answered done (list_lines mode store account reference pattern) state
+  mailbox_all oracles now state mode account store (command.Status written items) more = status_all state mode store items (folder_named oracles mode store account written)
+  mailbox_all oracles now state mode account store (command.Append written flags date in_utf8 octets) more = more refl
+  mailbox_all oracles now state mode account store (command.Fetch by_uid set items) more = common_all state (command.Fetch by_uid set items)
+  mailbox_all oracles now state mode account store (command.Store by_uid set op silent flags) more = common_all state (command.Store by_uid set op silent flags)
+  mailbox_all oracles now state mode account store command.Expunge more = common_all state command.Expunge
+  mailbox_all oracles now state mode account store command.Close more = common_all state command.Close
+  mailbox_all oracles now state mode account store command.NotHere more = common_all state command.NotHere
 
-  authenticated_all : (meanings : Meanings) (now : List ℕ) (mode : Mode) (account : ℕ) (store : StoreState) (said : Command)
-      → (adds_to_store said ≡ true → P (mailbox_step meanings now tag (authenticated mode account) mode account store said)) → P (authenticated_step meanings now tag mode account store said)
-  authenticated_all meanings now mode account store command.Capability more = mailbox_all meanings now (authenticated mode account) mode account store command.Capability more
-  authenticated_all meanings now mode account store command.Noop more = mailbox_all meanings now (authenticated mode account) mode account store command.Noop more
-  authenticated_all meanings now mode account store command.Check more = mailbox_all meanings now (authenticated mode account) mode account store command.Check more
-  authenticated_all meanings now mode account store command.Logout more = mailbox_all meanings now (authenticated mode account) mode account store command.Logout more
-  authenticated_all meanings now mode account store (command.Login user password) more = mailbox_all meanings now (authenticated mode account) mode account store (command.Login user password) more
-  authenticated_all meanings now mode account store (command.Enable words) more = enable_all mode account (asks_utf8 words)
-  authenticated_all meanings now mode account store (command.Select written) more = mailbox_all meanings now (authenticated mode account) mode account store (command.Select written) more
-  authenticated_all meanings now mode account store (command.Examine written) more = mailbox_all meanings now (authenticated mode account) mode account store (command.Examine written) more
-  authenticated_all meanings now mode account store (command.Create written) more = mailbox_all meanings now (authenticated mode account) mode account store (command.Create written) more
-  authenticated_all meanings now mode account store (command.List reference pattern) more = mailbox_all meanings now (authenticated mode account) mode account store (command.List reference pattern) more
-  authenticated_all meanings now mode account store (command.Status written items) more = mailbox_all meanings now (authenticated mode account) mode account store (command.Status written items) more
-  authenticated_all meanings now mode account store (command.Append written flags date in_utf8 octets) more = mailbox_all meanings now (authenticated mode account) mode account store (command.Append written flags date in_utf8 octets) more
-  authenticated_all meanings now mode account store (command.Fetch by_uid set items) more = mailbox_all meanings now (authenticated mode account) mode account store (command.Fetch by_uid set items) more
-  authenticated_all meanings now mode account store (command.Store by_uid set op silent flags) more = mailbox_all meanings now (authenticated mode account) mode account store (command.Store by_uid set op silent flags) more
-  authenticated_all meanings now mode account store command.Expunge more = mailbox_all meanings now (authenticated mode account) mode account store command.Expunge more
-  authenticated_all meanings now mode account store command.Close more = mailbox_all meanings now (authenticated mode account) mode account store command.Close more
-  authenticated_all meanings now mode account store command.NotHere more = mailbox_all meanings now (authenticated mode account) mode account store command.NotHere more
+  authenticated_all : (oracles : Oracles) (now : List ℕ) (mode : Mode) (account : ℕ) (store : StoreState) (said : Command)
+      → (adds_to_store said ≡ true → P (mailbox_step oracles now tag (authenticated mode account) mode account store said)) → P (authenticated_step oracles now tag mode account store said)
+  authenticated_all oracles now mode account store command.Capability more = mailbox_all oracles now (authenticated mode account) mode account store command.Capability more
+  authenticated_all oracles now mode account store command.Noop more = mailbox_all oracles now (authenticated mode account) mode account store command.Noop more
+  authenticated_all oracles now mode account store command.Check more = mailbox_all oracles now (authenticated mode account) mode account store command.Check more
+  authenticated_all oracles now mode account store command.Logout more = mailbox_all oracles now (authenticated mode account) mode account store command.Logout more
+  authenticated_all oracles now mode account store (command.Login user password) more = mailbox_all oracles now (authenticated mode account) mode account store (command.Login user password) more
+  authenticated_all oracles now mode account store (command.Enable words) more = enable_all mode account (asks_utf8 words)
+  authenticated_all oracles now mode account store (command.Select written) more = mailbox_all oracles now (authenticated mode account) mode account store (command.Select written) more
+  authenticated_all oracles now mode account store (command.Examine written) more = mailbox_all oracles now (authenticated mode account) mode account store (command.Examine written) more
+  authenticated_all oracles now mode account store (command.Create written) more = mailbox_all oracles now (authenticated mode account) mode account store (command.Create written) more
+  authenticated_all oracles now mode account store (command.List reference pattern) more = mailbox_all oracles now (authenticated mode account) mode account store (command.List reference pattern) more
+  authenticated_all oracles now mode account store (command.Status written items) more = mailbox_all oracles now (authenticated mode account) mode account store (command.Status written items) more
+  authenticated_all oracles now mode account store (command.Append written flags date in_utf8 octets) more = mailbox_all oracles now (authenticated mode account) mode account store (command.Append written flags date in_utf8 octets) more
+  authenticated_all oracles now mode account store (command.Fetch by_uid set items) more = mailbox_all oracles now (authenticated mode account) mode account store (command.Fetch by_uid set items) more
+  authenticated_all oracles now mode account store (command.Store by_uid set op silent flags) more = mailbox_all oracles now (authenticated mode account) mode account store (command.Store by_uid set op silent flags) more
+  authenticated_all oracles now mode account store command.Expunge more = mailbox_all oracles now (authenticated mode account) mode account store command.Expunge more
+  authenticated_all oracles now mode account store command.Close more = mailbox_all oracles now (authenticated mode account) mode account store command.Close more
+  authenticated_all oracles now mode account store command.NotHere more = mailbox_all oracles now (authenticated mode account) mode account store command.NotHere more
 
-  selected_all : (meanings : Meanings) (now : List ℕ) (mode : Mode) (account folder : ℕ) (read_only : Bool) (store : StoreState) (said : Command)
-      → (changes_store said ≡ true → P (selected_step meanings now tag mode account folder read_only store said)) → P (selected_step meanings now tag mode account folder read_only store said)
-  selected_all meanings now mode account folder read_only store command.Capability more = mailbox_all meanings now (selected mode account folder read_only) mode account store command.Capability more
-  selected_all meanings now mode account folder read_only store command.Noop more = mailbox_all meanings now (selected mode account folder read_only) mode account store command.Noop more
-  selected_all meanings now mode account folder read_only store command.Check more = said_only done (selected mode account folder read_only)
-  selected_all meanings now mode account folder read_only store command.Logout more = mailbox_all meanings now (selected mode account folder read_only) mode account store command.Logout more
-  selected_all meanings now mode account folder read_only store (command.Login user password) more = mailbox_all meanings now (selected mode account folder read_only) mode account store (command.Login user password) more
-  selected_all meanings now mode account folder read_only store (command.Enable words) more = mailbox_all meanings now (selected mode account folder read_only) mode account store (command.Enable words) more
-  selected_all meanings now mode account folder read_only store (command.Select written) more = mailbox_all meanings now (selected mode account folder read_only) mode account store (command.Select written) more
-  selected_all meanings now mode account folder read_only store (command.Examine written) more = mailbox_all meanings now (selected mode account folder read_only) mode account store (command.Examine written) more
-  selected_all meanings now mode account folder read_only store (command.Create written) more = more refl
-  selected_all meanings now mode account folder read_only store (command.List reference pattern) more = mailbox_all meanings now (selected mode account folder read_only) mode account store (command.List reference pattern) more
-  selected_all meanings now mode account folder read_only store (command.Status written items) more = mailbox_all meanings now (selected mode account folder read_only) mode account store (command.Status written items) more
-  selected_all meanings now mode account folder read_only store (command.Append written flags date in_utf8 octets) more = more refl
-  selected_all meanings now mode account folder read_only store (command.Fetch by_uid set items) more = more refl
-  selected_all meanings now mode account folder read_only store (command.Store by_uid set op silent flags) more = more refl
-  selected_all meanings now mode account folder read_only store command.Expunge more = more refl
-  selected_all meanings now mode account folder read_only store command.Close more = more refl
-  selected_all meanings now mode account folder read_only store command.NotHere more = mailbox_all meanings now (selected mode account folder read_only) mode account store command.NotHere more
+  selected_all : (oracles : Oracles) (now : List ℕ) (mode : Mode) (account folder : ℕ) (read_only : Bool) (store : StoreState) (said : Command)
+      → (changes_store said ≡ true → P (selected_step oracles now tag mode account folder read_only store said)) → P (selected_step oracles now tag mode account folder read_only store said)
+  selected_all oracles now mode account folder read_only store command.Capability more = mailbox_all oracles now (selected mode account folder read_only) mode account store command.Capability more
+  selected_all oracles now mode account folder read_only store command.Noop more = mailbox_all oracles now (selected mode account folder read_only) mode account store command.Noop more
+  selected_all oracles now mode account folder read_only store command.Check more = said_only done (selected mode account folder read_only)
+  selected_all oracles now mode account folder read_only store command.Logout more = mailbox_all oracles now (selected mode account folder read_only) mode account store command.Logout more
+  selected_all oracles now mode account folder read_only store (command.Login user password) more = mailbox_all oracles now (selected mode account folder read_only) mode account store (command.Login user password) more
+  selected_all oracles now mode account folder read_only store (command.Enable words) more = mailbox_all oracles now (selected mode account folder read_only) mode account store (command.Enable words) more
+  selected_all oracles now mode account folder read_only store (command.Select written) more = mailbox_all oracles now (selected mode account folder read_only) mode account store (command.Select written) more
+  selected_all oracles now mode account folder read_only store (command.Examine written) more = mailbox_all oracles now (selected mode account folder read_only) mode account store (command.Examine written) more
+  selected_all oracles now mode account folder read_only store (command.Create written) more = more refl
+  selected_all oracles now mode account folder read_only store (command.List reference pattern) more = mailbox_all oracles now (selected mode account folder read_only) mode account store (command.List reference pattern) more
+  selected_all oracles now mode account folder read_only store (command.Status written items) more = mailbox_all oracles now (selected mode account folder read_only) mode account store (command.Status written items) more
+  selected_all oracles now mode account folder read_only store (command.Append written flags date in_utf8 octets) more = more refl
+  selected_all oracles now mode account folder read_only store (command.Fetch by_uid set items) more = more refl
+  selected_all oracles now mode account folder read_only store (command.Store by_uid set op silent flags) more = more refl
+  selected_all oracles now mode account folder read_only store command.Expunge more = more refl
+  selected_all oracles now mode account folder read_only store command.Close more = more refl
+  selected_all oracles now mode account folder read_only store command.NotHere more = mailbox_all oracles now (selected mode account folder read_only) mode account store command.NotHere more
 
 -- ---- what changes nothing
 
@@ -186,18 +186,18 @@ adds_quiet command.Expunge other = refl
 adds_quiet command.Close other = refl
 adds_quiet command.NotHere other = refl
 
-pub others_quiet : (meanings : Meanings) (now tag : List ℕ) (state : State) (store : StoreState) (said : Command) → changes_store said ≡ false → changes_in (step meanings now state store tag said).acts ≡ []
+pub others_quiet : (oracles : Oracles) (now tag : List ℕ) (state : State) (store : StoreState) (said : Command) → changes_store said ≡ false → changes_in (step oracles now state store tag said).acts ≡ []
 unfolding step
-others_quiet meanings now tag not_authenticated store said other = unauthenticated_all IsQuiet tag (answers_quiet tag) meanings store said
-others_quiet meanings now tag (authenticated mode account) store said other =
-    authenticated_all IsQuiet tag (answers_quiet tag) meanings now mode account store said (none_true (adds_to_store said) (adds_quiet said other))
-others_quiet meanings now tag (selected mode account folder read_only) store said other =
-    selected_all IsQuiet tag (answers_quiet tag) meanings now mode account folder read_only store said (none_true (changes_store said) other)
-others_quiet meanings now tag ended store said other = refl
+others_quiet oracles now tag not_authenticated store said other = unauthenticated_all IsQuiet tag (answers_quiet tag) oracles store said
+others_quiet oracles now tag (authenticated mode account) store said other =
+    authenticated_all IsQuiet tag (answers_quiet tag) oracles now mode account store said (none_true (adds_to_store said) (adds_quiet said other))
+others_quiet oracles now tag (selected mode account folder read_only) store said other =
+    selected_all IsQuiet tag (answers_quiet tag) oracles now mode account folder read_only store said (none_true (changes_store said) other)
+others_quiet oracles now tag ended store said other = refl
 
-pub before_quiet : (meanings : Meanings) (now tag : List ℕ) (store : StoreState) (said : Command) → changes_in (step meanings now not_authenticated store tag said).acts ≡ []
+pub before_quiet : (oracles : Oracles) (now tag : List ℕ) (store : StoreState) (said : Command) → changes_in (step oracles now not_authenticated store tag said).acts ≡ []
 unfolding step
-before_quiet meanings now tag store said = unauthenticated_all IsQuiet tag (answers_quiet tag) meanings store said
+before_quiet oracles now tag store said = unauthenticated_all IsQuiet tag (answers_quiet tag) oracles store said
 
 -- ---- what is read only
 
@@ -218,34 +218,34 @@ each_step_quiet tag state by_uid set kept act quiet =
     quiet_if (is_refused by_uid set kept) (no_such_message tag state) (ends_with tag done (flat_map act (chosen by_uid set kept)) state) refl
     (ends_quiet tag done (flat_map act (chosen by_uid set kept)) state (each_quiet act quiet (chosen by_uid set kept)))
 
-examined_all : (meanings : Meanings) (now tag : List ℕ) (mode : Mode) (account folder : ℕ) (store : StoreState) (said : Command) → adds_to_store said ≡ false → changes_store said ≡ true
-    → IsQuiet (selected_step meanings now tag mode account folder true store said)
-examined_all meanings now tag mode account folder store command.Capability other is = absurd cc
-examined_all meanings now tag mode account folder store command.Noop other is = absurd cc
-examined_all meanings now tag mode account folder store command.Check other is = absurd cc
-examined_all meanings now tag mode account folder store command.Logout other is = absurd cc
-examined_all meanings now tag mode account folder store (command.Login user password) other is = absurd cc
-examined_all meanings now tag mode account folder store (command.Enable words) other is = absurd cc
-examined_all meanings now tag mode account folder store (command.Select written) other is = absurd cc
-examined_all meanings now tag mode account folder store (command.Examine written) other is = absurd cc
-examined_all meanings now tag mode account folder store (command.Create written) other is = absurd cc
-examined_all meanings now tag mode account folder store (command.List reference pattern) other is = absurd cc
-examined_all meanings now tag mode account folder store (command.Status written items) other is = absurd cc
-examined_all meanings now tag mode account folder store (command.Append written flags date in_utf8 octets) other is = absurd cc
-examined_all meanings now tag mode account folder store (command.Fetch by_uid set items) other is =
-    each_step_quiet tag (selected mode account folder true) by_uid set (listed store.kept folder) (fetch_one meanings mode store by_uid true items)
-    (λ one. changes_in-asking (asked_of mode store items one.listed.id) (reply (fetch_reply meanings mode store one.number one.listed (with_uid by_uid items)))
-    ∙ reply_quiet (fetch_reply meanings mode store one.number one.listed (with_uid by_uid items)))
-examined_all meanings now tag mode account folder store (command.Store by_uid set op silent flags) other is = refl
-examined_all meanings now tag mode account folder store command.Expunge other is = refl
-examined_all meanings now tag mode account folder store command.Close other is = refl
-examined_all meanings now tag mode account folder store command.NotHere other is = absurd cc
+examined_all : (oracles : Oracles) (now tag : List ℕ) (mode : Mode) (account folder : ℕ) (store : StoreState) (said : Command) → adds_to_store said ≡ false → changes_store said ≡ true
+    → IsQuiet (selected_step oracles now tag mode account folder true store said)
+examined_all oracles now tag mode account folder store command.Capability other is = absurd cc
+examined_all oracles now tag mode account folder store command.Noop other is = absurd cc
+examined_all oracles now tag mode account folder store command.Check other is = absurd cc
+examined_all oracles now tag mode account folder store command.Logout other is = absurd cc
+examined_all oracles now tag mode account folder store (command.Login user password) other is = absurd cc
+examined_all oracles now tag mode account folder store (command.Enable words) other is = absurd cc
+examined_all oracles now tag mode account folder store (command.Select written) other is = absurd cc
+examined_all oracles now tag mode account folder store (command.Examine written) other is = absurd cc
+examined_all oracles now tag mode account folder store (command.Create written) other is = absurd cc
+examined_all oracles now tag mode account folder store (command.List reference pattern) other is = absurd cc
+examined_all oracles now tag mode account folder store (command.Status written items) other is = absurd cc
+examined_all oracles now tag mode account folder store (command.Append written flags date in_utf8 octets) other is = absurd cc
+examined_all oracles now tag mode account folder store (command.Fetch by_uid set items) other is =
+    each_step_quiet tag (selected mode account folder true) by_uid set (listed store.kept folder) (fetch_one oracles mode store by_uid true items)
+    (λ one. changes_in-asking (asked_of mode store items one.listed.id) (reply (fetch_reply oracles mode store one.number one.listed (with_uid by_uid items)))
+    ∙ reply_quiet (fetch_reply oracles mode store one.number one.listed (with_uid by_uid items)))
+examined_all oracles now tag mode account folder store (command.Store by_uid set op silent flags) other is = refl
+examined_all oracles now tag mode account folder store command.Expunge other is = refl
+examined_all oracles now tag mode account folder store command.Close other is = refl
+examined_all oracles now tag mode account folder store command.NotHere other is = absurd cc
 
-pub examined_quiet : (meanings : Meanings) (now tag : List ℕ) (mode : Mode) (account folder : ℕ) (store : StoreState) (said : Command) → adds_to_store said ≡ false
-    → changes_in (step meanings now (selected mode account folder true) store tag said).acts ≡ []
+pub examined_quiet : (oracles : Oracles) (now tag : List ℕ) (mode : Mode) (account folder : ℕ) (store : StoreState) (said : Command) → adds_to_store said ≡ false
+    → changes_in (step oracles now (selected mode account folder true) store tag said).acts ≡ []
 unfolding step
-examined_quiet meanings now tag mode account folder store said other =
-    selected_all IsQuiet tag (answers_quiet tag) meanings now mode account folder true store said (examined_all meanings now tag mode account folder store said other)
+examined_quiet oracles now tag mode account folder store said other =
+    selected_all IsQuiet tag (answers_quiet tag) oracles now mode account folder true store said (examined_all oracles now tag mode account folder store said other)
 
 -- ---- commands that may change the store
 
@@ -305,37 +305,37 @@ module _ (P : Step → Type 0) (tag : List ℕ) (ended_by : (words : List ℕ) (
       let told = exists_lines opened (after_record kept made) folder in ended_by done (changes (made ∷ []) ∷ reply told) state (reply_unasked told)
   put_by state opened kept folder made (Some other) = answers_by (codes "NO too large") [] state
 
-  append_all : (meanings : Meanings) (state : State) (opened : Option ℕ) (mode : Mode) (store : StoreState) (flags : ℕ) (date : List ℕ) (in_utf8 : Bool) (octets : List ℕ) (found : Option ℕ)
-      → P (append_in meanings tag state opened mode store flags date in_utf8 octets found)
-  append_all meanings state opened mode store flags date in_utf8 octets None = answers_by (codes "NO no such folder") [] state
-  append_all meanings state opened mode store flags date in_utf8 octets (Some folder) =
+  append_all : (oracles : Oracles) (state : State) (opened : Option ℕ) (mode : Mode) (store : StoreState) (flags : ℕ) (date : List ℕ) (in_utf8 : Bool) (octets : List ℕ) (found : Option ℕ)
+      → P (append_in oracles tag state opened mode store flags date in_utf8 octets found)
+  append_all oracles state opened mode store flags date in_utf8 octets None = answers_by (codes "NO no such folder") [] state
+  append_all oracles state opened mode store flags date in_utf8 octets (Some folder) =
       let whole = completed octets in
       let unless : Option StoreFault → Step = append_unless tag state opened store.kept folder (appended folder flags date whole) in
       let without : Step = says tag (codes "NO not a message") state in
-      either_by (in_utf8 && not (is_enabled mode)) (says tag (codes "NO not enabled") state) (if meanings.has_tree whole then unless (append_refusal store whole) else without)
+      either_by (in_utf8 && not (is_enabled mode)) (says tag (codes "NO not enabled") state) (if oracles.has_tree whole then unless (append_refusal store whole) else without)
       (answers_by (codes "NO not enabled") [] state)
-      (either_by (meanings.has_tree whole) (unless (append_refusal store whole)) without (put_by state opened store.kept folder (appended folder flags date whole) (append_refusal store whole)) (answers_by (codes "NO not a message") [] state))
+      (either_by (oracles.has_tree whole) (unless (append_refusal store whole)) without (put_by state opened store.kept folder (appended folder flags date whole) (append_refusal store whole)) (answers_by (codes "NO not a message") [] state))
 
-  added_all : (meanings : Meanings) (now : List ℕ) (state : State) (mode : Mode) (account : ℕ) (store : StoreState) (said : Command) → adds_to_store said ≡ true
-      → P (mailbox_step meanings now tag state mode account store said)
-  added_all meanings now state mode account store command.Capability is = absurd cc
-  added_all meanings now state mode account store command.Noop is = absurd cc
-  added_all meanings now state mode account store command.Check is = absurd cc
-  added_all meanings now state mode account store command.Logout is = absurd cc
-  added_all meanings now state mode account store (command.Login user password) is = absurd cc
-  added_all meanings now state mode account store (command.Enable words) is = absurd cc
-  added_all meanings now state mode account store (command.Select written) is = absurd cc
-  added_all meanings now state mode account store (command.Examine written) is = absurd cc
-  added_all meanings now state mode account store (command.Create written) is = create_all state account store (meanings.name_of (is_enabled mode) written)
-  added_all meanings now state mode account store (command.List reference pattern) is = absurd cc
-  added_all meanings now state mode account store (command.Status written items) is = absurd cc
-  added_all meanings now state mode account store (command.Append written flags date in_utf8 octets) is =
-      append_all meanings state (opened_in state) mode store flags (date_or now date) in_utf8 octets (folder_named meanings mode store account written)
-  added_all meanings now state mode account store (command.Fetch by_uid set items) is = absurd cc
-  added_all meanings now state mode account store (command.Store by_uid set op silent flags) is = absurd cc
-  added_all meanings now state mode account store command.Expunge is = absurd cc
-  added_all meanings now state mode account store command.Close is = absurd cc
-  added_all meanings now state mode account store command.NotHere is = absurd cc
+  added_all : (oracles : Oracles) (now : List ℕ) (state : State) (mode : Mode) (account : ℕ) (store : StoreState) (said : Command) → adds_to_store said ≡ true
+      → P (mailbox_step oracles now tag state mode account store said)
+  added_all oracles now state mode account store command.Capability is = absurd cc
+  added_all oracles now state mode account store command.Noop is = absurd cc
+  added_all oracles now state mode account store command.Check is = absurd cc
+  added_all oracles now state mode account store command.Logout is = absurd cc
+  added_all oracles now state mode account store (command.Login user password) is = absurd cc
+  added_all oracles now state mode account store (command.Enable words) is = absurd cc
+  added_all oracles now state mode account store (command.Select written) is = absurd cc
+  added_all oracles now state mode account store (command.Examine written) is = absurd cc
+  added_all oracles now state mode account store (command.Create written) is = create_all state account store (oracles.name_of (is_enabled mode) written)
+  added_all oracles now state mode account store (command.List reference pattern) is = absurd cc
+  added_all oracles now state mode account store (command.Status written items) is = absurd cc
+  added_all oracles now state mode account store (command.Append written flags date in_utf8 octets) is =
+      append_all oracles state (opened_in state) mode store flags (date_or now date) in_utf8 octets (folder_named oracles mode store account written)
+  added_all oracles now state mode account store (command.Fetch by_uid set items) is = absurd cc
+  added_all oracles now state mode account store (command.Store by_uid set op silent flags) is = absurd cc
+  added_all oracles now state mode account store command.Expunge is = absurd cc
+  added_all oracles now state mode account store command.Close is = absurd cc
+  added_all oracles now state mode account store command.NotHere is = absurd cc
 
   stored_unasked : (by_uid silent : Bool) (op : StoreOp) (named : ℕ) (one : Numbered) → asked_in (store_one by_uid silent op named one) ≡ []
   stored_unasked by_uid silent op named one = reply_unasked (flags_reply by_uid silent one (stored_flags op one.listed.flags named))
@@ -355,30 +355,30 @@ module _ (P : Step → Type 0) (tag : List ℕ) (ended_by : (words : List ℕ) (
       either_by read_only (refused_as_read_only tag state) (ends_with tag done (gone ++ reply told) state) (answers_by (codes "NO read only") [] state)
       (ended_by done (gone ++ reply told) state (asked_in-append gone (reply told) ∙ rw (taken_unasked (deleted_ids messages), reply_unasked told) refl))
 
-  changed_all : (meanings : Meanings) (now : List ℕ) (mode : Mode) (account folder : ℕ) (read_only : Bool) (store : StoreState) (said : Command) → changes_store said ≡ true
-      → ((by_uid : Bool) (set : Set) (items : List FetchItem) → said ≡ command.Fetch by_uid set items → P (fetch_step meanings tag (selected mode account folder read_only) mode folder read_only store by_uid set items))
-      → P (selected_step meanings now tag mode account folder read_only store said)
-  changed_all meanings now mode account folder read_only store command.Capability is fetched = absurd cc
-  changed_all meanings now mode account folder read_only store command.Noop is fetched = absurd cc
-  changed_all meanings now mode account folder read_only store command.Check is fetched = absurd cc
-  changed_all meanings now mode account folder read_only store command.Logout is fetched = absurd cc
-  changed_all meanings now mode account folder read_only store (command.Login user password) is fetched = absurd cc
-  changed_all meanings now mode account folder read_only store (command.Enable words) is fetched = absurd cc
-  changed_all meanings now mode account folder read_only store (command.Select written) is fetched = absurd cc
-  changed_all meanings now mode account folder read_only store (command.Examine written) is fetched = absurd cc
-  changed_all meanings now mode account folder read_only store (command.Create written) is fetched =
-      added_all meanings now (selected mode account folder read_only) mode account store (command.Create written) refl
-  changed_all meanings now mode account folder read_only store (command.List reference pattern) is fetched = absurd cc
-  changed_all meanings now mode account folder read_only store (command.Status written items) is fetched = absurd cc
-  changed_all meanings now mode account folder read_only store (command.Append written flags date in_utf8 octets) is fetched =
-      added_all meanings now (selected mode account folder read_only) mode account store (command.Append written flags date in_utf8 octets) refl
-  changed_all meanings now mode account folder read_only store (command.Fetch by_uid set items) is fetched = fetched by_uid set items refl
-  changed_all meanings now mode account folder read_only store (command.Store by_uid set op silent flags) is fetched =
+  changed_all : (oracles : Oracles) (now : List ℕ) (mode : Mode) (account folder : ℕ) (read_only : Bool) (store : StoreState) (said : Command) → changes_store said ≡ true
+      → ((by_uid : Bool) (set : Set) (items : List FetchItem) → said ≡ command.Fetch by_uid set items → P (fetch_step oracles tag (selected mode account folder read_only) mode folder read_only store by_uid set items))
+      → P (selected_step oracles now tag mode account folder read_only store said)
+  changed_all oracles now mode account folder read_only store command.Capability is fetched = absurd cc
+  changed_all oracles now mode account folder read_only store command.Noop is fetched = absurd cc
+  changed_all oracles now mode account folder read_only store command.Check is fetched = absurd cc
+  changed_all oracles now mode account folder read_only store command.Logout is fetched = absurd cc
+  changed_all oracles now mode account folder read_only store (command.Login user password) is fetched = absurd cc
+  changed_all oracles now mode account folder read_only store (command.Enable words) is fetched = absurd cc
+  changed_all oracles now mode account folder read_only store (command.Select written) is fetched = absurd cc
+  changed_all oracles now mode account folder read_only store (command.Examine written) is fetched = absurd cc
+  changed_all oracles now mode account folder read_only store (command.Create written) is fetched =
+      added_all oracles now (selected mode account folder read_only) mode account store (command.Create written) refl
+  changed_all oracles now mode account folder read_only store (command.List reference pattern) is fetched = absurd cc
+  changed_all oracles now mode account folder read_only store (command.Status written items) is fetched = absurd cc
+  changed_all oracles now mode account folder read_only store (command.Append written flags date in_utf8 octets) is fetched =
+      added_all oracles now (selected mode account folder read_only) mode account store (command.Append written flags date in_utf8 octets) refl
+  changed_all oracles now mode account folder read_only store (command.Fetch by_uid set items) is fetched = fetched by_uid set items refl
+  changed_all oracles now mode account folder read_only store (command.Store by_uid set op silent flags) is fetched =
       store_all (selected mode account folder read_only) folder read_only store by_uid set op silent flags
-  changed_all meanings now mode account folder read_only store command.Expunge is fetched = expunge_all (selected mode account folder read_only) read_only (listed store.kept folder)
-  changed_all meanings now mode account folder read_only store command.Close is fetched =
+  changed_all oracles now mode account folder read_only store command.Expunge is fetched = expunge_all (selected mode account folder read_only) read_only (listed store.kept folder)
+  changed_all oracles now mode account folder read_only store command.Close is fetched =
       ended_by done (if read_only then [] else taken_out (deleted_ids (listed store.kept folder))) (authenticated mode account) (closed_unasked read_only (deleted_ids (listed store.kept folder)))
-  changed_all meanings now mode account folder read_only store command.NotHere is fetched = absurd cc
+  changed_all oracles now mode account folder read_only store command.NotHere is fetched = absurd cc
 
 -- ---- the line that ends the replies
 
@@ -392,23 +392,23 @@ answers_tagged tag words parts state = ends_tagged tag words (reply parts) state
 any_tagged : (tag words : List ℕ) (acts : List (Act ReplyPart)) (state : State) → asked_in acts ≡ [] → EndsTagged tag (ends_with tag words acts state)
 any_tagged tag words acts state unasked = ends_tagged tag words acts state
 
-fetch_tagged : (meanings : Meanings) (tag : List ℕ) (state : State) (mode : Mode) (folder : ℕ) (read_only : Bool) (store : StoreState) (by_uid : Bool) (set : Set) (items : List FetchItem)
-    → EndsTagged tag (fetch_step meanings tag state mode folder read_only store by_uid set items)
-fetch_tagged meanings tag state mode folder read_only store by_uid set items =
-    let acts = flat_map (fetch_one meanings mode store by_uid read_only items) (chosen by_uid set (listed store.kept folder)) in
+fetch_tagged : (oracles : Oracles) (tag : List ℕ) (state : State) (mode : Mode) (folder : ℕ) (read_only : Bool) (store : StoreState) (by_uid : Bool) (set : Set) (items : List FetchItem)
+    → EndsTagged tag (fetch_step oracles tag state mode folder read_only store by_uid set items)
+fetch_tagged oracles tag state mode folder read_only store by_uid set items =
+    let acts = flat_map (fetch_one oracles mode store by_uid read_only items) (chosen by_uid set (listed store.kept folder)) in
     either_by (EndsTagged tag) tag (any_tagged tag) (is_refused by_uid set (listed store.kept folder)) (no_such_message tag state) (ends_with tag done acts state)
     (answers_tagged tag (codes "BAD no such message") [] state) (ends_tagged tag done acts state)
 
-pub step_tagged : (meanings : Meanings) (now tag : List ℕ) (state : State) (store : StoreState) (said : Command) → ¬ (state ≡ ended) → EndsTagged tag (step meanings now state store tag said)
+pub step_tagged : (oracles : Oracles) (now tag : List ℕ) (state : State) (store : StoreState) (said : Command) → ¬ (state ≡ ended) → EndsTagged tag (step oracles now state store tag said)
 unfolding step
-step_tagged meanings now tag not_authenticated store said goes = unauthenticated_all (EndsTagged tag) tag (answers_tagged tag) meanings store said
-step_tagged meanings now tag (authenticated mode account) store said goes =
-    authenticated_all (EndsTagged tag) tag (answers_tagged tag) meanings now mode account store said (added_all (EndsTagged tag) tag (any_tagged tag) meanings now (authenticated mode account) mode account store said)
-step_tagged meanings now tag (selected mode account folder read_only) store said goes =
-    selected_all (EndsTagged tag) tag (answers_tagged tag) meanings now mode account folder read_only store said (λ changes_it.
-    changed_all (EndsTagged tag) tag (any_tagged tag) meanings now mode account folder read_only store said changes_it
-    (λ by_uid set items is. fetch_tagged meanings tag (selected mode account folder read_only) mode folder read_only store by_uid set items))
-step_tagged meanings now tag ended store said goes = absurd (goes refl)
+step_tagged oracles now tag not_authenticated store said goes = unauthenticated_all (EndsTagged tag) tag (answers_tagged tag) oracles store said
+step_tagged oracles now tag (authenticated mode account) store said goes =
+    authenticated_all (EndsTagged tag) tag (answers_tagged tag) oracles now mode account store said (added_all (EndsTagged tag) tag (any_tagged tag) oracles now (authenticated mode account) mode account store said)
+step_tagged oracles now tag (selected mode account folder read_only) store said goes =
+    selected_all (EndsTagged tag) tag (answers_tagged tag) oracles now mode account folder read_only store said (λ changes_it.
+    changed_all (EndsTagged tag) tag (any_tagged tag) oracles now mode account folder read_only store said changes_it
+    (λ by_uid set items is. fetch_tagged oracles tag (selected mode account folder read_only) mode folder read_only store by_uid set items))
+step_tagged oracles now tag ended store said goes = absurd (goes refl)
 
 -- ---- what asks the cache
 
@@ -422,63 +422,63 @@ answers_unasked : (tag words : List ℕ) (parts : List ReplyPart) (state : State
 answers_unasked tag words parts state = ends_unasked tag words (reply parts) state (reply_unasked parts)
 
 -- a step asks for nothing, if it is no FETCH that does
-unasked_unless : (meanings : Meanings) (now tag : List ℕ) (state : State) (store : StoreState) (said : Command)
+unasked_unless : (oracles : Oracles) (now tag : List ℕ) (state : State) (store : StoreState) (said : Command)
     → ((mode : Mode) (account folder : ℕ) (read_only by_uid : Bool) (set : Set) (items : List FetchItem) → state ≡ selected mode account folder read_only → said ≡ command.Fetch by_uid set items
-    → IsUnasked (fetch_step meanings tag state mode folder read_only store by_uid set items)) → asked_in (step meanings now state store tag said).acts ≡ []
+    → IsUnasked (fetch_step oracles tag state mode folder read_only store by_uid set items)) → asked_in (step oracles now state store tag said).acts ≡ []
 unfolding step
-unasked_unless meanings now tag not_authenticated store said fetched = unauthenticated_all IsUnasked tag (answers_unasked tag) meanings store said
-unasked_unless meanings now tag (authenticated mode account) store said fetched =
-    authenticated_all IsUnasked tag (answers_unasked tag) meanings now mode account store said (added_all IsUnasked tag (ends_unasked tag) meanings now (authenticated mode account) mode account store said)
-unasked_unless meanings now tag (selected mode account folder read_only) store said fetched =
-    selected_all IsUnasked tag (answers_unasked tag) meanings now mode account folder read_only store said (λ changes_it.
-    changed_all IsUnasked tag (ends_unasked tag) meanings now mode account folder read_only store said changes_it (λ by_uid set items is. fetched mode account folder read_only by_uid set items refl is))
-unasked_unless meanings now tag ended store said fetched = refl
+unasked_unless oracles now tag not_authenticated store said fetched = unauthenticated_all IsUnasked tag (answers_unasked tag) oracles store said
+unasked_unless oracles now tag (authenticated mode account) store said fetched =
+    authenticated_all IsUnasked tag (answers_unasked tag) oracles now mode account store said (added_all IsUnasked tag (ends_unasked tag) oracles now (authenticated mode account) mode account store said)
+unasked_unless oracles now tag (selected mode account folder read_only) store said fetched =
+    selected_all IsUnasked tag (answers_unasked tag) oracles now mode account folder read_only store said (λ changes_it.
+    changed_all IsUnasked tag (ends_unasked tag) oracles now mode account folder read_only store said changes_it (λ by_uid set items is. fetched mode account folder read_only by_uid set items refl is))
+unasked_unless oracles now tag ended store said fetched = refl
 
-pub others_unasked : (meanings : Meanings) (now tag : List ℕ) (state : State) (store : StoreState) (said : Command) → is_fetch said ≡ false → asked_in (step meanings now state store tag said).acts ≡ []
-others_unasked meanings now tag state store said other =
-    unasked_unless meanings now tag state store said (λ mode account folder read_only by_uid set items at is. none_true (is_fetch said) other (ap is_fetch is))
+pub others_unasked : (oracles : Oracles) (now tag : List ℕ) (state : State) (store : StoreState) (said : Command) → is_fetch said ≡ false → asked_in (step oracles now state store tag said).acts ≡ []
+others_unasked oracles now tag state store said other =
+    unasked_unless oracles now tag state store said (λ mode account folder read_only by_uid set items at is. none_true (is_fetch said) other (ap is_fetch is))
 
 -- one message is asked for where it is told
-one_asked : (meanings : Meanings) (mode : Mode) (store : StoreState) (by_uid read_only : Bool) (items : List FetchItem) (one : Numbered)
-    → asked_in (fetch_one meanings mode store by_uid read_only items one) ≡ asked_of mode store items one.listed.id
-one_asked meanings mode store by_uid read_only items one =
+one_asked : (oracles : Oracles) (mode : Mode) (store : StoreState) (by_uid read_only : Bool) (items : List FetchItem) (one : Numbered)
+    → asked_in (fetch_one oracles mode store by_uid read_only items one) ≡ asked_of mode store items one.listed.id
+one_asked oracles mode store by_uid read_only items one =
     let asked = asked_of mode store items one.listed.id in
-    let told : (is : Listed) (changed : Bool) → asked_in (asking asked (reply (fetch_reply meanings mode store one.number is (with_flags changed (with_uid by_uid items))))) ≡ asked = λ is changed.
-    (let parts = fetch_reply meanings mode store one.number is (with_flags changed (with_uid by_uid items)) in
+    let told : (is : Listed) (changed : Bool) → asked_in (asking asked (reply (fetch_reply oracles mode store one.number is (with_flags changed (with_uid by_uid items))))) ≡ asked = λ is changed.
+    (let parts = fetch_reply oracles mode store one.number is (with_flags changed (with_uid by_uid items)) in
     asked_in-asking asked (reply parts) ∙ (ap (λ (l : List Asked). asked ++ l) (reply_unasked parts) ∙ append-nil asked)) in
-    cond_both (becomes_seen read_only items one.listed) (changes (flags_change one.listed (seen one.listed).flags) ∷ fetch_told meanings mode store by_uid items one.number (seen one.listed) true)
-    (fetch_told meanings mode store by_uid items one.number one.listed false) (λ z. asked_in z ≡ asked) (λ _. told (seen one.listed) true) (λ _. told one.listed false)
+    cond_both (becomes_seen read_only items one.listed) (changes (flags_change one.listed (seen one.listed).flags) ∷ fetch_told oracles mode store by_uid items one.number (seen one.listed) true)
+    (fetch_told oracles mode store by_uid items one.number one.listed false) (λ z. asked_in z ≡ asked) (λ _. told (seen one.listed) true) (λ _. told one.listed false)
 
 -- a FETCH asks for nothing where it asks for none of the messages, or names one that isn't there
-fetch_unasked : (meanings : Meanings) (tag : List ℕ) (state : State) (mode : Mode) (folder : ℕ) (read_only : Bool) (store : StoreState) (by_uid : Bool) (set : Set) (items : List FetchItem)
-    → ((id : ℕ) → asked_of mode store items id ≡ []) → IsUnasked (fetch_step meanings tag state mode folder read_only store by_uid set items)
-fetch_unasked meanings tag state mode folder read_only store by_uid set items none =
-    let act = fetch_one meanings mode store by_uid read_only items in
+fetch_unasked : (oracles : Oracles) (tag : List ℕ) (state : State) (mode : Mode) (folder : ℕ) (read_only : Bool) (store : StoreState) (by_uid : Bool) (set : Set) (items : List FetchItem)
+    → ((id : ℕ) → asked_of mode store items id ≡ []) → IsUnasked (fetch_step oracles tag state mode folder read_only store by_uid set items)
+fetch_unasked oracles tag state mode folder read_only store by_uid set items none =
+    let act = fetch_one oracles mode store by_uid read_only items in
     each_by IsUnasked tag (ends_unasked tag) state by_uid set (listed store.kept folder) act
-    (each_unasked act (λ one. one_asked meanings mode store by_uid read_only items one ∙ none one.listed.id) (chosen by_uid set (listed store.kept folder)))
+    (each_unasked act (λ one. one_asked oracles mode store by_uid read_only items one ∙ none one.listed.id) (chosen by_uid set (listed store.kept folder)))
 
 none_enabled : (store : StoreState) (items : List FetchItem) (mode : Mode) → mode ≡ enabled → (id : ℕ) → asked_of mode store items id ≡ []
 none_enabled store items legacy is id = absurd cc
 none_enabled store items enabled is id = cond_both (list_any is_of_message items) [] [] (λ (l : List Asked). l ≡ []) (λ _. refl) (λ _. refl)
 
-pub enabled_unasked : (meanings : Meanings) (now tag : List ℕ) (state : State) (store : StoreState) (said : Command) → mode_of state ≡ enabled → asked_in (step meanings now state store tag said).acts ≡ []
-enabled_unasked meanings now tag state store said is =
-    unasked_unless meanings now tag state store said (λ mode account folder read_only by_uid set items at fetches.
-    fetch_unasked meanings tag state mode folder read_only store by_uid set items (none_enabled store items mode (sym (ap mode_of at) ∙ is)))
+pub enabled_unasked : (oracles : Oracles) (now tag : List ℕ) (state : State) (store : StoreState) (said : Command) → mode_of state ≡ enabled → asked_in (step oracles now state store tag said).acts ≡ []
+enabled_unasked oracles now tag state store said is =
+    unasked_unless oracles now tag state store said (λ mode account folder read_only by_uid set items at fetches.
+    fetch_unasked oracles tag state mode folder read_only store by_uid set items (none_enabled store items mode (sym (ap mode_of at) ∙ is)))
 
-pub kept_unasked : (meanings : Meanings) (now tag : List ℕ) (mode : Mode) (account folder : ℕ) (read_only : Bool) (store : StoreState) (by_uid : Bool) (set : Set) (items : List FetchItem)
-    → list_any is_of_message items ≡ false → asked_in (step meanings now (selected mode account folder read_only) store tag (command.Fetch by_uid set items)).acts ≡ []
+pub kept_unasked : (oracles : Oracles) (now tag : List ℕ) (mode : Mode) (account folder : ℕ) (read_only : Bool) (store : StoreState) (by_uid : Bool) (set : Set) (items : List FetchItem)
+    → list_any is_of_message items ≡ false → asked_in (step oracles now (selected mode account folder read_only) store tag (command.Fetch by_uid set items)).acts ≡ []
 unfolding step
-kept_unasked meanings now tag mode account folder read_only store by_uid set items beside =
-    fetch_unasked meanings tag (selected mode account folder read_only) mode folder read_only store by_uid set items (λ id. cond-false (list_any is_of_message items) _ _ beside)
+kept_unasked oracles now tag mode account folder read_only store by_uid set items beside =
+    fetch_unasked oracles tag (selected mode account folder read_only) mode folder read_only store by_uid set items (λ id. cond-false (list_any is_of_message items) _ _ beside)
 
-pub refused_unasked : (meanings : Meanings) (now tag : List ℕ) (mode : Mode) (account folder : ℕ) (read_only : Bool) (store : StoreState) (by_uid : Bool) (set : Set) (items : List FetchItem)
-    → is_refused by_uid set (listed store.kept folder) ≡ true → asked_in (step meanings now (selected mode account folder read_only) store tag (command.Fetch by_uid set items)).acts ≡ []
+pub refused_unasked : (oracles : Oracles) (now tag : List ℕ) (mode : Mode) (account folder : ℕ) (read_only : Bool) (store : StoreState) (by_uid : Bool) (set : Set) (items : List FetchItem)
+    → is_refused by_uid set (listed store.kept folder) ≡ true → asked_in (step oracles now (selected mode account folder read_only) store tag (command.Fetch by_uid set items)).acts ≡ []
 unfolding step
-refused_unasked meanings now tag mode account folder read_only store by_uid set items refused =
+refused_unasked oracles now tag mode account folder read_only store by_uid set items refused =
     let state = selected mode account folder read_only in
     let messages = listed store.kept folder in
-    let all = flat_map (fetch_one meanings mode store by_uid read_only items) (chosen by_uid set messages) in
+    let all = flat_map (fetch_one oracles mode store by_uid read_only items) (chosen by_uid set messages) in
     ap (λ (taken : Step). asked_in taken.acts) (cond-true (is_refused by_uid set messages) (no_such_message tag state) (ends_with tag done all state) refused)
 
 -- each message that is told is asked for once
@@ -488,14 +488,14 @@ once_each store items is (one ∷ others) =
     let this : asked_of legacy store items one.listed.id ≡ asked_as store one ∷ [] = cond-true (list_any is_of_message items) _ _ is in
     ap (λ (l : List Asked). l ++ flat_map (λ (other : Numbered). asked_of legacy store items other.listed.id) others) this ∙ ap (λ (l : List Asked). asked_as store one ∷ l) (once_each store items is others)
 
-pub fetch_asks : (meanings : Meanings) (now tag : List ℕ) (account folder : ℕ) (read_only : Bool) (store : StoreState) (by_uid : Bool) (set : Set) (items : List FetchItem)
+pub fetch_asks : (oracles : Oracles) (now tag : List ℕ) (account folder : ℕ) (read_only : Bool) (store : StoreState) (by_uid : Bool) (set : Set) (items : List FetchItem)
     → list_any is_of_message items ≡ true → is_refused by_uid set (listed store.kept folder) ≡ false
-    → asked_in (step meanings now (selected legacy account folder read_only) store tag (command.Fetch by_uid set items)).acts ≡ map (asked_as store) (chosen by_uid set (listed store.kept folder))
+    → asked_in (step oracles now (selected legacy account folder read_only) store tag (command.Fetch by_uid set items)).acts ≡ map (asked_as store) (chosen by_uid set (listed store.kept folder))
 unfolding step
-fetch_asks meanings now tag account folder read_only store by_uid set items is taken =
-    let act = fetch_one meanings legacy store by_uid read_only items in
+fetch_asks oracles now tag account folder read_only store by_uid set items is taken =
+    let act = fetch_one oracles legacy store by_uid read_only items in
     let all = chosen by_uid set (listed store.kept folder) in
     let state = selected legacy account folder read_only in
     ap (λ (made : Step). asked_in made.acts) (cond-false (is_refused by_uid set (listed store.kept folder)) (no_such_message tag state) (ends_with tag done (flat_map act all) state) taken)
     ∙ (asked_in-append (flat_map act all) (reply (tagged tag done ∷ [])) ∙ (append-nil (asked_in (flat_map act all))
-    ∙ (asked_each act (λ (one : Numbered). asked_of legacy store items one.listed.id) (one_asked meanings legacy store by_uid read_only items) all ∙ once_each store items is all)))
+    ∙ (asked_each act (λ (one : Numbered). asked_of legacy store items one.listed.id) (one_asked oracles legacy store by_uid read_only items) all ∙ once_each store items is all)))

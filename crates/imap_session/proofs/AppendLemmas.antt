@@ -1,4 +1,4 @@
--- APPEND, as a letter is put into its folder.
+-- APPEND, as a request is put into its folder.
 use Rattle.std.proofs.Common.{◌≡◌, ℕ, ◌<◌, ◌==◌, Bool, true, false, ◌&&◌, not, List, [], ◌∷◌, ◌++◌, length, Option, None, Some, refl, sym, ap, ◌∙◌, subst, append_assoc, append-nil, inl, inr, codes}
 use Rattle.std.specs.Prelude.{decimal, IfSome, if◌then◌else◌}
 use Rattle.std.specs.List.{flat_map}
@@ -23,16 +23,16 @@ use Rattle.surrogate_cache.specs.Served.{Mode, is_enabled}
 use Rattle.session_core.specs.Acts.{Act, acts_of, changes, gives}
 use Rattle.session_core.specs.Around.{Around}
 use Rattle.session_core.specs.Doing.{Does, DoesFirst, Makes, Replies}
-use Rattle.session_core.specs.Meanings.{Meanings, WithMeanings}
+use Rattle.session_core.specs.Oracles.{Oracles, WithOracles}
 use Rattle.session_core.proofs.DoingLemmas.{Does-changes, Does-unchanged, Replies-stop}
-use Rattle.session_core.proofs.MeaningLemmas.{meanings_given}
+use Rattle.session_core.proofs.MeaningLemmas.{oracles_given}
 use Rattle.session_core.proofs.MomentLemmas.{moment_date}
 use Rattle.imap_session.specs.Machine.{State, Step, append_in, append_unless, appended, completed, exists_lines, folder_named, is_complete, tagged}
 use Rattle.imap_session.specs.Replies.{ReplyPart, part_octets, reply_octets}
-use Rattle.imap_session.specs.declared.appending.Letter.{Letter}
+use Rattle.imap_session.specs.declared.appending.AppendRequest.{AppendRequest}
 use Rattle.imap_session.specs.declared.appending.Put.{Put}
 use Rattle.imap_session.specs.declared.appending.Put.TheVariants as put
-use Rattle.imap_session.specs.private.Appending.{IsBehind, IsDateFrom, WereListed, letter_step, put_changes, put_lines, put_named, put_octets, put_of, put_unless, words_of_put}
+use Rattle.imap_session.specs.private.Appending.{IsAfter, IsDateFrom, WereListed, request_step, put_changes, put_lines, put_named, put_octets, put_of, put_unless, words_of_put}
 use Rattle.imap_session.specs.private.Lines.{tagged_octets}
 use Rattle.imap_session.proofs.LineLemmas.{tagged_reply}
 use Rattle.imap_session.proofs.SelectedLemmas.{HasCounts}
@@ -98,89 +98,89 @@ date_is reading (Some given) date from dated = rw from dated
 -- ---- octets that are put
 
 -- the folder was found, and the session may put such data there
-pub put_found : (meanings : Meanings) (mode : Mode) (account : ℕ) (store : StoreState) (letter : Letter) (folder : ℕ) → Some folder ≡ folder_named meanings mode store account letter.written.now
-    → (letter.in_utf8 && not (is_enabled mode)) ≡ false
-    → put_octets (meanings.has_tree (completed letter.octets.now)) store folder (completed letter.octets.now) ≡ put_of meanings mode account store letter
-put_found meanings mode account store letter folder found may = rw (← found, may) refl
+pub put_found : (oracles : Oracles) (mode : Mode) (account : ℕ) (store : StoreState) (request : AppendRequest) (folder : ℕ) → Some folder ≡ folder_named oracles mode store account request.written.now
+    → (request.in_utf8 && not (is_enabled mode)) ≡ false
+    → put_octets (oracles.has_tree (completed request.octets.now)) store folder (completed request.octets.now) ≡ put_of oracles mode account store request
+put_found oracles mode account store request folder found may = rw (← found, may) refl
 
 -- the line of the folder that is selected
-pub exists_told : (meanings : Meanings) (kept : Kept) (opened folder count : ℕ) (line : List ℕ) → opened ≡ folder → count ≡ length (listed kept opened)
-    → line ≡ codes "* " ++ (decimal count ++ codes " EXISTS\r\n") → line ≡ reply_octets meanings (put_lines (Some opened) kept (put.In folder))
-exists_told meanings kept opened folder count line same count_is line_is =
-    let shown : reply_octets meanings (exists_lines (Some folder) kept folder) ≡ codes "* " ++ (decimal (length (listed kept folder)) ++ codes " EXISTS\r\n") =
+pub exists_told : (oracles : Oracles) (kept : Kept) (opened folder count : ℕ) (line : List ℕ) → opened ≡ folder → count ≡ length (listed kept opened)
+    → line ≡ codes "* " ++ (decimal count ++ codes " EXISTS\r\n") → line ≡ reply_octets oracles (put_lines (Some opened) kept (put.In folder))
+exists_told oracles kept opened folder count line same count_is line_is =
+    let shown : reply_octets oracles (exists_lines (Some folder) kept folder) ≡ codes "* " ++ (decimal (length (listed kept folder)) ++ codes " EXISTS\r\n") =
     rw (eq-eqb folder folder refl) (simp (append_assoc, append-nil)) in
     rw same (line_is ∙ (ap (λ n. codes "* " ++ (decimal n ++ codes " EXISTS\r\n")) (rw same at count_is) ∙ sym shown))
 
 -- where no folder is selected nothing is told beside
-pub none_told : (meanings : Meanings) (kept : Kept) (came : Put) → [] ≡ reply_octets meanings (put_lines None kept came)
-none_told meanings kept (put.In folder) = refl
-none_told meanings kept put.NoFolder = refl
-none_told meanings kept put.NotEnabled = refl
-none_told meanings kept put.NoMessage = refl
-none_told meanings kept put.TooLarge = refl
+pub none_told : (oracles : Oracles) (kept : Kept) (advance : Put) → [] ≡ reply_octets oracles (put_lines None kept advance)
+none_told oracles kept (put.In folder) = refl
+none_told oracles kept put.NoFolder = refl
+none_told oracles kept put.NotEnabled = refl
+none_told oracles kept put.NoMessage = refl
+none_told oracles kept put.TooLarge = refl
 
-module _ (meanings : Meanings) (a : Around) (tag : List ℕ) (state : State) (opened : Option ℕ) (mode : Mode) (account : ℕ) (letter : Letter) (date : List ℕ) where
+module _ (oracles : Oracles) (a : Around) (tag : List ℕ) (state : State) (opened : Option ℕ) (mode : Mode) (account : ℕ) (request : AppendRequest) (date : List ℕ) where
   abbrev last : Put → List ReplyPart
-  last came = tagged tag (words_of_put came) ∷ []
+  last advance = tagged tag (words_of_put advance) ∷ []
 
   abbrev made : Put → List (List Record)
-  made came = put_changes letter.flags date (completed letter.octets.now) came
+  made advance = put_changes request.flags date (completed request.octets.now) advance
 
   -- what is told before the last line
   abbrev told : Put → List ReplyPart
-  told came = put_lines opened (after_all a.desk.store.kept (records_of (made came))) came
+  told advance = put_lines opened (after_all a.desk.store.kept (records_of (made advance))) advance
 
   abbrev put_acts : Put → List (Act ReplyPart)
-  put_acts came = acts_of (made came) (told came ++ last came)
+  put_acts advance = acts_of (made advance) (told advance ++ last advance)
 
   acts_if : (b : Bool) (x y : Step) (p q : Put) → x.acts ≡ put_acts p → y.acts ≡ put_acts q → (if b then x else y).acts ≡ put_acts (if b then p else q)
   acts_if true x y p q one two = one
   acts_if false x y p q one two = two
 
   unless_acts : (folder : ℕ) (refused : Option StoreFault)
-      → (append_unless tag state opened a.desk.store.kept folder (appended folder letter.flags date (completed letter.octets.now)) refused).acts ≡ put_acts (put_unless folder refused)
-  unless_acts folder None = ap (λ (z : List (Act ReplyPart)). changes (appended folder letter.flags date (completed letter.octets.now) ∷ []) ∷ z) (sym (map-append gives (told (put.In folder)) (last (put.In folder))))
+      → (append_unless tag state opened a.desk.store.kept folder (appended folder request.flags date (completed request.octets.now)) refused).acts ≡ put_acts (put_unless folder refused)
+  unless_acts folder None = ap (λ (z : List (Act ReplyPart)). changes (appended folder request.flags date (completed request.octets.now) ∷ []) ∷ z) (sym (map-append gives (told (put.In folder)) (last (put.In folder))))
   unless_acts folder (Some other) = refl
 
   named_acts : (found : Option ℕ)
-      → (append_in meanings tag state opened mode a.desk.store letter.flags date letter.in_utf8 letter.octets.now found).acts ≡ put_acts (put_named meanings mode a.desk.store letter.in_utf8 letter.octets.now found)
+      → (append_in oracles tag state opened mode a.desk.store request.flags date request.in_utf8 request.octets.now found).acts ≡ put_acts (put_named oracles mode a.desk.store request.in_utf8 request.octets.now found)
   named_acts None = refl
   named_acts (Some folder) =
-      let octets = completed letter.octets.now in
-      acts_if (letter.in_utf8 && not (is_enabled mode)) _ _ _ _ refl (acts_if (meanings.has_tree octets) _ _ _ _ (unless_acts folder (append_refusal a.desk.store octets)) refl)
+      let octets = completed request.octets.now in
+      acts_if (request.in_utf8 && not (is_enabled mode)) _ _ _ _ refl (acts_if (oracles.has_tree octets) _ _ _ _ (unless_acts folder (append_refusal a.desk.store octets)) refl)
 
-  letter_acts : (letter_step meanings tag state opened mode account a.desk.store letter date).acts ≡ put_acts (put_of meanings mode account a.desk.store letter)
-  letter_acts = named_acts _
+  request_acts : (request_step oracles tag state opened mode account a.desk.store request date).acts ≡ put_acts (put_of oracles mode account a.desk.store request)
+  request_acts = named_acts _
 
   -- it was put into its folder or refused, and then that was told
-  pub letter_told : (b c : Around) (met : Option Fault) (came : Put) (lines : List ℕ) → came ≡ put_of meanings mode account a.desk.store letter → lines ≡ reply_octets meanings (put_lines opened b.desk.store.kept came)
-      → Makes a b None (made (put_of meanings mode account a.desk.store letter)) → Replies b c met (lines ++ tagged_octets tag (words_of_put came))
-      → Does (part_octets meanings) a c met (letter_step meanings tag state opened mode account a.desk.store letter date).acts
-  letter_told b c met came lines came_is lines_are makes replies =
-      let spelled = part_octets meanings in
-      let makes : Makes a b None (made came) = rw came_is makes in
-      let kept : b.desk.store.kept ≡ after_all a.desk.store.kept (records_of (made came)) = ap (λ (store : StoreState). store.kept) makes.changes.store in
-      let are : lines ≡ reply_octets meanings (told came) = lines_are ∙ ap (λ kept. reply_octets meanings (put_lines opened kept came)) kept in
-      let whole : lines ++ tagged_octets tag (words_of_put came) ≡ flat_map spelled (told came ++ last came) =
-      ap (λ z. z ++ tagged_octets tag (words_of_put came)) are
-      ∙ (ap (λ z. reply_octets meanings (told came) ++ z) (sym (tagged_reply meanings tag (words_of_put came))) ∙ sym (flat_map-append spelled (told came) (last came))) in
-      subst (λ (acts : List (Act ReplyPart)). Does spelled a c met acts) (ap put_acts came_is ∙ sym letter_acts)
-      (Does-changes spelled a b c met (made came) (told came ++ last came) makes (subst (λ octets. Replies b c met octets) whole replies))
+  pub request_told : (b c : Around) (met : Option Fault) (advance : Put) (lines : List ℕ) → advance ≡ put_of oracles mode account a.desk.store request → lines ≡ reply_octets oracles (put_lines opened b.desk.store.kept advance)
+      → Makes a b None (made (put_of oracles mode account a.desk.store request)) → Replies b c met (lines ++ tagged_octets tag (words_of_put advance))
+      → Does (part_octets oracles) a c met (request_step oracles tag state opened mode account a.desk.store request date).acts
+  request_told b c met advance lines advance_is lines_are makes replies =
+      let spelled = part_octets oracles in
+      let makes : Makes a b None (made advance) = rw advance_is makes in
+      let kept : b.desk.store.kept ≡ after_all a.desk.store.kept (records_of (made advance)) = ap (λ (store : StoreState). store.kept) makes.changes.store in
+      let are : lines ≡ reply_octets oracles (told advance) = lines_are ∙ ap (λ kept. reply_octets oracles (put_lines opened kept advance)) kept in
+      let whole : lines ++ tagged_octets tag (words_of_put advance) ≡ flat_map spelled (told advance ++ last advance) =
+      ap (λ z. z ++ tagged_octets tag (words_of_put advance)) are
+      ∙ (ap (λ z. reply_octets oracles (told advance) ++ z) (sym (tagged_reply oracles tag (words_of_put advance))) ∙ sym (flat_map-append spelled (told advance) (last advance))) in
+      subst (λ (acts : List (Act ReplyPart)). Does spelled a c met acts) (ap put_acts advance_is ∙ sym request_acts)
+      (Does-changes spelled a b c met (made advance) (told advance ++ last advance) makes (subst (λ octets. Replies b c met octets) whole replies))
 
   -- or memory was wanted before that was told
-  pub letter_untold : (b : Around) → Makes a b None (made (put_of meanings mode account a.desk.store letter))
-      → DoesFirst (part_octets meanings) a b fault.Memory (letter_step meanings tag state opened mode account a.desk.store letter date).acts
-  letter_untold b makes =
-      let came = put_of meanings mode account a.desk.store letter in
-      let lines = reply_octets meanings (put_lines opened b.desk.store.kept came) in
-      letter_told b b (Some fault.Memory) came lines refl refl makes (Replies-stop b fault.Memory (lines ++ tagged_octets tag (words_of_put came)) (λ bad. cc))
+  pub request_untold : (b : Around) → Makes a b None (made (put_of oracles mode account a.desk.store request))
+      → DoesFirst (part_octets oracles) a b fault.Memory (request_step oracles tag state opened mode account a.desk.store request date).acts
+  request_untold b makes =
+      let advance = put_of oracles mode account a.desk.store request in
+      let lines = reply_octets oracles (put_lines opened b.desk.store.kept advance) in
+      request_told b b (Some fault.Memory) advance lines refl refl makes (Replies-stop b fault.Memory (lines ++ tagged_octets tag (words_of_put advance)) (λ bad. cc))
 
   -- or a fault came before
-  pub letter_broken : (b : Around) (met : Fault) → Makes a b (Some met) (made (put_of meanings mode account a.desk.store letter))
-      → DoesFirst (part_octets meanings) a b met (letter_step meanings tag state opened mode account a.desk.store letter date).acts
-  letter_broken b met makes =
-      let came = put_of meanings mode account a.desk.store letter in
-      subst (λ (acts : List (Act ReplyPart)). DoesFirst (part_octets meanings) a b met acts) (sym letter_acts) (Does-unchanged (part_octets meanings) a b met (made came) (told came ++ last came) makes)
+  pub request_broken : (b : Around) (met : Fault) → Makes a b (Some met) (made (put_of oracles mode account a.desk.store request))
+      → DoesFirst (part_octets oracles) a b met (request_step oracles tag state opened mode account a.desk.store request date).acts
+  request_broken b met makes =
+      let advance = put_of oracles mode account a.desk.store request in
+      subst (λ (acts : List (Act ReplyPart)). DoesFirst (part_octets oracles) a b met acts) (sym request_acts) (Does-unchanged (part_octets oracles) a b met (made advance) (told advance ++ last advance) makes)
 
 -- ---- the state
 
@@ -192,22 +192,22 @@ unless_state : (tag : List ℕ) (state : State) (opened : Option ℕ) (kept : Ke
 unless_state tag state opened kept folder one None = refl
 unless_state tag state opened kept folder one (Some other) = refl
 
-named_state : (meanings : Meanings) (tag : List ℕ) (state : State) (opened : Option ℕ) (mode : Mode) (store : StoreState) (flags : ℕ) (date : List ℕ) (in_utf8 : Bool) (octets : List ℕ) (found : Option ℕ)
-    → state ≡ (append_in meanings tag state opened mode store flags date in_utf8 octets found).state
-named_state meanings tag state opened mode store flags date in_utf8 octets None = refl
-named_state meanings tag state opened mode store flags date in_utf8 octets (Some folder) =
+named_state : (oracles : Oracles) (tag : List ℕ) (state : State) (opened : Option ℕ) (mode : Mode) (store : StoreState) (flags : ℕ) (date : List ℕ) (in_utf8 : Bool) (octets : List ℕ) (found : Option ℕ)
+    → state ≡ (append_in oracles tag state opened mode store flags date in_utf8 octets found).state
+named_state oracles tag state opened mode store flags date in_utf8 octets None = refl
+named_state oracles tag state opened mode store flags date in_utf8 octets (Some folder) =
     state_both (in_utf8 && not (is_enabled mode)) state _ _ refl
-    (state_both (meanings.has_tree (completed octets)) state _ _ (unless_state tag state opened store.kept folder _ (append_refusal store (completed octets))) refl)
+    (state_both (oracles.has_tree (completed octets)) state _ _ (unless_state tag state opened store.kept folder _ (append_refusal store (completed octets))) refl)
 
 -- APPEND leaves the state
-pub letter_state : (meanings : Meanings) (tag : List ℕ) (state : State) (opened : Option ℕ) (mode : Mode) (account : ℕ) (store : StoreState) (letter : Letter) (date : List ℕ)
-    → state ≡ (letter_step meanings tag state opened mode account store letter date).state
-letter_state meanings tag state opened mode account store letter date = named_state meanings tag state opened mode store letter.flags date letter.in_utf8 letter.octets.now _
+pub request_state : (oracles : Oracles) (tag : List ℕ) (state : State) (opened : Option ℕ) (mode : Mode) (account : ℕ) (store : StoreState) (request : AppendRequest) (date : List ℕ)
+    → state ≡ (request_step oracles tag state opened mode account store request date).state
+request_state oracles tag state opened mode account store request date = named_state oracles tag state opened mode store request.flags date request.in_utf8 request.octets.now _
 
 -- ---- the store behind it
 
-counts_after : (kept : Kept) (flags : ℕ) (date octets : List ℕ) (came : Put)
-    → (length (after_all kept (records_of (put_changes flags date octets came))).accounts ≡ length kept.accounts) × (length (after_all kept (records_of (put_changes flags date octets came))).folders ≡ length kept.folders)
+counts_after : (kept : Kept) (flags : ℕ) (date octets : List ℕ) (advance : Put)
+    → (length (after_all kept (records_of (put_changes flags date octets advance))).accounts ≡ length kept.accounts) × (length (after_all kept (records_of (put_changes flags date octets advance))).folders ≡ length kept.folders)
 counts_after kept flags date octets (put.In folder) = (refl, refl)
 counts_after kept flags date octets put.NoFolder = (refl, refl)
 counts_after kept flags date octets put.NotEnabled = (refl, refl)
@@ -215,17 +215,17 @@ counts_after kept flags date octets put.NoMessage = (refl, refl)
 counts_after kept flags date octets put.TooLarge = (refl, refl)
 
 -- it has the accounts and the folders that it had
-pub letter_counts : (a b : Around) (flags : ℕ) (date octets : List ℕ) (came : Meanings → Put) → WithMeanings (λ meanings. Makes a b None (put_changes flags date octets (came meanings)))
+pub request_counts : (a b : Around) (flags : ℕ) (date octets : List ℕ) (advance : Oracles → Put) → WithOracles (λ oracles. Makes a b None (put_changes flags date octets (advance oracles)))
     → HasCounts a.desk.store b.desk.store
-letter_counts a b flags date octets came makes =
-    let store = (makes meanings_given.0 meanings_given.1).changes.store in
-    let counts = counts_after a.desk.store.kept flags date octets (came meanings_given.0) in
+request_counts a b flags date octets advance makes =
+    let store = (makes oracles_given.0 oracles_given.1).changes.store in
+    let counts = counts_after a.desk.store.kept flags date octets (advance oracles_given.0) in
     record {
       accounts = ap (λ (store : StoreState). length store.kept.accounts) store ∙ counts.0;
       folders = ap (λ (store : StoreState). length store.kept.folders) store ∙ counts.1;
     }
 
--- where a letter is put there was room for a message more
+-- where a request is put there was room for a message more
 abbrev HadRoom : Kept → Put → Type 0
 HadRoom kept (put.In folder) = length kept.messages < THINGS_MAX
 HadRoom kept other = Unit {0}
@@ -238,34 +238,34 @@ room_unless : (store : StoreState) (folder : ℕ) (octets : List ℕ) (refused :
 room_unless store folder octets None is = (append_free store octets is).1
 room_unless store folder octets (Some other) is = tt
 
-room_named : (meanings : Meanings) (mode : Mode) (store : StoreState) (in_utf8 : Bool) (octets : List ℕ) (found : Option ℕ) → HadRoom store.kept (put_named meanings mode store in_utf8 octets found)
-room_named meanings mode store in_utf8 octets None = tt
-room_named meanings mode store in_utf8 octets (Some folder) =
+room_named : (oracles : Oracles) (mode : Mode) (store : StoreState) (in_utf8 : Bool) (octets : List ℕ) (found : Option ℕ) → HadRoom store.kept (put_named oracles mode store in_utf8 octets found)
+room_named oracles mode store in_utf8 octets None = tt
+room_named oracles mode store in_utf8 octets (Some folder) =
     let whole = completed octets in
     let refused = append_refusal store whole in
-    room_if (in_utf8 && not (is_enabled mode)) store.kept put.NotEnabled (put_octets (meanings.has_tree whole) store folder whole) tt
-    (room_if (meanings.has_tree whole) store.kept (put_unless folder refused) put.NoMessage (room_unless store folder whole refused refl) tt)
+    room_if (in_utf8 && not (is_enabled mode)) store.kept put.NotEnabled (put_octets (oracles.has_tree whole) store folder whole) tt
+    (room_if (oracles.has_tree whole) store.kept (put_unless folder refused) put.NoMessage (room_unless store folder whole refused refl) tt)
 
-behind_put : (kept : Kept) (flags : ℕ) (date octets : List ℕ) (came : Put) → HadRoom kept came → IsBehind kept (after_all kept (records_of (put_changes flags date octets came))) flags came
-behind_put kept flags date octets (put.In folder) room = (date, octets, refl, room)
-behind_put kept flags date octets put.NoFolder room = refl
-behind_put kept flags date octets put.NotEnabled room = refl
-behind_put kept flags date octets put.NoMessage room = refl
-behind_put kept flags date octets put.TooLarge room = refl
+after_put : (kept : Kept) (flags : ℕ) (date octets : List ℕ) (advance : Put) → HadRoom kept advance → IsAfter kept (after_all kept (records_of (put_changes flags date octets advance))) flags advance
+after_put kept flags date octets (put.In folder) room = (date, octets, refl, room)
+after_put kept flags date octets put.NoFolder room = refl
+after_put kept flags date octets put.NotEnabled room = refl
+after_put kept flags date octets put.NoMessage room = refl
+after_put kept flags date octets put.TooLarge room = refl
 
 -- the messages of the opened folder were these before
-pub letter_were : (a b : Around) (mode : Mode) (account : ℕ) (letter : Letter) (date : List ℕ) (opened : ℕ) (messages : List Listed) (came : Put) → messages ≡ listed a.desk.store.kept opened
-    → WithMeanings (λ meanings. came ≡ put_of meanings mode account a.desk.store letter)
-    → WithMeanings (λ meanings. Makes a b None (put_changes letter.flags date (completed letter.octets.now) (put_of meanings mode account a.desk.store letter)))
-    → WereListed b.desk.store.kept opened letter.flags came messages
-letter_were a b mode account letter date opened messages came were came_is makes =
-    let meanings = meanings_given.0 in
+pub request_were : (a b : Around) (mode : Mode) (account : ℕ) (request : AppendRequest) (date : List ℕ) (opened : ℕ) (messages : List Listed) (advance : Put) → messages ≡ listed a.desk.store.kept opened
+    → WithOracles (λ oracles. advance ≡ put_of oracles mode account a.desk.store request)
+    → WithOracles (λ oracles. Makes a b None (put_changes request.flags date (completed request.octets.now) (put_of oracles mode account a.desk.store request)))
+    → WereListed b.desk.store.kept opened request.flags advance messages
+request_were a b mode account request date opened messages advance were advance_is makes =
+    let oracles = oracles_given.0 in
     let before = a.desk.store in
-    let octets = completed letter.octets.now in
-    let was = put_of meanings mode account before letter in
-    let kept : b.desk.store.kept ≡ after_all before.kept (records_of (put_changes letter.flags date octets was)) =
-    ap (λ (store : StoreState). store.kept) (makes meanings meanings_given.1).changes.store in
-    let room = room_named meanings mode before letter.in_utf8 letter.octets.now (folder_named meanings mode before account letter.written.now) in
-    let behind : IsBehind before.kept b.desk.store.kept letter.flags was =
-    subst (λ (new : Kept). IsBehind before.kept new letter.flags was) (sym kept) (behind_put before.kept letter.flags date octets was room) in
-    record { old = before.kept; were = were; behind = subst (λ (p : Put). IsBehind before.kept b.desk.store.kept letter.flags p) (sym (came_is meanings meanings_given.1)) behind }
+    let octets = completed request.octets.now in
+    let was = put_of oracles mode account before request in
+    let kept : b.desk.store.kept ≡ after_all before.kept (records_of (put_changes request.flags date octets was)) =
+    ap (λ (store : StoreState). store.kept) (makes oracles oracles_given.1).changes.store in
+    let room = room_named oracles mode before request.in_utf8 request.octets.now (folder_named oracles mode before account request.written.now) in
+    let following : IsAfter before.kept b.desk.store.kept request.flags was =
+    subst (λ (new : Kept). IsAfter before.kept new request.flags was) (sym kept) (after_put before.kept request.flags date octets was room) in
+    record { old = before.kept; were = were; following = subst (λ (p : Put). IsAfter before.kept b.desk.store.kept request.flags p) (sym (advance_is oracles oracles_given.1)) following }

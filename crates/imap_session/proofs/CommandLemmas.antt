@@ -16,9 +16,9 @@ use Rattle.session_core.specs.Acts.{changes_in}
 use Rattle.session_core.specs.Around.{Around}
 use Rattle.session_core.specs.Doing.{Does}
 use Rattle.session_core.specs.Keeps.{fault_of}
-use Rattle.session_core.specs.Meanings.{Meanings, WithMeanings}
+use Rattle.session_core.specs.Oracles.{Oracles, WithOracles}
 use Rattle.session_core.specs.declared.desk.Desk.{Desk}
-use Rattle.session_core.proofs.MeaningLemmas.{meanings_given}
+use Rattle.session_core.proofs.MeaningLemmas.{oracles_given}
 use Rattle.imap_grammar.specs.declared.command.Command.{Command}
 use Rattle.imap_grammar.specs.declared.command.Command.TheVariants as command
 use Rattle.imap_grammar.specs.declared.command.StatusItem.{StatusItem}
@@ -55,67 +55,67 @@ common-other tag state command.Close no_capability no_noop no_logout no_not_here
 common-other tag state command.NotHere no_capability no_noop no_logout no_not_here = absurd (no_not_here refl)
 
 -- before login, any but LOGIN is one of every state
-pub unauthenticated-other : (meanings : Meanings) (tag : List ℕ) (store : StoreState) (c : Command) → ((user password : List ℕ) → c ≡ command.Login user password → ⊥)
-    → common_step tag not_authenticated c ≡ not_authenticated_step meanings tag store c
-unauthenticated-other meanings tag store command.Capability no_login = refl
-unauthenticated-other meanings tag store command.Noop no_login = refl
-unauthenticated-other meanings tag store command.Check no_login = refl
-unauthenticated-other meanings tag store command.Logout no_login = refl
-unauthenticated-other meanings tag store (command.Login user password) no_login = absurd (no_login user password refl)
-unauthenticated-other meanings tag store (command.Enable words) no_login = refl
-unauthenticated-other meanings tag store (command.Select written) no_login = refl
-unauthenticated-other meanings tag store (command.Examine written) no_login = refl
-unauthenticated-other meanings tag store (command.Create written) no_login = refl
-unauthenticated-other meanings tag store (command.List reference pattern) no_login = refl
-unauthenticated-other meanings tag store (command.Status written items) no_login = refl
-unauthenticated-other meanings tag store (command.Append written flags date utf8 octets) no_login = refl
-unauthenticated-other meanings tag store (command.Fetch by_uid set items) no_login = refl
-unauthenticated-other meanings tag store (command.Store by_uid set op silent flags) no_login = refl
-unauthenticated-other meanings tag store command.Expunge no_login = refl
-unauthenticated-other meanings tag store command.Close no_login = refl
-unauthenticated-other meanings tag store command.NotHere no_login = refl
+pub unauthenticated-other : (oracles : Oracles) (tag : List ℕ) (store : StoreState) (c : Command) → ((user password : List ℕ) → c ≡ command.Login user password → ⊥)
+    → common_step tag not_authenticated c ≡ not_authenticated_step oracles tag store c
+unauthenticated-other oracles tag store command.Capability no_login = refl
+unauthenticated-other oracles tag store command.Noop no_login = refl
+unauthenticated-other oracles tag store command.Check no_login = refl
+unauthenticated-other oracles tag store command.Logout no_login = refl
+unauthenticated-other oracles tag store (command.Login user password) no_login = absurd (no_login user password refl)
+unauthenticated-other oracles tag store (command.Enable words) no_login = refl
+unauthenticated-other oracles tag store (command.Select written) no_login = refl
+unauthenticated-other oracles tag store (command.Examine written) no_login = refl
+unauthenticated-other oracles tag store (command.Create written) no_login = refl
+unauthenticated-other oracles tag store (command.List reference pattern) no_login = refl
+unauthenticated-other oracles tag store (command.Status written items) no_login = refl
+unauthenticated-other oracles tag store (command.Append written flags date utf8 octets) no_login = refl
+unauthenticated-other oracles tag store (command.Fetch by_uid set items) no_login = refl
+unauthenticated-other oracles tag store (command.Store by_uid set op silent flags) no_login = refl
+unauthenticated-other oracles tag store command.Expunge no_login = refl
+unauthenticated-other oracles tag store command.Close no_login = refl
+unauthenticated-other oracles tag store command.NotHere no_login = refl
 
 -- a command on folders that isn't one of these is one of every state
-pub mailbox-other : (meanings : Meanings) (now tag : List ℕ) (state : State) (mode : Mode) (account : ℕ) (store : StoreState) (c : Command) → ((written : List ℕ) → c ≡ command.Create written → ⊥) → ((reference pattern : List ℕ) → c ≡ command.List reference pattern → ⊥) → ((written : List ℕ) (items : List StatusItem) → c ≡ command.Status written items → ⊥) → selects_or_appends c ≡ false
-    → common_step tag state c ≡ mailbox_step meanings now tag state mode account store c
-mailbox-other meanings now tag state mode account store command.Capability no_create no_list no_status none = refl
-mailbox-other meanings now tag state mode account store command.Noop no_create no_list no_status none = refl
-mailbox-other meanings now tag state mode account store command.Check no_create no_list no_status none = refl
-mailbox-other meanings now tag state mode account store command.Logout no_create no_list no_status none = refl
-mailbox-other meanings now tag state mode account store (command.Login user password) no_create no_list no_status none = refl
-mailbox-other meanings now tag state mode account store (command.Enable words) no_create no_list no_status none = refl
-mailbox-other meanings now tag state mode account store (command.Select written) no_create no_list no_status none = absurd cc
-mailbox-other meanings now tag state mode account store (command.Examine written) no_create no_list no_status none = absurd cc
-mailbox-other meanings now tag state mode account store (command.Create written) no_create no_list no_status none = absurd (no_create written refl)
-mailbox-other meanings now tag state mode account store (command.List reference pattern) no_create no_list no_status none = absurd (no_list reference pattern refl)
-mailbox-other meanings now tag state mode account store (command.Status written items) no_create no_list no_status none = absurd (no_status written items refl)
-mailbox-other meanings now tag state mode account store (command.Append written flags date utf8 octets) no_create no_list no_status none = absurd cc
-mailbox-other meanings now tag state mode account store (command.Fetch by_uid set items) no_create no_list no_status none = refl
-mailbox-other meanings now tag state mode account store (command.Store by_uid set op silent flags) no_create no_list no_status none = refl
-mailbox-other meanings now tag state mode account store command.Expunge no_create no_list no_status none = refl
-mailbox-other meanings now tag state mode account store command.Close no_create no_list no_status none = refl
-mailbox-other meanings now tag state mode account store command.NotHere no_create no_list no_status none = refl
+pub mailbox-other : (oracles : Oracles) (now tag : List ℕ) (state : State) (mode : Mode) (account : ℕ) (store : StoreState) (c : Command) → ((written : List ℕ) → c ≡ command.Create written → ⊥) → ((reference pattern : List ℕ) → c ≡ command.List reference pattern → ⊥) → ((written : List ℕ) (items : List StatusItem) → c ≡ command.Status written items → ⊥) → selects_or_appends c ≡ false
+    → common_step tag state c ≡ mailbox_step oracles now tag state mode account store c
+mailbox-other oracles now tag state mode account store command.Capability no_create no_list no_status none = refl
+mailbox-other oracles now tag state mode account store command.Noop no_create no_list no_status none = refl
+mailbox-other oracles now tag state mode account store command.Check no_create no_list no_status none = refl
+mailbox-other oracles now tag state mode account store command.Logout no_create no_list no_status none = refl
+mailbox-other oracles now tag state mode account store (command.Login user password) no_create no_list no_status none = refl
+mailbox-other oracles now tag state mode account store (command.Enable words) no_create no_list no_status none = refl
+mailbox-other oracles now tag state mode account store (command.Select written) no_create no_list no_status none = absurd cc
+mailbox-other oracles now tag state mode account store (command.Examine written) no_create no_list no_status none = absurd cc
+mailbox-other oracles now tag state mode account store (command.Create written) no_create no_list no_status none = absurd (no_create written refl)
+mailbox-other oracles now tag state mode account store (command.List reference pattern) no_create no_list no_status none = absurd (no_list reference pattern refl)
+mailbox-other oracles now tag state mode account store (command.Status written items) no_create no_list no_status none = absurd (no_status written items refl)
+mailbox-other oracles now tag state mode account store (command.Append written flags date utf8 octets) no_create no_list no_status none = absurd cc
+mailbox-other oracles now tag state mode account store (command.Fetch by_uid set items) no_create no_list no_status none = refl
+mailbox-other oracles now tag state mode account store (command.Store by_uid set op silent flags) no_create no_list no_status none = refl
+mailbox-other oracles now tag state mode account store command.Expunge no_create no_list no_status none = refl
+mailbox-other oracles now tag state mode account store command.Close no_create no_list no_status none = refl
+mailbox-other oracles now tag state mode account store command.NotHere no_create no_list no_status none = refl
 
 -- after login, any but ENABLE is one on folders
-pub authenticated-other : (meanings : Meanings) (now tag : List ℕ) (mode : Mode) (account : ℕ) (store : StoreState) (c : Command) → ((words : List (List ℕ)) → c ≡ command.Enable words → ⊥)
-    → mailbox_step meanings now tag (authenticated mode account) mode account store c ≡ authenticated_step meanings now tag mode account store c
-authenticated-other meanings now tag mode account store command.Capability no_enable = refl
-authenticated-other meanings now tag mode account store command.Noop no_enable = refl
-authenticated-other meanings now tag mode account store command.Check no_enable = refl
-authenticated-other meanings now tag mode account store command.Logout no_enable = refl
-authenticated-other meanings now tag mode account store (command.Login user password) no_enable = refl
-authenticated-other meanings now tag mode account store (command.Enable words) no_enable = absurd (no_enable words refl)
-authenticated-other meanings now tag mode account store (command.Select written) no_enable = refl
-authenticated-other meanings now tag mode account store (command.Examine written) no_enable = refl
-authenticated-other meanings now tag mode account store (command.Create written) no_enable = refl
-authenticated-other meanings now tag mode account store (command.List reference pattern) no_enable = refl
-authenticated-other meanings now tag mode account store (command.Status written items) no_enable = refl
-authenticated-other meanings now tag mode account store (command.Append written flags date utf8 octets) no_enable = refl
-authenticated-other meanings now tag mode account store (command.Fetch by_uid set items) no_enable = refl
-authenticated-other meanings now tag mode account store (command.Store by_uid set op silent flags) no_enable = refl
-authenticated-other meanings now tag mode account store command.Expunge no_enable = refl
-authenticated-other meanings now tag mode account store command.Close no_enable = refl
-authenticated-other meanings now tag mode account store command.NotHere no_enable = refl
+pub authenticated-other : (oracles : Oracles) (now tag : List ℕ) (mode : Mode) (account : ℕ) (store : StoreState) (c : Command) → ((words : List (List ℕ)) → c ≡ command.Enable words → ⊥)
+    → mailbox_step oracles now tag (authenticated mode account) mode account store c ≡ authenticated_step oracles now tag mode account store c
+authenticated-other oracles now tag mode account store command.Capability no_enable = refl
+authenticated-other oracles now tag mode account store command.Noop no_enable = refl
+authenticated-other oracles now tag mode account store command.Check no_enable = refl
+authenticated-other oracles now tag mode account store command.Logout no_enable = refl
+authenticated-other oracles now tag mode account store (command.Login user password) no_enable = refl
+authenticated-other oracles now tag mode account store (command.Enable words) no_enable = absurd (no_enable words refl)
+authenticated-other oracles now tag mode account store (command.Select written) no_enable = refl
+authenticated-other oracles now tag mode account store (command.Examine written) no_enable = refl
+authenticated-other oracles now tag mode account store (command.Create written) no_enable = refl
+authenticated-other oracles now tag mode account store (command.List reference pattern) no_enable = refl
+authenticated-other oracles now tag mode account store (command.Status written items) no_enable = refl
+authenticated-other oracles now tag mode account store (command.Append written flags date utf8 octets) no_enable = refl
+authenticated-other oracles now tag mode account store (command.Fetch by_uid set items) no_enable = refl
+authenticated-other oracles now tag mode account store (command.Store by_uid set op silent flags) no_enable = refl
+authenticated-other oracles now tag mode account store command.Expunge no_enable = refl
+authenticated-other oracles now tag mode account store command.Close no_enable = refl
+authenticated-other oracles now tag mode account store command.NotHere no_enable = refl
 
 -- any but SELECT, EXAMINE and APPEND selects no folder and puts no message into one
 pub selects-other : (c : Command) → ((written : List ℕ) → c ≡ command.Select written → ⊥) → ((written : List ℕ) → c ≡ command.Examine written → ⊥)
@@ -218,25 +218,25 @@ status-left tag state mode store items None = refl
 status-left tag state mode store items (Some folder) = refl
 
 -- a command on folders that selects none and puts nothing into one leaves the state, unless it ends the session
-pub mailbox-left : (meanings : Meanings) (now tag : List ℕ) (state : State) (mode : Mode) (account : ℕ) (store : StoreState) (c : Command) → selects_or_appends c ≡ false
-    → state_left state c ≡ (mailbox_step meanings now tag state mode account store c).state
-mailbox-left meanings now tag state mode account store command.Capability none = refl
-mailbox-left meanings now tag state mode account store command.Noop none = refl
-mailbox-left meanings now tag state mode account store command.Check none = refl
-mailbox-left meanings now tag state mode account store command.Logout none = refl
-mailbox-left meanings now tag state mode account store (command.Login user password) none = refl
-mailbox-left meanings now tag state mode account store (command.Enable words) none = refl
-mailbox-left meanings now tag state mode account store (command.Select written) none = absurd cc
-mailbox-left meanings now tag state mode account store (command.Examine written) none = absurd cc
-mailbox-left meanings now tag state mode account store (command.Create written) none = create-left tag state account store _
-mailbox-left meanings now tag state mode account store (command.List reference pattern) none = refl
-mailbox-left meanings now tag state mode account store (command.Status written items) none = status-left tag state mode store items _
-mailbox-left meanings now tag state mode account store (command.Append written flags date utf8 octets) none = absurd cc
-mailbox-left meanings now tag state mode account store (command.Fetch by_uid set items) none = refl
-mailbox-left meanings now tag state mode account store (command.Store by_uid set op silent flags) none = refl
-mailbox-left meanings now tag state mode account store command.Expunge none = refl
-mailbox-left meanings now tag state mode account store command.Close none = refl
-mailbox-left meanings now tag state mode account store command.NotHere none = refl
+pub mailbox-left : (oracles : Oracles) (now tag : List ℕ) (state : State) (mode : Mode) (account : ℕ) (store : StoreState) (c : Command) → selects_or_appends c ≡ false
+    → state_left state c ≡ (mailbox_step oracles now tag state mode account store c).state
+mailbox-left oracles now tag state mode account store command.Capability none = refl
+mailbox-left oracles now tag state mode account store command.Noop none = refl
+mailbox-left oracles now tag state mode account store command.Check none = refl
+mailbox-left oracles now tag state mode account store command.Logout none = refl
+mailbox-left oracles now tag state mode account store (command.Login user password) none = refl
+mailbox-left oracles now tag state mode account store (command.Enable words) none = refl
+mailbox-left oracles now tag state mode account store (command.Select written) none = absurd cc
+mailbox-left oracles now tag state mode account store (command.Examine written) none = absurd cc
+mailbox-left oracles now tag state mode account store (command.Create written) none = create-left tag state account store _
+mailbox-left oracles now tag state mode account store (command.List reference pattern) none = refl
+mailbox-left oracles now tag state mode account store (command.Status written items) none = status-left tag state mode store items _
+mailbox-left oracles now tag state mode account store (command.Append written flags date utf8 octets) none = absurd cc
+mailbox-left oracles now tag state mode account store (command.Fetch by_uid set items) none = refl
+mailbox-left oracles now tag state mode account store (command.Store by_uid set op silent flags) none = refl
+mailbox-left oracles now tag state mode account store command.Expunge none = refl
+mailbox-left oracles now tag state mode account store command.Close none = refl
+mailbox-left oracles now tag state mode account store command.NotHere none = refl
 
 -- ---- what a session knows
 
@@ -267,18 +267,18 @@ more-known a b (imap.Selected session) has known = more-folder a b session.state
 more-known a b (imap.EnabledSelected session) has known = more-folder a b session.state.account session.state.folder session.state.messages.items has known
 
 -- what is kept behind a step
-kept_behind : Kept → Step → Kept
-kept_behind kept step = after_all kept (records_of (changes_in step.acts))
+kept_following : Kept → Step → Kept
+kept_following kept step = after_all kept (records_of (changes_in step.acts))
 
 HasMore-nil : (kept : Kept) → HasMore kept kept
 HasMore-nil kept = record { accounts = refl; messages = refl; folders = omega arith }
 
-HasMore-if : (kept : Kept) (b : Bool) (x y : Step) → HasMore kept (kept_behind kept x) → HasMore kept (kept_behind kept y) → HasMore kept (kept_behind kept (if b then x else y))
+HasMore-if : (kept : Kept) (b : Bool) (x y : Step) → HasMore kept (kept_following kept x) → HasMore kept (kept_following kept y) → HasMore kept (kept_following kept (if b then x else y))
 HasMore-if kept true x y one two = one
 HasMore-if kept false x y one two = two
 
-HasMore-made : (kept : Kept) (tag : List ℕ) (state : State) (account : ℕ) (name : List ℕ) (found : Option StoreFault) → HasMore kept (kept_behind kept (create_unless tag state account name found))
-unfolding kept_behind
+HasMore-made : (kept : Kept) (tag : List ℕ) (state : State) (account : ℕ) (name : List ℕ) (found : Option StoreFault) → HasMore kept (kept_following kept (create_unless tag state account name found))
+unfolding kept_following
 HasMore-made kept tag state account name None = record {
   accounts = refl;
   messages = refl;
@@ -290,24 +290,24 @@ HasMore-made kept tag state account name (Some refusal.TooLarge) = HasMore-nil k
 HasMore-made kept tag state account name (Some refusal.Keeper) = HasMore-nil kept
 HasMore-made kept tag state account name (Some refusal.Memory) = HasMore-nil kept
 
-HasMore-create : (kept : Kept) (tag : List ℕ) (state : State) (account : ℕ) (store : StoreState) (named : Option (List ℕ)) → HasMore kept (kept_behind kept (create_by tag state account store named))
-unfolding kept_behind
+HasMore-create : (kept : Kept) (tag : List ℕ) (state : State) (account : ℕ) (store : StoreState) (named : Option (List ℕ)) → HasMore kept (kept_following kept (create_by tag state account store named))
+unfolding kept_following
 HasMore-create kept tag state account store None = HasMore-nil kept
 HasMore-create kept tag state account store (Some given) =
     HasMore-if kept (names_folder (kept_name given)) (create_unless tag state account (kept_name given) (folder_refusal store.kept account given)) _
     (HasMore-made kept tag state account (kept_name given) (folder_refusal store.kept account given)) (HasMore-nil kept)
 
 -- a session knows what it knew once CREATE was answered
-pub created-known : (a b : Around) (result : Result (Unit {0}) Fault) (tag : List ℕ) (account : ℕ) (named : Meanings → Option (List ℕ))
-    → WithMeanings (λ meanings. (state : State) → Does (part_octets meanings) a b (fault_of result) (create_by tag state account a.desk.store (named meanings)).acts)
+pub created-known : (a b : Around) (result : Result (Unit {0}) Fault) (tag : List ℕ) (account : ℕ) (named : Oracles → Option (List ℕ))
+    → WithOracles (λ oracles. (state : State) → Does (part_octets oracles) a b (fault_of result) (create_by tag state account a.desk.store (named oracles)).acts)
     → OnOk result ((session : ImapState) → KnowsState a.desk.store session → KnowsState b.desk.store session)
-unfolding kept_behind
+unfolding kept_following
 created-known a b (Err met) tag account named does = tt
 created-known a b (Ok unit) tag account named does = λ session known.
-    let made = does meanings_given.0 meanings_given.1 not_authenticated in
-    let acts = (create_by tag not_authenticated account a.desk.store (named meanings_given.0)).acts in
+    let made = does oracles_given.0 oracles_given.1 not_authenticated in
+    let acts = (create_by tag not_authenticated account a.desk.store (named oracles_given.0)).acts in
     let more : HasMore a.desk.store.kept b.desk.store.kept = subst (λ (store : StoreState). HasMore a.desk.store.kept store.kept) (sym made.follows.store)
-    (HasMore-create a.desk.store.kept tag not_authenticated account a.desk.store (named meanings_given.0)) in
+    (HasMore-create a.desk.store.kept tag not_authenticated account a.desk.store (named oracles_given.0)) in
     more-known a.desk.store b.desk.store session more known
 
 -- or where the desk is as it was

@@ -16,13 +16,13 @@ use Rattle.session_core.specs.Acts.{Act, changes, gives}
 use Rattle.session_core.specs.Around.{Around}
 use Rattle.session_core.specs.Desks.{stored_octets}
 use Rattle.session_core.specs.Doing.{Asks}
-use Rattle.session_core.specs.Meanings.{Meanings}
+use Rattle.session_core.specs.Oracles.{Oracles}
 use Rattle.session_core.proofs.AskingLemmas.{Asks-nil}
 use Rattle.imap_grammar.specs.declared.command.FetchItem.{FetchItem}
 use Rattle.imap_grammar.specs.declared.command.FetchItem.TheVariants as item
 use Rattle.imap_mailboxes.specs.Flags.{flags_text}
 use Rattle.imap_session.specs.Items.{asked_of, is_flags, is_of_message, item_parts, sets_seen}
-use Rattle.imap_session.specs.Machine.{becomes_seen, fetch_one, fetch_reply, fetch_told, flags_change, is_seen, line, parts_behind, reply, seen, with_flags, with_uid}
+use Rattle.imap_session.specs.Machine.{becomes_seen, fetch_one, fetch_reply, fetch_told, flags_change, is_seen, line, parts_following, reply, seen, with_flags, with_uid}
 use Rattle.imap_session.specs.Replies.{ReplyPart, text, part_octets}
 use Rattle.imap_session.specs.private.Fetched.{end_octets, space_octets, tells_flags_last, tells_uid_first, uid_first_octets}
 use Rattle.imap_session.specs.private.Pending.{Carries}
@@ -35,90 +35,90 @@ reply-append xs ys = map-append gives xs ys
 -- ---- items, with a space between any two
 
 -- whether something stands before what comes next
-abbrev pub stands_behind : {A : Type 0} → (others : Bool) → List A → Bool
-stands_behind others [] = others
-stands_behind others (x ∷ xs) = true
+abbrev pub stands_after : {A : Type 0} → (others : Bool) → List A → Bool
+stands_after others [] = others
+stands_after others (x ∷ xs) = true
 
-behind_true : {A : Type 0} (xs : List A) → stands_behind true xs ≡ true
-behind_true [] = refl
-behind_true (x ∷ xs) = refl
+after_true : {A : Type 0} (xs : List A) → stands_after true xs ≡ true
+after_true [] = refl
+after_true (x ∷ xs) = refl
 
-behind-map : {A B : Type 0} (f : A → B) (others : Bool) (xs : List A) → stands_behind others (map f xs) ≡ stands_behind others xs
-behind-map f others [] = refl
-behind-map f others (x ∷ xs) = refl
+following-map : {A B : Type 0} (f : A → B) (others : Bool) (xs : List A) → stands_after others (map f xs) ≡ stands_after others xs
+following-map f others [] = refl
+following-map f others (x ∷ xs) = refl
 
-pub behind-push : {A : Type 0} (others : Bool) (xs : List A) (x : A) → stands_behind others (xs ++ x ∷ []) ≡ true
-behind-push others [] x = refl
-behind-push others (y ∷ xs) x = refl
+pub following-push : {A : Type 0} (others : Bool) (xs : List A) (x : A) → stands_after others (xs ++ x ∷ []) ≡ true
+following-push others [] x = refl
+following-push others (y ∷ xs) x = refl
 
-behind_one : (one : List ReplyPart) (xs ys : List (List ReplyPart)) → parts_behind true (xs ++ ys) ≡ parts_behind true xs ++ parts_behind (stands_behind true xs) ys
-    → one ++ parts_behind true (xs ++ ys) ≡ (one ++ parts_behind true xs) ++ parts_behind true ys
-behind_one one xs ys is =
-    ap (λ (l : List ReplyPart). one ++ l) (is ∙ ap (λ (b : Bool). parts_behind true xs ++ parts_behind b ys) (behind_true xs)) ∙ sym (append_assoc one (parts_behind true xs) (parts_behind true ys))
+after_one : (one : List ReplyPart) (xs ys : List (List ReplyPart)) → parts_following true (xs ++ ys) ≡ parts_following true xs ++ parts_following (stands_after true xs) ys
+    → one ++ parts_following true (xs ++ ys) ≡ (one ++ parts_following true xs) ++ parts_following true ys
+after_one one xs ys is =
+    ap (λ (l : List ReplyPart). one ++ l) (is ∙ ap (λ (b : Bool). parts_following true xs ++ parts_following b ys) (after_true xs)) ∙ sym (append_assoc one (parts_following true xs) (parts_following true ys))
 
-parts_behind-append : (others : Bool) (xs ys : List (List ReplyPart)) → parts_behind others (xs ++ ys) ≡ parts_behind others xs ++ parts_behind (stands_behind others xs) ys
-parts_behind-append others [] ys = refl
-parts_behind-append false (one ∷ xs) ys = behind_one one xs ys (parts_behind-append true xs ys)
-parts_behind-append true (one ∷ xs) ys = ap (λ (l : List ReplyPart). text (codes " ") ∷ l) (behind_one one xs ys (parts_behind-append true xs ys))
+parts_following-append : (others : Bool) (xs ys : List (List ReplyPart)) → parts_following others (xs ++ ys) ≡ parts_following others xs ++ parts_following (stands_after others xs) ys
+parts_following-append others [] ys = refl
+parts_following-append false (one ∷ xs) ys = after_one one xs ys (parts_following-append true xs ys)
+parts_following-append true (one ∷ xs) ys = ap (λ (l : List ReplyPart). text (codes " ") ∷ l) (after_one one xs ys (parts_following-append true xs ys))
 
-space_parts : (apart : Bool) → List ReplyPart
+space_parts : (is_separated : Bool) → List ReplyPart
 space_parts false = []
 space_parts true = text (codes " ") ∷ []
 
-behind_alone : (apart : Bool) (parts : List ReplyPart) → parts_behind apart (parts ∷ []) ≡ space_parts apart ++ parts
+after_alone : (is_separated : Bool) (parts : List ReplyPart) → parts_following is_separated (parts ∷ []) ≡ space_parts is_separated ++ parts
 unfolding space_parts
-behind_alone false parts = append-nil parts
-behind_alone true parts = ap (λ (l : List ReplyPart). text (codes " ") ∷ l) (append-nil parts)
+after_alone false parts = append-nil parts
+after_alone true parts = ap (λ (l : List ReplyPart). text (codes " ") ∷ l) (append-nil parts)
 
-space_given : (meanings : Meanings) (apart : Bool) → space_octets apart ≡ flat_map (part_octets meanings) (space_parts apart)
+space_given : (oracles : Oracles) (is_separated : Bool) → space_octets is_separated ≡ flat_map (part_octets oracles) (space_parts is_separated)
 unfolding space_parts
-space_given meanings false = refl
-space_given meanings true = refl
+space_given oracles false = refl
+space_given oracles true = refl
 
 -- the parts of so many items, and of the others
-behind_cut : (others : Bool) (f : FetchItem → List ReplyPart) (xs ys : List FetchItem)
-    → parts_behind others (map f (xs ++ ys)) ≡ parts_behind others (map f xs) ++ parts_behind (stands_behind others xs) (map f ys)
-behind_cut others f xs ys =
-    ap (parts_behind others) (map-append f xs ys)
-    ∙ (parts_behind-append others (map f xs) (map f ys) ∙ ap (λ (b : Bool). parts_behind others (map f xs) ++ parts_behind b (map f ys)) (behind-map f others xs))
+after_cut : (others : Bool) (f : FetchItem → List ReplyPart) (xs ys : List FetchItem)
+    → parts_following others (map f (xs ++ ys)) ≡ parts_following others (map f xs) ++ parts_following (stands_after others xs) (map f ys)
+after_cut others f xs ys =
+    ap (parts_following others) (map-append f xs ys)
+    ∙ (parts_following-append others (map f xs) (map f ys) ∙ ap (λ (b : Bool). parts_following others (map f xs) ++ parts_following b (map f ys)) (following-map f others xs))
 
-behind_more : (others : Bool) (f : FetchItem → List ReplyPart) (xs : List FetchItem) (x : FetchItem)
-    → reply (parts_behind others (map f (xs ++ x ∷ []))) ≡ reply (parts_behind others (map f xs)) ++ (reply (space_parts (stands_behind others xs)) ++ reply (f x))
-behind_more others f xs x =
-    ap reply (behind_cut others f xs (x ∷ []) ∙ ap (λ (l : List ReplyPart). parts_behind others (map f xs) ++ l) (behind_alone (stands_behind others xs) (f x)))
-    ∙ (reply-append (parts_behind others (map f xs)) (space_parts (stands_behind others xs) ++ f x)
-    ∙ ap (λ (l : List (Act ReplyPart)). reply (parts_behind others (map f xs)) ++ l) (reply-append (space_parts (stands_behind others xs)) (f x)))
+after_more : (others : Bool) (f : FetchItem → List ReplyPart) (xs : List FetchItem) (x : FetchItem)
+    → reply (parts_following others (map f (xs ++ x ∷ []))) ≡ reply (parts_following others (map f xs)) ++ (reply (space_parts (stands_after others xs)) ++ reply (f x))
+after_more others f xs x =
+    ap reply (after_cut others f xs (x ∷ []) ∙ ap (λ (l : List ReplyPart). parts_following others (map f xs) ++ l) (after_alone (stands_after others xs) (f x)))
+    ∙ (reply-append (parts_following others (map f xs)) (space_parts (stands_after others xs) ++ f x)
+    ∙ ap (λ (l : List (Act ReplyPart)). reply (parts_following others (map f xs)) ++ l) (reply-append (space_parts (stands_after others xs)) (f x)))
 
 -- one item more, behind a space or not
-pub Carries-item : (meanings : Meanings) (a b c : Around) (met : Option Fault) (owed had spaced owes : List ℕ) (others apart : Bool) (f : FetchItem → List ReplyPart) (items : List FetchItem) (at : ℕ) (x : FetchItem)
-    → at < length items → x ≡ get_or items at x → Carries (part_octets meanings) a b None owed had (reply (parts_behind others (map f (take at items))))
-    → apart ≡ stands_behind others (take at items) → spaced ≡ had ++ space_octets apart → Carries (part_octets meanings) b c met spaced owes (reply (f x))
-    → Carries (part_octets meanings) a c met owed owes (reply (parts_behind others (map f (take (at + 1) items))))
-Carries-item meanings a b c met owed had spaced owes others apart f items at x low here front behind spaced_is one =
+pub Carries-item : (oracles : Oracles) (a b c : Around) (met : Option Fault) (owed had spaced owes : List ℕ) (others is_separated : Bool) (f : FetchItem → List ReplyPart) (items : List FetchItem) (at : ℕ) (x : FetchItem)
+    → at < length items → x ≡ get_or items at x → Carries (part_octets oracles) a b None owed had (reply (parts_following others (map f (take at items))))
+    → is_separated ≡ stands_after others (take at items) → spaced ≡ had ++ space_octets is_separated → Carries (part_octets oracles) b c met spaced owes (reply (f x))
+    → Carries (part_octets oracles) a c met owed owes (reply (parts_following others (map f (take (at + 1) items))))
+Carries-item oracles a b c met owed had spaced owes others is_separated f items at x low here front following spaced_is one =
     let more : take (at + 1) items ≡ take at items ++ x ∷ [] = take_more items at x low ∙ ap (λ (y : FetchItem). take at items ++ y ∷ []) (sym here) in
-    let acts : reply (parts_behind others (map f (take (at + 1) items))) ≡ reply (parts_behind others (map f (take at items))) ++ (reply (space_parts apart) ++ reply (f x)) =
-    ap (λ (l : List FetchItem). reply (parts_behind others (map f l))) more
-    ∙ (behind_more others f (take at items) x ∙ ap (λ (b : Bool). reply (parts_behind others (map f (take at items))) ++ (reply (space_parts b) ++ reply (f x))) (sym behind)) in
-    let space = Carries-parts (part_octets meanings) b had spaced (space_parts apart) (spaced_is ∙ ap (λ (l : List ℕ). had ++ l) (space_given meanings apart)) in
-    subst (λ (l : List (Act ReplyPart)). Carries (part_octets meanings) a c met owed owes l) (sym acts)
-    (Carries-then (part_octets meanings) a b c met owed had owes (reply (parts_behind others (map f (take at items)))) (reply (space_parts apart) ++ reply (f x)) front
-    (Carries-then (part_octets meanings) b b c met had spaced owes (reply (space_parts apart)) (reply (f x)) space one))
+    let acts : reply (parts_following others (map f (take (at + 1) items))) ≡ reply (parts_following others (map f (take at items))) ++ (reply (space_parts is_separated) ++ reply (f x)) =
+    ap (λ (l : List FetchItem). reply (parts_following others (map f l))) more
+    ∙ (after_more others f (take at items) x ∙ ap (λ (b : Bool). reply (parts_following others (map f (take at items))) ++ (reply (space_parts b) ++ reply (f x))) (sym following)) in
+    let space = Carries-parts (part_octets oracles) b had spaced (space_parts is_separated) (spaced_is ∙ ap (λ (l : List ℕ). had ++ l) (space_given oracles is_separated)) in
+    subst (λ (l : List (Act ReplyPart)). Carries (part_octets oracles) a c met owed owes l) (sym acts)
+    (Carries-then (part_octets oracles) a b c met owed had owes (reply (parts_following others (map f (take at items)))) (reply (space_parts is_separated) ++ reply (f x)) front
+    (Carries-then (part_octets oracles) b b c met had spaced owes (reply (space_parts is_separated)) (reply (f x)) space one))
 
 -- a fault in one of the items
-pub Carries-cut : (meanings : Meanings) (a b : Around) (met : Fault) (owed had owes : List ℕ) (others : Bool) (f : FetchItem → List ReplyPart) (items : List FetchItem) (at : ℕ)
-    → Carries (part_octets meanings) a b (Some met) owed had (reply (parts_behind others (map f (take at items)))) → Carries (part_octets meanings) a b (Some met) owed owes (reply (parts_behind others (map f items)))
-Carries-cut meanings a b met owed had owes others f items at front =
-    let rest = parts_behind (stands_behind others (take at items)) (map f (drop at items)) in
-    let acts : reply (parts_behind others (map f items)) ≡ reply (parts_behind others (map f (take at items))) ++ reply rest =
-    ap (λ (l : List FetchItem). reply (parts_behind others (map f l))) (sym (take-append-drop at items))
-    ∙ (ap reply (behind_cut others f (take at items) (drop at items)) ∙ reply-append (parts_behind others (map f (take at items))) rest) in
-    subst (λ (l : List (Act ReplyPart)). Carries (part_octets meanings) a b (Some met) owed owes l) (sym acts)
-    (Carries-before (part_octets meanings) a b met owed had owes (reply (parts_behind others (map f (take at items)))) (reply rest) front)
+pub Carries-cut : (oracles : Oracles) (a b : Around) (met : Fault) (owed had owes : List ℕ) (others : Bool) (f : FetchItem → List ReplyPart) (items : List FetchItem) (at : ℕ)
+    → Carries (part_octets oracles) a b (Some met) owed had (reply (parts_following others (map f (take at items)))) → Carries (part_octets oracles) a b (Some met) owed owes (reply (parts_following others (map f items)))
+Carries-cut oracles a b met owed had owes others f items at front =
+    let rest = parts_following (stands_after others (take at items)) (map f (drop at items)) in
+    let acts : reply (parts_following others (map f items)) ≡ reply (parts_following others (map f (take at items))) ++ reply rest =
+    ap (λ (l : List FetchItem). reply (parts_following others (map f l))) (sym (take-append-drop at items))
+    ∙ (ap reply (after_cut others f (take at items) (drop at items)) ∙ reply-append (parts_following others (map f (take at items))) rest) in
+    subst (λ (l : List (Act ReplyPart)). Carries (part_octets oracles) a b (Some met) owed owes l) (sym acts)
+    (Carries-before (part_octets oracles) a b met owed had owes (reply (parts_following others (map f (take at items)))) (reply rest) front)
 
 -- ---- what is put last and stays pending
 
-pub Carries-text : (meanings : Meanings) (a : Around) (owed owes octets : List ℕ) → owes ≡ owed ++ octets → Carries (part_octets meanings) a a None owed owes (reply (text octets ∷ []))
-Carries-text meanings a owed owes octets is = Carries-parts (part_octets meanings) a owed owes (text octets ∷ []) (is ∙ ap (λ (l : List ℕ). owed ++ l) (sym (append-nil octets)))
+pub Carries-text : (oracles : Oracles) (a : Around) (owed owes octets : List ℕ) → owes ≡ owed ++ octets → Carries (part_octets oracles) a a None owed owes (reply (text octets ∷ []))
+Carries-text oracles a owed owes octets is = Carries-parts (part_octets oracles) a owed owes (text octets ∷ []) (is ∙ ap (λ (l : List ℕ). owed ++ l) (sym (append-nil octets)))
 
 -- ---- a message's reply
 
@@ -133,40 +133,40 @@ pub last_parts : (last : Bool) → Listed → List ReplyPart
 last_parts false one = []
 last_parts true one = text (codes " ") ∷ text (flags_text one.flags) ∷ []
 
-first_given : (meanings : Meanings) (first : Bool) (one : Listed) → uid_first_octets first one ≡ flat_map (part_octets meanings) (first_parts first one)
+first_given : (oracles : Oracles) (first : Bool) (one : Listed) → uid_first_octets first one ≡ flat_map (part_octets oracles) (first_parts first one)
 unfolding first_parts
-first_given meanings false one = refl
-first_given meanings true one = sym (append-nil (codes "UID " ++ decimal one.uid))
+first_given oracles false one = refl
+first_given oracles true one = sym (append-nil (codes "UID " ++ decimal one.uid))
 
-end_given : (meanings : Meanings) (last : Bool) (one : Listed) → end_octets last one ≡ flat_map (part_octets meanings) (last_parts last one ++ line (codes ")") ∷ [])
+end_given : (oracles : Oracles) (last : Bool) (one : Listed) → end_octets last one ≡ flat_map (part_octets oracles) (last_parts last one ++ line (codes ")") ∷ [])
 unfolding last_parts
-end_given meanings false one = refl
-end_given meanings true one = refl
+end_given oracles false one = refl
+end_given oracles true one = refl
 
 -- the flags behind all items, of which there is one at least
-flags_behind : (f : FetchItem → List ReplyPart) (one : Listed) (others : Bool) (items : List FetchItem) → f item.Flags ≡ text (flags_text one.flags) ∷ [] → stands_behind others items ≡ true
-    → parts_behind others (map f (items ++ item.Flags ∷ [])) ≡ parts_behind others (map f items) ++ last_parts true one
+flags_after : (f : FetchItem → List ReplyPart) (one : Listed) (others : Bool) (items : List FetchItem) → f item.Flags ≡ text (flags_text one.flags) ∷ [] → stands_after others items ≡ true
+    → parts_following others (map f (items ++ item.Flags ∷ [])) ≡ parts_following others (map f items) ++ last_parts true one
 unfolding last_parts
-flags_behind f one others items flags some =
-    behind_cut others f items (item.Flags ∷ [])
-    ∙ (ap (λ (b : Bool). parts_behind others (map f items) ++ parts_behind b (f item.Flags ∷ [])) some
-    ∙ ap (λ (l : List ReplyPart). parts_behind others (map f items) ++ (text (codes " ") ∷ (l ++ []))) flags)
+flags_after f one others items flags some =
+    after_cut others f items (item.Flags ∷ [])
+    ∙ (ap (λ (b : Bool). parts_following others (map f items) ++ parts_following b (f item.Flags ∷ [])) some
+    ∙ ap (λ (l : List ReplyPart). parts_following others (map f items) ++ (text (codes " ") ∷ (l ++ []))) flags)
 
-some_of : (others : Bool) (items : List FetchItem) → (items ≡ [] → ⊥) → stands_behind others items ≡ true
+some_of : (others : Bool) (items : List FetchItem) → (items ≡ [] → ⊥) → stands_after others items ≡ true
 some_of others [] some = absurd (some refl)
 some_of others (x ∷ items) some = refl
 
 with_last : (f : FetchItem → List ReplyPart) (one : Listed) (items : List FetchItem) (last : Bool) → f item.Flags ≡ text (flags_text one.flags) ∷ [] → (items ≡ [] → ⊥)
-    → parts_behind false (map f (if last then items ++ item.Flags ∷ [] else items)) ≡ parts_behind false (map f items) ++ last_parts last one
+    → parts_following false (map f (if last then items ++ item.Flags ∷ [] else items)) ≡ parts_following false (map f items) ++ last_parts last one
 unfolding last_parts
-with_last f one items false flags some = sym (append-nil (parts_behind false (map f items)))
-with_last f one items true flags some = flags_behind f one false items flags (some_of false items some)
+with_last f one items false flags some = sym (append-nil (parts_following false (map f items)))
+with_last f one items true flags some = flags_after f one false items flags (some_of false items some)
 
 with_first : (f : FetchItem → List ReplyPart) (one : Listed) (items : List FetchItem) (first : Bool) → f item.Uid ≡ text (codes "UID " ++ decimal one.uid) ∷ []
-    → parts_behind false (map f (if first then item.Uid ∷ items else items)) ≡ first_parts first one ++ parts_behind first (map f items)
+    → parts_following false (map f (if first then item.Uid ∷ items else items)) ≡ first_parts first one ++ parts_following first (map f items)
 unfolding first_parts
 with_first f one items false uid = refl
-with_first f one items true uid = ap (λ (l : List ReplyPart). l ++ parts_behind true (map f items)) uid
+with_first f one items true uid = ap (λ (l : List ReplyPart). l ++ parts_following true (map f items)) uid
 
 some_seen : (items : List FetchItem) → list_any sets_seen items ≡ true → items ≡ [] → ⊥
 some_seen [] seen is = cc
@@ -186,12 +186,12 @@ flags_in_front true items = refl
 -- all that is told, where the flags are told last or not
 all_told : (f : FetchItem → List ReplyPart) (one : Listed) (items : List FetchItem) (first changed : Bool) → f item.Uid ≡ text (codes "UID " ++ decimal one.uid) ∷ [] → f item.Flags ≡ text (flags_text one.flags) ∷ []
     → (changed ≡ true → list_any sets_seen items ≡ true)
-    → parts_behind false (map f (with_flags changed (in_front first items)))
-    ≡ (first_parts first one ++ parts_behind first (map f items)) ++ last_parts (tells_flags_last changed items) one
+    → parts_following false (map f (with_flags changed (in_front first items)))
+    ≡ (first_parts first one ++ parts_following first (map f items)) ++ last_parts (tells_flags_last changed items) one
 unfolding last_parts
-all_told f one items first false uid flags seen = with_first f one items first uid ∙ sym (append-nil (first_parts first one ++ parts_behind first (map f items)))
+all_told f one items first false uid flags seen = with_first f one items first uid ∙ sym (append-nil (first_parts first one ++ parts_following first (map f items)))
 all_told f one items first true uid flags seen =
-    ap (λ (last : Bool). parts_behind false (map f (if not last then in_front first items ++ item.Flags ∷ [] else in_front first items))) (flags_in_front first items)
+    ap (λ (last : Bool). parts_following false (map f (if not last then in_front first items ++ item.Flags ∷ [] else in_front first items))) (flags_in_front first items)
     ∙ (with_last f one (in_front first items) (not (list_any is_flags items)) flags (some_in_front first items (some_seen items (seen refl)))
     ∙ ap (λ (l : List ReplyPart). l ++ last_parts (not (list_any is_flags items)) one) (with_first f one items first uid))
 
@@ -202,21 +202,21 @@ regrouped x a b c d = ap (λ l. x ∷ l) (ap (λ l. l ++ d) (append_assoc a b c)
 pub tail_parts : (changed : Bool) → List FetchItem → Listed → List ReplyPart
 tail_parts changed items one = last_parts (tells_flags_last changed items) one ++ line (codes ")") ∷ []
 
-pub tail_given : (meanings : Meanings) (changed : Bool) (items : List FetchItem) (one : Listed) → end_octets (tells_flags_last changed items) one ≡ flat_map (part_octets meanings) (tail_parts changed items one)
+pub tail_given : (oracles : Oracles) (changed : Bool) (items : List FetchItem) (one : Listed) → end_octets (tells_flags_last changed items) one ≡ flat_map (part_octets oracles) (tail_parts changed items one)
 unfolding tail_parts
-tail_given meanings changed items one = end_given meanings (tells_flags_last changed items) one
+tail_given oracles changed items one = end_given oracles (tells_flags_last changed items) one
 
-reply_is : (meanings : Meanings) (mode : Mode) (store : StoreState) (number : ℕ) (one : Listed) (by_uid changed : Bool) (items : List FetchItem) → (changed ≡ true → list_any sets_seen items ≡ true)
-    → reply (fetch_reply meanings mode store number one (with_flags changed (with_uid by_uid items)))
+reply_is : (oracles : Oracles) (mode : Mode) (store : StoreState) (number : ℕ) (one : Listed) (by_uid changed : Bool) (items : List FetchItem) → (changed ≡ true → list_any sets_seen items ≡ true)
+    → reply (fetch_reply oracles mode store number one (with_flags changed (with_uid by_uid items)))
     ≡ reply (text (front_of number) ∷ []) ++ (reply (first_parts (tells_uid_first by_uid items) one)
-    ++ (reply (parts_behind (tells_uid_first by_uid items) (map (item_parts meanings mode store one) items)) ++ reply (tail_parts changed items one)))
+    ++ (reply (parts_following (tells_uid_first by_uid items) (map (item_parts oracles mode store one) items)) ++ reply (tail_parts changed items one)))
 unfolding tail_parts
-reply_is meanings mode store number one by_uid changed items seen =
-    let f = item_parts meanings mode store one in
+reply_is oracles mode store number one by_uid changed items seen =
+    let f = item_parts oracles mode store one in
     let first = tells_uid_first by_uid items in
     let last = last_parts (tells_flags_last changed items) one in
-    let told = parts_behind first (map f items) in
-    let parts : fetch_reply meanings mode store number one (with_flags changed (with_uid by_uid items))
+    let told = parts_following first (map f items) in
+    let parts : fetch_reply oracles mode store number one (with_flags changed (with_uid by_uid items))
     ≡ (text (front_of number) ∷ []) ++ (first_parts first one ++ (told ++ (last ++ line (codes ")") ∷ []))) =
     ap (λ (l : List ReplyPart). text (front_of number) ∷ (l ++ line (codes ")") ∷ [])) (all_told f one items first changed refl refl seen)
     ∙ regrouped (text (front_of number)) (first_parts first one) told last (line (codes ")") ∷ []) in
@@ -225,20 +225,20 @@ reply_is meanings mode store number one by_uid changed items seen =
     ∙ ap (λ (l : List (Act ReplyPart)). reply (first_parts first one) ++ l) (reply-append told (last ++ line (codes ")") ∷ []))))
 
 -- items behind the beginning of a reply, and what follows them
-pub Carries-fronted : (meanings : Meanings) (mode : Mode) (store : StoreState) (number : ℕ) (one : Listed) (by_uid changed first : Bool) (items : List FetchItem) (a b : Around) (met : Option Fault)
+pub Carries-fronted : (oracles : Oracles) (mode : Mode) (store : StoreState) (number : ℕ) (one : Listed) (by_uid changed first : Bool) (items : List FetchItem) (a b : Around) (met : Option Fault)
     (owed fronted had owes : List ℕ) → (changed ≡ true → list_any sets_seen items ≡ true) → first ≡ tells_uid_first by_uid items → fronted ≡ owed ++ front_of number → had ≡ fronted ++ uid_first_octets first one
-    → Carries (part_octets meanings) a b met had owes (reply (parts_behind first (map (item_parts meanings mode store one) items)) ++ reply (tail_parts changed items one))
-    → Carries (part_octets meanings) a b met owed owes (reply (fetch_reply meanings mode store number one (with_flags changed (with_uid by_uid items))))
-Carries-fronted meanings mode store number one by_uid changed first items a b met owed fronted had owes seen first_is fronted_is had_is told =
-    let behind = reply (parts_behind first (map (item_parts meanings mode store one) items)) ++ reply (tail_parts changed items one) in
-    let acts : reply (fetch_reply meanings mode store number one (with_flags changed (with_uid by_uid items))) ≡ reply (text (front_of number) ∷ []) ++ (reply (first_parts first one) ++ behind) =
-    reply_is meanings mode store number one by_uid changed items seen
-    ∙ ap (λ (b : Bool). reply (text (front_of number) ∷ []) ++ (reply (first_parts b one) ++ (reply (parts_behind b (map (item_parts meanings mode store one) items)) ++ reply (tail_parts changed items one)))) (sym first_is) in
-    let front = Carries-text meanings a owed fronted (front_of number) fronted_is in
-    let uid = Carries-parts (part_octets meanings) a fronted had (first_parts first one) (had_is ∙ ap (λ (l : List ℕ). fronted ++ l) (first_given meanings first one)) in
-    subst (λ (l : List (Act ReplyPart)). Carries (part_octets meanings) a b met owed owes l) (sym acts)
-    (Carries-then (part_octets meanings) a a b met owed fronted owes (reply (text (front_of number) ∷ [])) (reply (first_parts first one) ++ behind) front
-    (Carries-then (part_octets meanings) a a b met fronted had owes (reply (first_parts first one)) behind uid told))
+    → Carries (part_octets oracles) a b met had owes (reply (parts_following first (map (item_parts oracles mode store one) items)) ++ reply (tail_parts changed items one))
+    → Carries (part_octets oracles) a b met owed owes (reply (fetch_reply oracles mode store number one (with_flags changed (with_uid by_uid items))))
+Carries-fronted oracles mode store number one by_uid changed first items a b met owed fronted had owes seen first_is fronted_is had_is told =
+    let following = reply (parts_following first (map (item_parts oracles mode store one) items)) ++ reply (tail_parts changed items one) in
+    let acts : reply (fetch_reply oracles mode store number one (with_flags changed (with_uid by_uid items))) ≡ reply (text (front_of number) ∷ []) ++ (reply (first_parts first one) ++ following) =
+    reply_is oracles mode store number one by_uid changed items seen
+    ∙ ap (λ (b : Bool). reply (text (front_of number) ∷ []) ++ (reply (first_parts b one) ++ (reply (parts_following b (map (item_parts oracles mode store one) items)) ++ reply (tail_parts changed items one)))) (sym first_is) in
+    let front = Carries-text oracles a owed fronted (front_of number) fronted_is in
+    let uid = Carries-parts (part_octets oracles) a fronted had (first_parts first one) (had_is ∙ ap (λ (l : List ℕ). fronted ++ l) (first_given oracles first one)) in
+    subst (λ (l : List (Act ReplyPart)). Carries (part_octets oracles) a b met owed owes l) (sym acts)
+    (Carries-then (part_octets oracles) a a b met owed fronted owes (reply (text (front_of number) ∷ [])) (reply (first_parts first one) ++ following) front
+    (Carries-then (part_octets oracles) a a b met fronted had owes (reply (first_parts first one)) following uid told))
 
 -- ---- what is asked for
 
@@ -282,12 +282,12 @@ asked_alike : (mode : Mode) (store other : StoreState) (items : List FetchItem) 
 asked_alike mode store other items id same = ap (λ (octets : List ℕ). (if list_any is_of_message items then asked_by mode id octets else [])) same
 
 -- the message was asked for, and then it is told
-pub Carries-told : (meanings : Meanings) (mode : Mode) (store : StoreState) (number : ℕ) (one : Listed) (by_uid changed : Bool) (items : List FetchItem) (a b c : Around) (met : Option Fault) (owed owes : List ℕ)
+pub Carries-told : (oracles : Oracles) (mode : Mode) (store : StoreState) (number : ℕ) (one : Listed) (by_uid changed : Bool) (items : List FetchItem) (a b c : Around) (met : Option Fault) (owed owes : List ℕ)
     → stored_octets a.desk.store one.id ≡ stored_octets store one.id → Asks a b None (asked_of mode a.desk.store items one.id)
-    → Carries (part_octets meanings) b c met owed owes (reply (fetch_reply meanings mode store number one (with_flags changed (with_uid by_uid items))))
-    → Carries (part_octets meanings) a c met owed owes (fetch_told meanings mode store by_uid items number one changed)
-Carries-told meanings mode store number one by_uid changed items a b c met owed owes same is_asked told =
-    Carries-asking (part_octets meanings) a b c met owed owes (asked_of mode store items one.id) (reply (fetch_reply meanings mode store number one (with_flags changed (with_uid by_uid items))))
+    → Carries (part_octets oracles) b c met owed owes (reply (fetch_reply oracles mode store number one (with_flags changed (with_uid by_uid items))))
+    → Carries (part_octets oracles) a c met owed owes (fetch_told oracles mode store by_uid items number one changed)
+Carries-told oracles mode store number one by_uid changed items a b c met owed owes same is_asked told =
+    Carries-asking (part_octets oracles) a b c met owed owes (asked_of mode store items one.id) (reply (fetch_reply oracles mode store number one (with_flags changed (with_uid by_uid items))))
     (subst (λ (l : List Asked). Asks a b None l) (asked_alike mode store a.desk.store items one.id same) is_asked) told
 
 -- ---- one message
@@ -301,19 +301,19 @@ seen_asked read_only items one is = asked read_only (list_any sets_seen items) (
     asked false true b is = refl
 
 -- the message is seen from here on
-pub fetched_seen : (meanings : Meanings) (mode : Mode) (store : StoreState) (by_uid read_only : Bool) (items : List FetchItem) (number : ℕ) (one : Listed) → becomes_seen read_only items one ≡ true
-    → fetch_one meanings mode store by_uid read_only items (record { number = number; listed = one })
-    ≡ changes (flags_change one (seen one).flags) ∷ fetch_told meanings mode store by_uid items number (seen one) true
-fetched_seen meanings mode store by_uid read_only items number one is = cond-true (becomes_seen read_only items one) _ _ is
+pub fetched_seen : (oracles : Oracles) (mode : Mode) (store : StoreState) (by_uid read_only : Bool) (items : List FetchItem) (number : ℕ) (one : Listed) → becomes_seen read_only items one ≡ true
+    → fetch_one oracles mode store by_uid read_only items (record { number = number; listed = one })
+    ≡ changes (flags_change one (seen one).flags) ∷ fetch_told oracles mode store by_uid items number (seen one) true
+fetched_seen oracles mode store by_uid read_only items number one is = cond-true (becomes_seen read_only items one) _ _ is
 
-pub fetched : (meanings : Meanings) (mode : Mode) (store : StoreState) (by_uid read_only : Bool) (items : List FetchItem) (number : ℕ) (one : Listed) → becomes_seen read_only items one ≡ false
-    → fetch_one meanings mode store by_uid read_only items (record { number = number; listed = one }) ≡ fetch_told meanings mode store by_uid items number one false
-fetched meanings mode store by_uid read_only items number one is = cond-false (becomes_seen read_only items one) _ _ is
+pub fetched : (oracles : Oracles) (mode : Mode) (store : StoreState) (by_uid read_only : Bool) (items : List FetchItem) (number : ℕ) (one : Listed) → becomes_seen read_only items one ≡ false
+    → fetch_one oracles mode store by_uid read_only items (record { number = number; listed = one }) ≡ fetch_told oracles mode store by_uid items number one false
+fetched oracles mode store by_uid read_only items number one is = cond-false (becomes_seen read_only items one) _ _ is
 
 -- ---- the items, one after the other
 
-pub stands_next : {A : Type 0} (others : Bool) (items : List A) (at : ℕ) (x : A) → at < length items → true ≡ stands_behind others (take (at + 1) items)
-stands_next others items at x low = sym (ap (stands_behind others) (take_more items at x low) ∙ behind-push others (take at items) (get_or items at x))
+pub stands_next : {A : Type 0} (others : Bool) (items : List A) (at : ℕ) (x : A) → at < length items → true ≡ stands_after others (take (at + 1) items)
+stands_next others items at x low = sym (ap (stands_after others) (take_more items at x low) ∙ following-push others (take at items) (get_or items at x))
 
 -- what is shown is there for each item that needs it
 pub HasShown-at : (mode : Mode) (msg : List ℕ) (items : List FetchItem) (at : ℕ) (x : FetchItem) (found : Option Shown) → at < length items → x ≡ get_or items at x

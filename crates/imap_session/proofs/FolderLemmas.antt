@@ -25,7 +25,7 @@ use Rattle.session_core.specs.Acts.{Act, acts_of}
 use Rattle.session_core.specs.Around.{Around}
 use Rattle.session_core.specs.Changes.{created_of, folder_changes, unless_refused}
 use Rattle.session_core.specs.Doing.{Does, DoesFirst, Makes, Replies}
-use Rattle.session_core.specs.Meanings.{Meanings, AreMeanings}
+use Rattle.session_core.specs.Oracles.{Oracles, AreOracles}
 use Rattle.session_core.proofs.DoingLemmas.{Does-changes, Does-replies, Does-unchanged}
 use Rattle.imap_mailboxes.specs.Names.{NamesMailbox, quoted, shown_name}
 use Rattle.imap_mailboxes.specs.Patterns.{is_match}
@@ -40,52 +40,52 @@ use Rattle.imap_session.proofs.LineLemmas.{tagged_reply}
 abbrev pub permanent : (read_only : Bool) → List ℕ
 permanent read_only = if read_only then [] else codes "\\Answered \\Flagged \\Deleted \\Seen \\Draft"
 
-folder_octets : (meanings : Meanings) (count next : List ℕ) (read_only : Bool)
+folder_octets : (oracles : Oracles) (count next : List ℕ) (read_only : Bool)
     → codes "* " ++ (count ++ (codes " EXISTS\r\n* 0 RECENT\r\n* FLAGS (\\Answered \\Flagged \\Deleted \\Seen \\Draft)\r\n* OK [UIDVALIDITY 1] ok\r\n* OK [UIDNEXT "
     ++ (next ++ (codes "] ok\r\n* OK [PERMANENTFLAGS (" ++ (permanent read_only ++ codes ")] ok\r\n")))))
-    ≡ reply_octets meanings (untagged (count ++ codes " EXISTS") ∷ untagged (codes "0 RECENT") ∷ untagged (codes "FLAGS " ++ all_flags) ∷ untagged (codes "OK [UIDVALIDITY 1] ok")
+    ≡ reply_octets oracles (untagged (count ++ codes " EXISTS") ∷ untagged (codes "0 RECENT") ∷ untagged (codes "FLAGS " ++ all_flags) ∷ untagged (codes "OK [UIDVALIDITY 1] ok")
     ∷ untagged (codes "OK [UIDNEXT " ++ (next ++ codes "] ok")) ∷ untagged (codes "OK [PERMANENTFLAGS " ++ (permanent_flags read_only ++ codes "] ok")) ∷ [])
-folder_octets meanings count next true = simp (append_assoc, append-nil)
-folder_octets meanings count next false = simp (append_assoc, append-nil)
+folder_octets oracles count next true = simp (append_assoc, append-nil)
+folder_octets oracles count next false = simp (append_assoc, append-nil)
 
 -- the lines of a folder
-pub folder_made : (meanings : Meanings) (store : StoreState) (folder : ℕ) (read_only : Bool) (count next : ℕ) (told made : List ℕ) → count ≡ length (listed store.kept folder) → next ≡ uid_next store.kept folder
+pub folder_made : (oracles : Oracles) (store : StoreState) (folder : ℕ) (read_only : Bool) (count next : ℕ) (told made : List ℕ) → count ≡ length (listed store.kept folder) → next ≡ uid_next store.kept folder
     → told ≡ permanent read_only
     → made ≡ codes "* " ++ (decimal count ++ (codes " EXISTS\r\n* 0 RECENT\r\n* FLAGS (\\Answered \\Flagged \\Deleted \\Seen \\Draft)\r\n* OK [UIDVALIDITY 1] ok\r\n* OK [UIDNEXT "
     ++ (decimal next ++ (codes "] ok\r\n* OK [PERMANENTFLAGS (" ++ (told ++ codes ")] ok\r\n")))))
-    → made ≡ reply_octets meanings (folder_lines store folder read_only)
-folder_made meanings store folder read_only count next told made count_is next_is told_is made_is =
-    rw (made_is, told_is, ← count_is, ← next_is) (folder_octets meanings (decimal count) (decimal next) read_only)
+    → made ≡ reply_octets oracles (folder_lines store folder read_only)
+folder_made oracles store folder read_only count next told made count_is next_is told_is made_is =
+    rw (made_is, told_is, ← count_is, ← next_is) (folder_octets oracles (decimal count) (decimal next) read_only)
 
 -- ---- LIST
 
 -- the name matches
-pub list_line-shown : (meanings : Meanings) (mode : Mode) (pattern folder old shown text behind new : List ℕ) (result : Result (Unit {0}) Memory) → shown ≡ shown_name (is_enabled mode) folder
-    → is_match pattern shown ≡ true → text ≡ quoted shown → behind ≡ (old ++ codes "* LIST () NIL ") ++ text → OnOk result (new ≡ behind ++ codes "\r\n")
-    → OnOk result (new ≡ old ++ reply_octets meanings (list_line mode pattern folder))
-list_line-shown meanings mode pattern folder old shown text behind new (Err memory) shown_is matches text_is behind_is made = tt
-list_line-shown meanings mode pattern folder old shown text behind new (Ok unit) shown_is matches text_is behind_is made =
+pub list_line-shown : (oracles : Oracles) (mode : Mode) (pattern folder old shown text following new : List ℕ) (result : Result (Unit {0}) Memory) → shown ≡ shown_name (is_enabled mode) folder
+    → is_match pattern shown ≡ true → text ≡ quoted shown → following ≡ (old ++ codes "* LIST () NIL ") ++ text → OnOk result (new ≡ following ++ codes "\r\n")
+    → OnOk result (new ≡ old ++ reply_octets oracles (list_line mode pattern folder))
+list_line-shown oracles mode pattern folder old shown text following new (Err memory) shown_is matches text_is following_is made = tt
+list_line-shown oracles mode pattern folder old shown text following new (Ok unit) shown_is matches text_is following_is made =
     let matched = rw shown_is at matches in
-    rw (matched, made, behind_is, text_is, shown_is) (simp (append_assoc, append-nil))
+    rw (matched, made, following_is, text_is, shown_is) (simp (append_assoc, append-nil))
 
 -- or it doesn't
-pub list_line-other : (meanings : Meanings) (mode : Mode) (pattern folder old shown : List ℕ) → shown ≡ shown_name (is_enabled mode) folder → is_match pattern shown ≡ false
-    → old ≡ old ++ reply_octets meanings (list_line mode pattern folder)
-list_line-other meanings mode pattern folder old shown shown_is other =
+pub list_line-other : (oracles : Oracles) (mode : Mode) (pattern folder old shown : List ℕ) → shown ≡ shown_name (is_enabled mode) folder → is_match pattern shown ≡ false
+    → old ≡ old ++ reply_octets oracles (list_line mode pattern folder)
+list_line-other oracles mode pattern folder old shown shown_is other =
     let missed = rw shown_is at other in
     rw (missed, append-nil) refl
 
 -- the line of one name more
-pub list_lines-more : (meanings : Meanings) (mode : Mode) (pattern made : List ℕ) (names : List (List ℕ)) (place : ℕ) (d name lines new whole : List ℕ) → place < length names → made ≡ pattern
-    → name ≡ get_or names place d → new ≡ lines ++ reply_octets meanings (list_line mode made name) → lines ++ reply_octets meanings (flat_map (list_line mode pattern) (drop place names)) ≡ whole
-    → new ++ reply_octets meanings (flat_map (list_line mode pattern) (drop (place + 1) names)) ≡ whole
-list_lines-more meanings mode pattern made names place d name lines new whole inside made_is name_is new_is so_far =
-    let now = rw (drop_more names place d inside, flat_map-append (part_octets meanings) (list_line mode pattern (get_or names place d)) (flat_map (list_line mode pattern) (drop (place + 1) names))) at so_far in
+pub list_lines-more : (oracles : Oracles) (mode : Mode) (pattern made : List ℕ) (names : List (List ℕ)) (place : ℕ) (d name lines new whole : List ℕ) → place < length names → made ≡ pattern
+    → name ≡ get_or names place d → new ≡ lines ++ reply_octets oracles (list_line mode made name) → lines ++ reply_octets oracles (flat_map (list_line mode pattern) (drop place names)) ≡ whole
+    → new ++ reply_octets oracles (flat_map (list_line mode pattern) (drop (place + 1) names)) ≡ whole
+list_lines-more oracles mode pattern made names place d name lines new whole inside made_is name_is new_is so_far =
+    let now = rw (drop_more names place d inside, flat_map-append (part_octets oracles) (list_line mode pattern (get_or names place d)) (flat_map (list_line mode pattern) (drop (place + 1) names))) at so_far in
     rw (new_is, made_is, name_is, append_assoc) now
 
-pub list_lines-end : (meanings : Meanings) (mode : Mode) (pattern : List ℕ) (names : List (List ℕ)) (place : ℕ) (lines whole : List ℕ) → length names ≤ place
-    → lines ++ reply_octets meanings (flat_map (list_line mode pattern) (drop place names)) ≡ whole → lines ≡ whole
-list_lines-end meanings mode pattern names place lines whole past so_far =
+pub list_lines-end : (oracles : Oracles) (mode : Mode) (pattern : List ℕ) (names : List (List ℕ)) (place : ℕ) (lines whole : List ℕ) → length names ≤ place
+    → lines ++ reply_octets oracles (flat_map (list_line mode pattern) (drop place names)) ≡ whole → lines ≡ whole
+list_lines-end oracles mode pattern names place lines whole past so_far =
     let end : drop place names ≡ [] = drop_all place names past in
     sym (append-nil lines) ∙ (rw end at so_far)
 
@@ -155,23 +155,23 @@ pub name_told : (octets : List ℕ) (may : Bool) → IsTrue may ↔ IsFolderName
 name_told octets may told = same_from_decides (names_folder octets) may (decide_name octets) told
 
 -- the name that a text writes is the one that was read
-pub name_read : (meanings : Meanings) → AreMeanings meanings → (enabled told : Bool) (written : List ℕ) (read : Option (List ℕ)) → told ≡ enabled
-    → ((name : Option (List ℕ)) → NamesMailbox told written name → read ≡ name) → meanings.name_of enabled written ≡ read
-name_read meanings are enabled told written read same one = sym (one (meanings.name_of enabled written) (rw same (are.names enabled written)))
+pub name_read : (oracles : Oracles) → AreOracles oracles → (enabled told : Bool) (written : List ℕ) (read : Option (List ℕ)) → told ≡ enabled
+    → ((name : Option (List ℕ)) → NamesMailbox told written name → read ≡ name) → oracles.name_of enabled written ≡ read
+name_read oracles are enabled told written read same one = sym (one (oracles.name_of enabled written) (rw same (are.names enabled written)))
 
-says_done : (meanings : Meanings) (a b : Around) (met : Option Fault) (tag words : List ℕ) → Replies a b met (tagged_octets tag words) → Does (part_octets meanings) a b met (acts_of [] (tagged tag words ∷ []))
-says_done meanings a b met tag words replies =
-    Does-replies (part_octets meanings) a b met (tagged tag words ∷ []) (subst (λ (octets : List ℕ). Replies a b met octets) (sym (tagged_reply meanings tag words)) replies)
+says_done : (oracles : Oracles) (a b : Around) (met : Option Fault) (tag words : List ℕ) → Replies a b met (tagged_octets tag words) → Does (part_octets oracles) a b met (acts_of [] (tagged tag words ∷ []))
+says_done oracles a b met tag words replies =
+    Does-replies (part_octets oracles) a b met (tagged tag words ∷ []) (subst (λ (octets : List ℕ). Replies a b met octets) (sym (tagged_reply oracles tag words)) replies)
 
 -- a text that writes no name is refused
-pub create-unnamed : (meanings : Meanings) (a b : Around) (met : Option Fault) (tag : List ℕ) (state : State) (account : ℕ) (named : Option (List ℕ)) → named ≡ None
-    → Replies a b met (tagged_octets tag (codes "NO bad name")) → Does (part_octets meanings) a b met (create_by tag state account a.desk.store named).acts
-create-unnamed meanings a b met tag state account named named_is replies = rw named_is (says_done meanings a b met tag (codes "NO bad name") replies)
+pub create-unnamed : (oracles : Oracles) (a b : Around) (met : Option Fault) (tag : List ℕ) (state : State) (account : ℕ) (named : Option (List ℕ)) → named ≡ None
+    → Replies a b met (tagged_octets tag (codes "NO bad name")) → Does (part_octets oracles) a b met (create_by tag state account a.desk.store named).acts
+create-unnamed oracles a b met tag state account named named_is replies = rw named_is (says_done oracles a b met tag (codes "NO bad name") replies)
 
 -- and so is a name that none may be
-pub create-refused : (meanings : Meanings) (a b : Around) (met : Option Fault) (tag : List ℕ) (state : State) (account : ℕ) (named : Option (List ℕ)) (given : List ℕ) → named ≡ Some given
-    → names_folder (kept_name given) ≡ false → Replies a b met (tagged_octets tag (codes "NO bad name")) → Does (part_octets meanings) a b met (create_by tag state account a.desk.store named).acts
-create-refused meanings a b met tag state account named given named_is bad replies = rw (named_is, bad) (says_done meanings a b met tag (codes "NO bad name") replies)
+pub create-refused : (oracles : Oracles) (a b : Around) (met : Option Fault) (tag : List ℕ) (state : State) (account : ℕ) (named : Option (List ℕ)) (given : List ℕ) → named ≡ Some given
+    → names_folder (kept_name given) ≡ false → Replies a b met (tagged_octets tag (codes "NO bad name")) → Does (part_octets oracles) a b met (create_by tag state account a.desk.store named).acts
+create-refused oracles a b met tag state account named given named_is bad replies = rw (named_is, bad) (says_done oracles a b met tag (codes "NO bad name") replies)
 
 -- the acts of any other name
 abbrev made_acts : (tag : List ℕ) → (account : ℕ) → (kept : List ℕ) → Option StoreFault → List (Act ReplyPart)
@@ -190,21 +190,21 @@ create-acts : (tag : List ℕ) (state : State) (account : ℕ) (store : StoreSta
 create-acts tag state account store named given named_is good = rw (named_is, good) (create_unless-acts tag state account (kept_name given) (folder_refusal store.kept account given))
 
 -- the folder was made, or not for a reason that is told
-pub create-told : (meanings : Meanings) (a b c : Around) (met : Option Fault) (tag : List ℕ) (state : State) (account : ℕ) (named : Option (List ℕ)) (given : List ℕ) → named ≡ Some given
+pub create-told : (oracles : Oracles) (a b c : Around) (met : Option Fault) (tag : List ℕ) (state : State) (account : ℕ) (named : Option (List ℕ)) (given : List ℕ) → named ≡ Some given
     → names_folder (kept_name given) ≡ true → Makes a b None (folder_changes a.desk.store account given)
     → Replies b c met (tagged_octets tag (words_of_created (created_of (folder_refusal a.desk.store.kept account given))))
-    → Does (part_octets meanings) a c met (create_by tag state account a.desk.store named).acts
-create-told meanings a b c met tag state account named given named_is good makes replies =
+    → Does (part_octets oracles) a c met (create_by tag state account a.desk.store named).acts
+create-told oracles a b c met tag state account named given named_is good makes replies =
     let words = words_of_created (created_of (folder_refusal a.desk.store.kept account given)) in
-    subst (λ (acts : List (Act ReplyPart)). Does (part_octets meanings) a c met acts) (sym (create-acts tag state account a.desk.store named given named_is good))
-    (Does-changes (part_octets meanings) a b c met (folder_changes a.desk.store account given) (tagged tag words ∷ []) makes
-    (subst (λ (octets : List ℕ). Replies b c met octets) (sym (tagged_reply meanings tag words)) replies))
+    subst (λ (acts : List (Act ReplyPart)). Does (part_octets oracles) a c met acts) (sym (create-acts tag state account a.desk.store named given named_is good))
+    (Does-changes (part_octets oracles) a b c met (folder_changes a.desk.store account given) (tagged tag words ∷ []) makes
+    (subst (λ (octets : List ℕ). Replies b c met octets) (sym (tagged_reply oracles tag words)) replies))
 
 -- or a fault came before that
-pub create-failed : (meanings : Meanings) (a b : Around) (met : Fault) (tag : List ℕ) (state : State) (account : ℕ) (named : Option (List ℕ)) (given : List ℕ) → named ≡ Some given
+pub create-failed : (oracles : Oracles) (a b : Around) (met : Fault) (tag : List ℕ) (state : State) (account : ℕ) (named : Option (List ℕ)) (given : List ℕ) → named ≡ Some given
     → names_folder (kept_name given) ≡ true → Makes a b (Some met) (folder_changes a.desk.store account given)
-    → DoesFirst (part_octets meanings) a b met (create_by tag state account a.desk.store named).acts
-create-failed meanings a b met tag state account named given named_is good makes =
+    → DoesFirst (part_octets oracles) a b met (create_by tag state account a.desk.store named).acts
+create-failed oracles a b met tag state account named given named_is good makes =
     let words = words_of_created (created_of (folder_refusal a.desk.store.kept account given)) in
-    subst (λ (acts : List (Act ReplyPart)). DoesFirst (part_octets meanings) a b met acts) (sym (create-acts tag state account a.desk.store named given named_is good))
-    (Does-unchanged (part_octets meanings) a b met (folder_changes a.desk.store account given) (tagged tag words ∷ []) makes)
+    subst (λ (acts : List (Act ReplyPart)). DoesFirst (part_octets oracles) a b met acts) (sym (create-acts tag state account a.desk.store named given named_is good))
+    (Does-unchanged (part_octets oracles) a b met (folder_changes a.desk.store account given) (tagged tag words ∷ []) makes)

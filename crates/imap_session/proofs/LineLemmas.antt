@@ -3,37 +3,37 @@ use Rattle.std.proofs.Common.{◌≡◌, ℕ, ◌+◌, ◌<◌, ◌≤◌, List,
 use Rattle.std.specs.Prelude.{decimal, map}
 use Rattle.std.proofs.lemmas.List.{drop_more, drop_all, length-map, length-take-le, map_more}
 use Rattle.kept_mail.specs.declared.kept.Listed.{Listed}
-use Rattle.session_core.specs.Meanings.{Meanings}
+use Rattle.session_core.specs.Oracles.{Oracles}
 use Rattle.imap_session.specs.Machine.{closing_up, is_deleted, spaced, tagged}
 use Rattle.imap_session.specs.Replies.{reply_octets}
 use Rattle.imap_session.specs.private.Lines.{tagged_octets}
 
 -- the line that ends the replies of a command
-pub tagged_reply : (meanings : Meanings) (tag words : List ℕ) → reply_octets meanings (tagged tag words ∷ []) ≡ tagged_octets tag words
-tagged_reply meanings tag words = simp (append_assoc, append-nil)
+pub tagged_reply : (oracles : Oracles) (tag words : List ℕ) → reply_octets oracles (tagged tag words ∷ []) ≡ tagged_octets tag words
+tagged_reply oracles tag words = simp (append_assoc, append-nil)
 
 -- ---- EXPUNGE
 
 -- a message that goes has its line
-pub closing-gone : (meanings : Meanings) (messages : List Listed) (place number : ℕ) (d : Listed) (lines new text whole : List ℕ) → place < length messages → is_deleted (get_or messages place d) ≡ true
+pub closing-gone : (oracles : Oracles) (messages : List Listed) (place number : ℕ) (d : Listed) (lines new text whole : List ℕ) → place < length messages → is_deleted (get_or messages place d) ≡ true
     → text ≡ codes "* " ++ (decimal number ++ codes " EXPUNGE\r\n") → new ≡ lines ++ text
-    → lines ++ reply_octets meanings (closing_up number (drop place messages)) ≡ whole
-    → new ++ reply_octets meanings (closing_up number (drop (place + 1) messages)) ≡ whole
-closing-gone meanings messages place number d lines new text whole inside gone text_is new_is so_far =
+    → lines ++ reply_octets oracles (closing_up number (drop place messages)) ≡ whole
+    → new ++ reply_octets oracles (closing_up number (drop (place + 1) messages)) ≡ whole
+closing-gone oracles messages place number d lines new text whole inside gone text_is new_is so_far =
     let now = rw (drop_more messages place d inside, gone) at so_far in
     rw (new_is, text_is) (simp append_assoc (simp append_assoc at now))
 
 -- any other leaves the next one its number behind its own
-pub closing-left : (meanings : Meanings) (messages : List Listed) (place number : ℕ) (d : Listed) (lines new whole : List ℕ) → place < length messages → is_deleted (get_or messages place d) ≡ false → new ≡ lines
-    → lines ++ reply_octets meanings (closing_up number (drop place messages)) ≡ whole
-    → new ++ reply_octets meanings (closing_up (number + 1) (drop (place + 1) messages)) ≡ whole
-closing-left meanings messages place number d lines new whole inside stays new_is so_far =
+pub closing-left : (oracles : Oracles) (messages : List Listed) (place number : ℕ) (d : Listed) (lines new whole : List ℕ) → place < length messages → is_deleted (get_or messages place d) ≡ false → new ≡ lines
+    → lines ++ reply_octets oracles (closing_up number (drop place messages)) ≡ whole
+    → new ++ reply_octets oracles (closing_up (number + 1) (drop (place + 1) messages)) ≡ whole
+closing-left oracles messages place number d lines new whole inside stays new_is so_far =
     let now = rw (drop_more messages place d inside, stays) at so_far in
     rw new_is now
 
-pub closing-end : (meanings : Meanings) (messages : List Listed) (place number : ℕ) (lines whole : List ℕ) → length messages ≤ place
-    → lines ++ reply_octets meanings (closing_up number (drop place messages)) ≡ whole → lines ≡ whole
-closing-end meanings messages place number lines whole past so_far =
+pub closing-end : (oracles : Oracles) (messages : List Listed) (place number : ℕ) (lines whole : List ℕ) → length messages ≤ place
+    → lines ++ reply_octets oracles (closing_up number (drop place messages)) ≡ whole → lines ≡ whole
+closing-end oracles messages place number lines whole past so_far =
     let end : drop place messages ≡ [] = drop_all place messages past in
     sym (append-nil lines) ∙ (rw end at so_far)
 

@@ -13,7 +13,7 @@ use Rattle.session_core.specs.Doing.{Asks, AsksAndReplies, Does, DoesAll, DoesFi
 use Rattle.session_core.specs.Done.{given_by, StopsIn}
 use Rattle.session_core.proofs.AskingLemmas.{Asks-nil, AsksAndReplies-broken, AsksAndReplies-replies}
 use Rattle.session_core.proofs.DoneLemmas.{asked_in-acts, asked_in-append, asked_in-asking, changes_in-acts, changes_in-append, changes_in-asking, given_by-append, given_by-asking, octets_of_acts}
-use Rattle.session_core.proofs.DoingLemmas.{Does-replies, Does-changes, Does-unchanged, DoesAll-then, DoesFirst-before, DoesFirst-behind, LeavesDesk-nil, Replies-stop}
+use Rattle.session_core.proofs.DoingLemmas.{Does-replies, Does-changes, Does-unchanged, DoesAll-then, DoesFirst-before, DoesFirst-following, LeavesDesk-nil, Replies-stop}
 use Rattle.surrogate_cache.specs.Caching.{Asked}
 use Rattle.surrogate_cache.proofs.HeldLemmas.{Fetched-append}
 use Rattle.imap_session.specs.private.Pending.{Owes, Carries}
@@ -150,7 +150,7 @@ pub Carries-replies : {P : Type 0} (spelled : P → List ℕ) (a b : Around) (me
 Carries-replies spelled a b None parts replies = λ before first had.
     Owes-all spelled before b (first ++ map gives parts) (DoesAll-then spelled before a b first (map gives parts) (Owes-done spelled before a first had) (Does-replies spelled a b None parts replies))
 Carries-replies spelled a b (Some met) parts replies = λ before first had.
-    DoesFirst-behind spelled before a b met first (map gives parts) (Owes-done spelled before a first had) (Does-replies spelled a b (Some met) parts replies)
+    DoesFirst-following spelled before a b met first (map gives parts) (Owes-done spelled before a first had) (Does-replies spelled a b (Some met) parts replies)
 
 -- a change was made, where nothing was pending
 pub Carries-change : {P : Type 0} (spelled : P → List ℕ) (a b : Around) (met : Option Fault) (made : List Record) → Makes a b met (made ∷ []) → Carries spelled a b met [] [] (changes made ∷ [])
@@ -158,7 +158,7 @@ Carries-change spelled a b None made makes = λ before first had.
     Owes-all spelled before b (first ++ changes made ∷ []) (DoesAll-then spelled before a b first (changes made ∷ []) (Owes-done spelled before a first had)
     (Does-changes spelled a b b None (made ∷ []) [] makes (record { gives = Gives-nil b.wire; leaves = LeavesDesk-nil b; fine = λ bad. cc })))
 Carries-change spelled a b (Some met) made makes = λ before first had.
-    DoesFirst-behind spelled before a b met first (changes made ∷ []) (Owes-done spelled before a first had) (Does-unchanged spelled a b met (made ∷ []) [] makes)
+    DoesFirst-following spelled before a b met first (changes made ∷ []) (Owes-done spelled before a first had) (Does-unchanged spelled a b met (made ∷ []) [] makes)
 
 -- one call behind another
 pub Carries-then : {P : Type 0} (spelled : P → List ℕ) (a b c : Around) (met : Option Fault) (owed mid owes : List ℕ) (xs ys : List (Act P)) → Carries spelled a b None owed mid xs → Carries spelled b c met mid owes ys

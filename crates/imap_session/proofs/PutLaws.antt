@@ -16,7 +16,7 @@ use Rattle.mail_store.specs.declared.changing.StoreFault.{StoreFault}
 use Rattle.mail_store.specs.declared.changing.StoreFault.TheVariants as refusal
 use Rattle.surrogate_cache.specs.Served.{Mode, legacy, enabled, is_enabled}
 use Rattle.session_core.specs.Acts.{Act, changes, changes_in, gives}
-use Rattle.session_core.specs.Meanings.{Meanings, TellsTrees}
+use Rattle.session_core.specs.Oracles.{Oracles, TellsTrees}
 use Rattle.session_core.specs.Turns.{all_turns}
 use Rattle.session_core.proofs.DoneLemmas.{changes_in-acts}
 use Rattle.session_core.proofs.StoreTurns.{EachTracks, all_track}
@@ -49,20 +49,20 @@ unless_put now tag state store said folder =
 -- ---- what is asked of it
 
 -- the step is that of the folder that is named
-step_named : (meanings : Meanings) (now tag : List ℕ) (state : State) (mode : Mode) (account : ℕ) (store : StoreState) (said : Said) → IsAuthenticated mode account state
-    → step meanings now state store tag (append_of said)
-    ≡ append_in meanings tag state (opened_in state) mode store said.flags (date_or now said.date) said.in_utf8 said.octets (folder_named meanings mode store account said.written)
+step_named : (oracles : Oracles) (now tag : List ℕ) (state : State) (mode : Mode) (account : ℕ) (store : StoreState) (said : Said) → IsAuthenticated mode account state
+    → step oracles now state store tag (append_of said)
+    ≡ append_in oracles tag state (opened_in state) mode store said.flags (date_or now said.date) said.in_utf8 said.octets (folder_named oracles mode store account said.written)
 unfolding step
-step_named meanings now tag state mode account store said (inl is) = rw is refl
-step_named meanings now tag state mode account store said (inr is) = rw is.2 refl
+step_named oracles now tag state mode account store said (inl is) = rw is refl
+step_named oracles now tag state mode account store said (inr is) = rw is.2 refl
 
 tells_true : (has_tree : Bool) (Has : Type 0) → IsTrue has_tree ↔ Has → Has → has_tree ≡ true
-tells_true true Has tells has = refl
-tells_true false Has tells has = let is : IsTrue false = tells.1 has in absurd cc
+tells_true true Has observed has = refl
+tells_true false Has observed has = let is : IsTrue false = observed.1 has in absurd cc
 
 tells_false : (has_tree : Bool) (Has : Type 0) → IsTrue has_tree ↔ Has → has_tree ≡ false → ¬ Has
-tells_false true Has tells is has = cc
-tells_false false Has tells is has = let has : IsTrue false = tells.1 has in absurd cc
+tells_false true Has observed is has = cc
+tells_false false Has observed is has = let has : IsTrue false = observed.1 has in absurd cc
 
 not_refused : (large many : Bool) → large ≡ false → many ≡ false → (if large || many then Some refusal.TooLarge else None) ≡ None
 not_refused large many first second = rw (first, second) refl
@@ -91,26 +91,26 @@ may_not true enabled is = cc
 last_of : (other has_tree : Bool) (x y z : Step) → other ≡ false → has_tree ≡ true → (if other then x else if has_tree then z else y) ≡ z
 last_of other has_tree x y z first second = rw (first, second) refl
 
-pub is_put : (meanings : Meanings) (now tag : List ℕ) (state : State) (mode : Mode) (account : ℕ) (store : StoreState) (said : Said) (folder : ℕ) → TellsTrees meanings.has_tree
-    → IsAuthenticated mode account state → MayBePut meanings mode account store said folder → step meanings now state store tag (append_of said) ≡ put_step now tag state store said folder
-is_put meanings now tag state mode account store said folder tells authenticated may =
+pub is_put : (oracles : Oracles) (now tag : List ℕ) (state : State) (mode : Mode) (account : ℕ) (store : StoreState) (said : Said) (folder : ℕ) → TellsTrees oracles.has_tree
+    → IsAuthenticated mode account state → MayBePut oracles mode account store said folder → step oracles now state store tag (append_of said) ≡ put_step now tag state store said folder
+is_put oracles now tag state mode account store said folder observed authenticated may =
     let octets = completed said.octets in
     let date = date_or now said.date in
     let unless : Option StoreFault → Step = append_unless tag state (opened_in state) store.kept folder (appended folder said.flags date octets) in
-    step_named meanings now tag state mode account store said authenticated
-    ∙ ap (append_in meanings tag state (opened_in state) mode store said.flags date said.in_utf8 said.octets) may.named
-    ∙ last_of (said.in_utf8 && not (is_enabled mode)) (meanings.has_tree octets) (says tag (codes "NO not enabled") state) (says tag (codes "NO not a message") state) (unless (append_refusal store octets))
-    (may_come said.in_utf8 mode may.form) (tells_true (meanings.has_tree octets) (IsStored octets) (tells octets) may.tree)
+    step_named oracles now tag state mode account store said authenticated
+    ∙ ap (append_in oracles tag state (opened_in state) mode store said.flags date said.in_utf8 said.octets) may.named
+    ∙ last_of (said.in_utf8 && not (is_enabled mode)) (oracles.has_tree octets) (says tag (codes "NO not enabled") state) (says tag (codes "NO not a message") state) (unless (append_refusal store octets))
+    (may_come said.in_utf8 mode may.form) (tells_true (oracles.has_tree octets) (IsStored octets) (observed octets) may.tree)
     ∙ ap unless (room_free store octets may.room) ∙ unless_put now tag state store said folder
 
 -- ---- or it is refused
 
-module _ (meanings : Meanings) (now tag : List ℕ) (state : State) (mode : Mode) (account : ℕ) (store : StoreState) (said : Said) where
+module _ (oracles : Oracles) (now tag : List ℕ) (state : State) (mode : Mode) (account : ℕ) (store : StoreState) (said : Said) where
   abbrev IsEither : Step → Type 0
-  IsEither taken = IsPut meanings now tag state mode account store said taken ⊎ IsRefused meanings tag state mode account store said taken
+  IsEither taken = IsPut oracles now tag state mode account store said taken ⊎ IsRefused oracles tag state mode account store said taken
 
   abbrev named : Option ℕ
-  named = folder_named meanings mode store account said.written
+  named = folder_named oracles mode store account said.written
 
   either_if : (b : Bool) (x y : Step) → (b ≡ true → IsEither x) → (b ≡ false → IsEither y) → IsEither (if b then x else y)
   either_if true x y one two = one refl
@@ -121,21 +121,21 @@ module _ (meanings : Meanings) (now tag : List ℕ) (state : State) (mode : Mode
   either_room folder None is free = inl (folder, is, unless_put now tag state store said folder)
   either_room folder (Some other) is full = inr (too_large, refused_full store (completed said.octets) other full, refl)
 
-  either_found : TellsTrees meanings.has_tree → (found : Option ℕ) → named ≡ found
-      → IsEither (append_in meanings tag state (opened_in state) mode store said.flags (date_or now said.date) said.in_utf8 said.octets found)
-  either_found tells None is = inr (no_folder, is, refl)
-  either_found tells (Some folder) is =
+  either_found : TellsTrees oracles.has_tree → (found : Option ℕ) → named ≡ found
+      → IsEither (append_in oracles tag state (opened_in state) mode store said.flags (date_or now said.date) said.in_utf8 said.octets found)
+  either_found observed None is = inr (no_folder, is, refl)
+  either_found observed (Some folder) is =
       let octets = completed said.octets in
       let unless : Option StoreFault → Step = append_unless tag state (opened_in state) store.kept folder (appended folder said.flags (date_or now said.date) octets) in
       let without : Step = says tag (codes "NO not a message") state in
-      either_if (said.in_utf8 && not (is_enabled mode)) (says tag (codes "NO not enabled") state) (if meanings.has_tree octets then unless (append_refusal store octets) else without)
+      either_if (said.in_utf8 && not (is_enabled mode)) (says tag (codes "NO not enabled") state) (if oracles.has_tree octets then unless (append_refusal store octets) else without)
       (λ other. inr (not_enabled, may_not said.in_utf8 mode other, refl))
-      (λ may. either_if (meanings.has_tree octets) (unless (append_refusal store octets)) without (λ has. either_room folder (append_refusal store octets) is refl)
-      (λ lacks. inr (no_message, tells_false (meanings.has_tree octets) (IsStored octets) (tells octets) lacks, refl)))
+      (λ may. either_if (oracles.has_tree octets) (unless (append_refusal store octets)) without (λ has. either_room folder (append_refusal store octets) is refl)
+      (λ lacks. inr (no_message, tells_false (oracles.has_tree octets) (IsStored octets) (observed octets) lacks, refl)))
 
-  pub is_either : TellsTrees meanings.has_tree → IsAuthenticated mode account state → IsEither (step meanings now state store tag (append_of said))
-  is_either tells authenticated =
-      subst IsEither (sym (step_named meanings now tag state mode account store said authenticated)) (either_found tells named refl)
+  pub is_either : TellsTrees oracles.has_tree → IsAuthenticated mode account state → IsEither (step oracles now state store tag (append_of said))
+  is_either observed authenticated =
+      subst IsEither (sym (step_named oracles now tag state mode account store said authenticated)) (either_found observed named refl)
 
 -- ---- what changes
 
@@ -149,15 +149,15 @@ put_changes now tag state store said folder =
 
 -- ---- before login
 
-pub none_before : (meanings : Meanings) (now tag : List ℕ) (store : StoreState) (said : Said) → step meanings now not_authenticated store tag (append_of said) ≡ out_of_order tag not_authenticated
+pub none_before : (oracles : Oracles) (now tag : List ℕ) (store : StoreState) (said : Said) → step oracles now not_authenticated store tag (append_of said) ≡ out_of_order tag not_authenticated
 unfolding step
-none_before meanings now tag store said = refl
+none_before oracles now tag store said = refl
 
 -- ---- the store behind a stream
 
-each_tracks : (meanings : Meanings) → EachTracks (next_turn meanings) (λ (machine : Machine). machine.store)
-each_tracks meanings machine octets turn is = let of = comes meanings machine octets turn is in rw of.turn_is refl
+each_tracks : (oracles : Oracles) → EachTracks (next_turn oracles) (λ (machine : Machine). machine.store)
+each_tracks oracles machine octets turn is = let of = comes oracles machine octets turn is in rw of.turn_is refl
 
-pub stream_store : (meanings : Meanings) (machine : Machine) (octets : List ℕ)
-    → let turn = all_turns (next_turn meanings) machine octets in turn.after.store ≡ with_records machine.store (records_of (changes_in turn.parts))
-stream_store meanings machine octets = all_track (next_turn meanings) (λ (machine : Machine). machine.store) (each_tracks meanings) machine octets
+pub stream_store : (oracles : Oracles) (machine : Machine) (octets : List ℕ)
+    → let turn = all_turns (next_turn oracles) machine octets in turn.after.store ≡ with_records machine.store (records_of (changes_in turn.parts))
+stream_store oracles machine octets = all_track (next_turn oracles) (λ (machine : Machine). machine.store) (each_tracks oracles) machine octets

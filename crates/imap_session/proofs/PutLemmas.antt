@@ -94,10 +94,10 @@ pub record HasNewest (kept : Kept) (folder flags : ℕ) (messages : List Listed)
 pub newest : (kept : Kept) (opened flags folder : ℕ) (messages : List Listed) → folder ≡ opened → WereListed kept opened flags (put.In folder) messages → HasNewest kept opened flags messages
 newest kept opened flags folder messages same was =
     let old : Kept = was.old in
-    let date = was.behind.0 in
-    let octets = was.behind.1 in
+    let date = was.following.0 in
+    let octets = was.following.1 in
     let made = appended opened flags date octets in
-    let is : kept ≡ after_record old made = was.behind.2 ∙ ap (λ (f : ℕ). after_record old (appended f flags date octets)) same in
+    let is : kept ≡ after_record old made = was.following.2 ∙ ap (λ (f : ℕ). after_record old (appended f flags date octets)) same in
     let one : Listed = record { id = length old.messages; uid = uid_next old opened; flags = flags } in
     let count = length-append old.messages (record { folder = opened; flags = flags; live = true; date = date; octets = octets } ∷ []) in
     let few = listed_few old opened in
@@ -106,19 +106,19 @@ newest kept opened flags folder messages same was =
       uid = uid_next old opened;
       id_is = sym (ap (λ (k : Kept). length k.messages) is ∙ count);
       uid_is = sym (ap (λ (k : Kept). uid_next k opened) is ∙ next_put old opened flags date octets);
-      few = was.behind.3;
+      few = was.following.3;
       fewer = rw was.were few;
       listing = ap (λ (l : List Listed). l ++ one ∷ []) was.were ∙ sym (ap (λ (k : Kept). listed k opened) is ∙ listed_put old opened flags date octets);
     }
 
 pub listed_other : (kept : Kept) (opened flags folder : ℕ) (messages : List Listed) → (folder ≡ opened → ⊥) → WereListed kept opened flags (put.In folder) messages → messages ≡ listed kept opened
 listed_other kept opened flags folder messages other was =
-    was.were ∙ sym (ap (λ (k : Kept). listed k opened) was.behind.2 ∙ listed_beside was.old folder opened flags was.behind.0 was.behind.1 (ne_eqb folder opened other))
+    was.were ∙ sym (ap (λ (k : Kept). listed k opened) was.following.2 ∙ listed_beside was.old folder opened flags was.following.0 was.following.1 (ne_eqb folder opened other))
 
 -- nothing was put
-pub listed_same : (kept : Kept) (opened flags : ℕ) (came : Put) (messages : List Listed) → ((folder : ℕ) → came ≡ put.In folder → ⊥) → WereListed kept opened flags came messages → messages ≡ listed kept opened
+pub listed_same : (kept : Kept) (opened flags : ℕ) (advance : Put) (messages : List Listed) → ((folder : ℕ) → advance ≡ put.In folder → ⊥) → WereListed kept opened flags advance messages → messages ≡ listed kept opened
 listed_same kept opened flags (put.In folder) messages none was = absurd (none folder refl)
-listed_same kept opened flags put.NoFolder messages none was = was.were ∙ sym (ap (λ (k : Kept). listed k opened) was.behind)
-listed_same kept opened flags put.NotEnabled messages none was = was.were ∙ sym (ap (λ (k : Kept). listed k opened) was.behind)
-listed_same kept opened flags put.NoMessage messages none was = was.were ∙ sym (ap (λ (k : Kept). listed k opened) was.behind)
-listed_same kept opened flags put.TooLarge messages none was = was.were ∙ sym (ap (λ (k : Kept). listed k opened) was.behind)
+listed_same kept opened flags put.NoFolder messages none was = was.were ∙ sym (ap (λ (k : Kept). listed k opened) was.following)
+listed_same kept opened flags put.NotEnabled messages none was = was.were ∙ sym (ap (λ (k : Kept). listed k opened) was.following)
+listed_same kept opened flags put.NoMessage messages none was = was.were ∙ sym (ap (λ (k : Kept). listed k opened) was.following)
+listed_same kept opened flags put.TooLarge messages none was = was.were ∙ sym (ap (λ (k : Kept). listed k opened) was.following)

@@ -8,7 +8,7 @@ use Rattle.mail_wire.specs.declared.values.Span.{Span}
 use Rattle.kept_mail.specs.declared.kept.Listed.{Listed}
 use Rattle.mail_store.specs.StoreState.{StoreState}
 use Rattle.surrogate_cache.specs.Served.{Mode}
-use Rattle.session_core.specs.Meanings.{Meanings}
+use Rattle.session_core.specs.Oracles.{Oracles}
 use Rattle.imap_grammar.specs.declared.command.SectionPart.{SectionPart}
 use Rattle.imap_grammar.specs.declared.command.SectionPart.TheVariants as part
 use Rattle.imap_views.specs.Chosen.{AreChosen}
@@ -19,31 +19,31 @@ use Rattle.imap_session.specs.declared.sections.Asked.{Asked}
 use Rattle.imap_session.specs.declared.sections.Chosen.{Chosen}
 use Rattle.imap_session.specs.declared.sections.Wanted.{Wanted}
 use Rattle.imap_session.specs.declared.sections.Wanted.TheVariants as want
-use Rattle.imap_session.specs.private.Asking.{AddsFields, apart_octets, head_octets, name_of, wanted_parts}
+use Rattle.imap_session.specs.private.Asking.{AddsFields, separator_octets, head_octets, name_of, wanted_parts}
 use Rattle.imap_session.specs.private.Shown.{names_all}
-use Rattle.imap_session.proofs.FetchLemmas.{stands_behind}
+use Rattle.imap_session.proofs.FetchLemmas.{stands_after}
 
 -- ---- texts with an octet between any two
 
-joined_push : (c : ℕ) (xs : List (List ℕ)) (x : List ℕ) → join_with_byte c (xs ++ x ∷ []) ≡ join_with_byte c xs ++ (apart_octets c (stands_behind false xs) ++ x)
+joined_push : (c : ℕ) (xs : List (List ℕ)) (x : List ℕ) → join_with_byte c (xs ++ x ∷ []) ≡ join_with_byte c xs ++ (separator_octets c (stands_after false xs) ++ x)
 joined_push c [] x = refl
 joined_push c (y ∷ []) x = refl
 joined_push c (y ∷ z ∷ xs) x = ap (λ (rest : List ℕ). y ++ c ∷ rest) (joined_push c (z ∷ xs) x) ∙ sym (append_assoc y (c ∷ join_with_byte c (z ∷ xs)) (c ∷ x))
 
-some_mapped : {X : Type 0} (f : X → List ℕ) (xs : List X) → stands_behind false (map f xs) ≡ stands_behind false xs
+some_mapped : {X : Type 0} (f : X → List ℕ) (xs : List X) → stands_after false (map f xs) ≡ stands_after false xs
 some_mapped f [] = refl
 some_mapped f (x ∷ xs) = refl
 
 -- one more
-pub joined_more : {X : Type 0} (c : ℕ) (f : X → List ℕ) (items : List X) (at : ℕ) (d : X) (apart : Bool) (old had spaced new : List ℕ) → at < length items
-    → apart ≡ stands_behind false (take at items) → had ≡ old ++ join_with_byte c (map f (take at items)) → spaced ≡ had ++ apart_octets c apart → new ≡ spaced ++ f (get_or items at d)
+pub joined_more : {X : Type 0} (c : ℕ) (f : X → List ℕ) (items : List X) (at : ℕ) (d : X) (is_separated : Bool) (old had spaced new : List ℕ) → at < length items
+    → is_separated ≡ stands_after false (take at items) → had ≡ old ++ join_with_byte c (map f (take at items)) → spaced ≡ had ++ separator_octets c is_separated → new ≡ spaced ++ f (get_or items at d)
     → new ≡ old ++ join_with_byte c (map f (take (at + 1) items))
-joined_more c f items at d apart old had spaced new low behind had_is spaced_is new_is =
+joined_more c f items at d is_separated old had spaced new low following had_is spaced_is new_is =
     let front = map f (take at items) in
     let last = f (get_or items at d) in
-    let more : join_with_byte c (map f (take (at + 1) items)) ≡ join_with_byte c front ++ (apart_octets c apart ++ last) =
+    let more : join_with_byte c (map f (take (at + 1) items)) ≡ join_with_byte c front ++ (separator_octets c is_separated ++ last) =
     ap (join_with_byte c) (map_more f items at d low)
-    ∙ (joined_push c front last ∙ ap (λ (b : Bool). join_with_byte c front ++ (apart_octets c b ++ last)) (some_mapped f (take at items) ∙ sym behind)) in
+    ∙ (joined_push c front last ∙ ap (λ (b : Bool). join_with_byte c front ++ (separator_octets c b ++ last)) (some_mapped f (take at items) ∙ sym following)) in
     rw (new_is, spaced_is, had_is, more) (simp append_assoc)
 
 pub joined_all : {X : Type 0} (c : ℕ) (f : X → List ℕ) (items : List X) (at : ℕ) (old made : List ℕ) → length items ≤ at → made ≡ old ++ join_with_byte c (map f (take at items))
@@ -52,15 +52,15 @@ joined_all {X = X} c f items at old made past is = is ∙ ap (λ (l : List X). o
 
 -- ---- the name of a section
 
-joined_word : (path : List ℕ) (word : List ℕ) → join_with_byte 46 (map decimal path ++ word ∷ []) ≡ join_with_byte 46 (map decimal path) ++ (apart_octets 46 (not (length path == 0)) ++ word)
+joined_word : (path : List ℕ) (word : List ℕ) → join_with_byte 46 (map decimal path ++ word ∷ []) ≡ join_with_byte 46 (map decimal path) ++ (separator_octets 46 (not (length path == 0)) ++ word)
 joined_word [] word = refl
 joined_word (n ∷ path) word =
     joined_push 46 (map decimal (n ∷ path)) word
-    ∙ ap (λ (b : Bool). join_with_byte 46 (map decimal (n ∷ path)) ++ (apart_octets 46 (not b) ++ word)) (sym (ne_eqb (length (n ∷ path)) 0 (λ is. omega (arith, is))))
+    ∙ ap (λ (b : Bool). join_with_byte 46 (map decimal (n ∷ path)) ++ (separator_octets 46 (not b) ++ word)) (sym (ne_eqb (length (n ∷ path)) 0 (λ is. omega (arith, is))))
 
 -- the words of the part behind the path
 joined_words : (path : List ℕ) (what : SectionPart)
-    → join_with_byte 46 (map decimal path ++ part_words what) ≡ join_with_byte 46 (map decimal path) ++ (apart_octets 46 (not (names_all what) && not (length path == 0)) ++ join_with_byte 46 (part_words what))
+    → join_with_byte 46 (map decimal path ++ part_words what) ≡ join_with_byte 46 (map decimal path) ++ (separator_octets 46 (not (names_all what) && not (length path == 0)) ++ join_with_byte 46 (part_words what))
 joined_words path part.Whole = ap (join_with_byte 46) (append-nil (map decimal path)) ∙ sym (append-nil (join_with_byte 46 (map decimal path)))
 joined_words path part.Header = joined_word path (codes "HEADER")
 joined_words path (part.Fields names negated) = joined_word path _
@@ -68,19 +68,19 @@ joined_words path part.Text = joined_word path (codes "TEXT")
 joined_words path part.Mime = joined_word path (codes "MIME")
 
 -- the name is put last a piece after another
-pub name_made : (path : List ℕ) (what : SectionPart) (partial : Option (ℕ × ℕ)) (apart : Bool) (old begun numbered spaced worded closed name : List ℕ) → begun ≡ old ++ codes "BODY[" → numbered ≡ begun ++ join_with_byte 46 (map decimal path)
-    → apart ≡ (not (names_all what) && not (length path == 0)) → spaced ≡ numbered ++ apart_octets 46 apart → worded ≡ spaced ++ join_with_byte 46 (part_words what) → closed ≡ worded ++ codes "]"
+pub name_made : (path : List ℕ) (what : SectionPart) (partial : Option (ℕ × ℕ)) (is_separated : Bool) (old begun numbered spaced worded closed name : List ℕ) → begun ≡ old ++ codes "BODY[" → numbered ≡ begun ++ join_with_byte 46 (map decimal path)
+    → is_separated ≡ (not (names_all what) && not (length path == 0)) → spaced ≡ numbered ++ separator_octets 46 is_separated → worded ≡ spaced ++ join_with_byte 46 (part_words what) → closed ≡ worded ++ codes "]"
     → name ≡ closed ++ partial_text partial → name ≡ old ++ section_name path what partial
-name_made path what partial apart old begun numbered spaced worded closed name begun_is numbered_is apart_is spaced_is worded_is closed_is name_is =
+name_made path what partial is_separated old begun numbered spaced worded closed name begun_is numbered_is apart_is spaced_is worded_is closed_is name_is =
     rw (name_is, closed_is, worded_is, spaced_is, apart_is, numbered_is, begun_is, joined_words path what) (simp append_assoc)
 
 -- ---- what is asked
 
 -- where there is no such section
-pub nothing_wanted : (meanings : Meanings) (mode : Mode) (store : StoreState) (one : Listed) (asked : List ℕ) (partial : Option (ℕ × ℕ)) (wanted : Wanted)
-    → wanted_parts meanings mode store one asked partial wanted None ≡ text (asked ++ codes " NIL") ∷ []
-nothing_wanted meanings mode store one asked partial (want.Octets what) = refl
-nothing_wanted meanings mode store one asked partial (want.Fields chosen) = refl
+pub nothing_wanted : (oracles : Oracles) (mode : Mode) (store : StoreState) (one : Listed) (asked : List ℕ) (partial : Option (ℕ × ℕ)) (wanted : Wanted)
+    → wanted_parts oracles mode store one asked partial wanted None ≡ text (asked ++ codes " NIL") ∷ []
+nothing_wanted oracles mode store one asked partial (want.Octets what) = refl
+nothing_wanted oracles mode store one asked partial (want.Fields chosen) = refl
 
 -- ---- a part of a section
 

@@ -32,7 +32,7 @@ use Rattle.session_core.specs.Around.{Around}
 use Rattle.session_core.specs.Changes.{calls_of}
 use Rattle.session_core.specs.Doing.{Does, DoesFirst, Makes, Replies}
 use Rattle.session_core.specs.Keeps.{fault_of}
-use Rattle.session_core.specs.Meanings.{Meanings, WithMeanings}
+use Rattle.session_core.specs.Oracles.{Oracles, WithOracles}
 use Rattle.session_core.proofs.DoingLemmas.{Does-changes, Does-unchanged, DoesFirst-before}
 use Rattle.imap_session.specs.Machine.{Numbered, State, Step, chosen, close_step, closing_up, deleted_ids, done, ends_with, expunge_step, fetch_one, fetch_step, for_each, is_deleted, mailbox_step, no_such_message, numbered_at, refused_as_read_only, reply, selected, selected_step, store_one, store_step, tagged, taken_out}
 use Rattle.imap_session.specs.Replies.{ReplyPart, part_octets, reply_octets}
@@ -88,32 +88,32 @@ chosen_rise by_uid set messages =
 -- ---- the line behind acts
 
 -- what was pending of them was given with it
-pub pending_ends : (meanings : Meanings) (a b c : Around) (met : Option Fault) (tag words : List ℕ) (acts : List (Act ReplyPart)) (pending : List ℕ) → Carries (part_octets meanings) a b None [] pending acts
-    → Replies b c met (pending ++ tagged_octets tag words) → Does (part_octets meanings) a c met (acts ++ reply (tagged tag words ∷ []))
-pending_ends meanings a b c met tag words acts pending carries replies =
-    let spelled = part_octets meanings in
+pub pending_ends : (oracles : Oracles) (a b c : Around) (met : Option Fault) (tag words : List ℕ) (acts : List (Act ReplyPart)) (pending : List ℕ) → Carries (part_octets oracles) a b None [] pending acts
+    → Replies b c met (pending ++ tagged_octets tag words) → Does (part_octets oracles) a c met (acts ++ reply (tagged tag words ∷ []))
+pending_ends oracles a b c met tag words acts pending carries replies =
+    let spelled = part_octets oracles in
     let last = tagged tag words ∷ [] in
     let whole = pending ++ tagged_octets tag words in
-    let owes = Carries-parts spelled b pending whole last (ap (λ (z : List ℕ). pending ++ z) (sym (tagged_reply meanings tag words))) a acts (carries a [] (Owes-nil spelled a)) in
+    let owes = Carries-parts spelled b pending whole last (ap (λ (z : List ℕ). pending ++ z) (sym (tagged_reply oracles tag words))) a acts (carries a [] (Owes-nil spelled a)) in
     Owes-given spelled a b c met (acts ++ reply last) whole replies owes
 
 -- a fault came before it
-pub pending_broken : (meanings : Meanings) (a b : Around) (met : Fault) (tag words : List ℕ) (acts : List (Act ReplyPart)) (owes : List ℕ) → Carries (part_octets meanings) a b (Some met) [] owes acts
-    → DoesFirst (part_octets meanings) a b met (acts ++ reply (tagged tag words ∷ []))
-pending_broken meanings a b met tag words acts owes carries =
-    DoesFirst-before (part_octets meanings) a b met acts (reply (tagged tag words ∷ [])) (carries a [] (Owes-nil (part_octets meanings) a))
+pub pending_broken : (oracles : Oracles) (a b : Around) (met : Fault) (tag words : List ℕ) (acts : List (Act ReplyPart)) (owes : List ℕ) → Carries (part_octets oracles) a b (Some met) [] owes acts
+    → DoesFirst (part_octets oracles) a b met (acts ++ reply (tagged tag words ∷ []))
+pending_broken oracles a b met tag words acts owes carries =
+    DoesFirst-before (part_octets oracles) a b met acts (reply (tagged tag words ∷ [])) (carries a [] (Owes-nil (part_octets oracles) a))
 
 -- ---- a set
 
-pub set_refused : (meanings : Meanings) (a b : Around) (met : Option Fault) (tag : List ℕ) (state : State) (by_uid : Bool) (set : Set) (messages : List Listed) (act : Numbered → List (Act ReplyPart))
-    → is_refused by_uid set messages ≡ true → Replies a b met (tagged_octets tag (codes "BAD no such message")) → Does (part_octets meanings) a b met (for_each tag state by_uid set messages act).acts
-set_refused meanings a b met tag state by_uid set messages act refused replies = rw refused (says_given meanings a b met tag (codes "BAD no such message") state replies)
+pub set_refused : (oracles : Oracles) (a b : Around) (met : Option Fault) (tag : List ℕ) (state : State) (by_uid : Bool) (set : Set) (messages : List Listed) (act : Numbered → List (Act ReplyPart))
+    → is_refused by_uid set messages ≡ true → Replies a b met (tagged_octets tag (codes "BAD no such message")) → Does (part_octets oracles) a b met (for_each tag state by_uid set messages act).acts
+set_refused oracles a b met tag state by_uid set messages act refused replies = rw refused (says_given oracles a b met tag (codes "BAD no such message") state replies)
 
-pub set_taken : (meanings : Meanings) (a b : Around) (met : Option Fault) (tag : List ℕ) (state : State) (by_uid : Bool) (set : Set) (messages : List Listed) (act : Numbered → List (Act ReplyPart)) (places : List ℕ)
-    → is_refused by_uid set messages ≡ false → places ≡ chosen_places by_uid set messages → Does (part_octets meanings) a b met (ends_with tag done (flat_map act (flat_map (numbered_at messages) places)) state).acts
-    → Does (part_octets meanings) a b met (for_each tag state by_uid set messages act).acts
-set_taken meanings a b met tag state by_uid set messages act places refused are does =
-    rw refused (subst (λ (l : List ℕ). Does (part_octets meanings) a b met (ends_with tag done (flat_map act (flat_map (numbered_at messages) l)) state).acts) are does)
+pub set_taken : (oracles : Oracles) (a b : Around) (met : Option Fault) (tag : List ℕ) (state : State) (by_uid : Bool) (set : Set) (messages : List Listed) (act : Numbered → List (Act ReplyPart)) (places : List ℕ)
+    → is_refused by_uid set messages ≡ false → places ≡ chosen_places by_uid set messages → Does (part_octets oracles) a b met (ends_with tag done (flat_map act (flat_map (numbered_at messages) places)) state).acts
+    → Does (part_octets oracles) a b met (for_each tag state by_uid set messages act).acts
+set_taken oracles a b met tag state by_uid set messages act places refused are does =
+    rw refused (subst (λ (l : List ℕ). Does (part_octets oracles) a b met (ends_with tag done (flat_map act (flat_map (numbered_at messages) l)) state).acts) are does)
 
 -- whether it was refused, by whether there are places
 pub none_refused : {X : Type 0} (places : Option X) (refused : Bool) → (IsNone places ↔ (refused ≡ true)) → places ≡ None → refused ≡ true
@@ -124,22 +124,22 @@ some_taken places v refused told is = false_from_ne_true refused (λ yes. (let n
 
 -- ---- FETCH and STORE
 
-pub fetch_taken : (meanings : Meanings) (a b : Around) (met : Option Fault) (tag : List ℕ) (state : State) (mode : Mode) (folder : ℕ) (read_only : Bool) (store : StoreState) (by_uid : Bool) (set : Set) (items : List FetchItem)
+pub fetch_taken : (oracles : Oracles) (a b : Around) (met : Option Fault) (tag : List ℕ) (state : State) (mode : Mode) (folder : ℕ) (read_only : Bool) (store : StoreState) (by_uid : Bool) (set : Set) (items : List FetchItem)
     (messages : List Listed) → messages ≡ listed store.kept folder
-    → Does (part_octets meanings) a b met (for_each tag state by_uid set messages (fetch_one meanings mode store by_uid read_only items)).acts
-    → Does (part_octets meanings) a b met (fetch_step meanings tag state mode folder read_only store by_uid set items).acts
-fetch_taken meanings a b met tag state mode folder read_only store by_uid set items messages are does =
-    subst (λ (l : List Listed). Does (part_octets meanings) a b met (for_each tag state by_uid set l (fetch_one meanings mode store by_uid read_only items)).acts) are does
+    → Does (part_octets oracles) a b met (for_each tag state by_uid set messages (fetch_one oracles mode store by_uid read_only items)).acts
+    → Does (part_octets oracles) a b met (fetch_step oracles tag state mode folder read_only store by_uid set items).acts
+fetch_taken oracles a b met tag state mode folder read_only store by_uid set items messages are does =
+    subst (λ (l : List Listed). Does (part_octets oracles) a b met (for_each tag state by_uid set l (fetch_one oracles mode store by_uid read_only items)).acts) are does
 
-pub store_refused : (meanings : Meanings) (a b : Around) (met : Option Fault) (tag : List ℕ) (state : State) (folder : ℕ) (read_only : Bool) (store : StoreState) (by_uid : Bool) (set : Set) (op : StoreOp) (silent : Bool) (named : ℕ)
-    → read_only ≡ true → Replies a b met (tagged_octets tag (codes "NO read only")) → Does (part_octets meanings) a b met (store_step tag state folder read_only store by_uid set op silent named).acts
-store_refused meanings a b met tag state folder read_only store by_uid set op silent named closed replies = rw closed (says_given meanings a b met tag (codes "NO read only") state replies)
+pub store_refused : (oracles : Oracles) (a b : Around) (met : Option Fault) (tag : List ℕ) (state : State) (folder : ℕ) (read_only : Bool) (store : StoreState) (by_uid : Bool) (set : Set) (op : StoreOp) (silent : Bool) (named : ℕ)
+    → read_only ≡ true → Replies a b met (tagged_octets tag (codes "NO read only")) → Does (part_octets oracles) a b met (store_step tag state folder read_only store by_uid set op silent named).acts
+store_refused oracles a b met tag state folder read_only store by_uid set op silent named closed replies = rw closed (says_given oracles a b met tag (codes "NO read only") state replies)
 
-pub store_taken : (meanings : Meanings) (a b : Around) (met : Option Fault) (tag : List ℕ) (state : State) (folder : ℕ) (read_only : Bool) (store : StoreState) (by_uid : Bool) (set : Set) (op : StoreOp) (silent : Bool) (named : ℕ)
-    (messages : List Listed) → read_only ≡ false → messages ≡ listed store.kept folder → Does (part_octets meanings) a b met (for_each tag state by_uid set messages (store_one by_uid silent op named)).acts
-    → Does (part_octets meanings) a b met (store_step tag state folder read_only store by_uid set op silent named).acts
-store_taken meanings a b met tag state folder read_only store by_uid set op silent named messages free are does =
-    rw free (subst (λ (l : List Listed). Does (part_octets meanings) a b met (for_each tag state by_uid set l (store_one by_uid silent op named)).acts) are does)
+pub store_taken : (oracles : Oracles) (a b : Around) (met : Option Fault) (tag : List ℕ) (state : State) (folder : ℕ) (read_only : Bool) (store : StoreState) (by_uid : Bool) (set : Set) (op : StoreOp) (silent : Bool) (named : ℕ)
+    (messages : List Listed) → read_only ≡ false → messages ≡ listed store.kept folder → Does (part_octets oracles) a b met (for_each tag state by_uid set messages (store_one by_uid silent op named)).acts
+    → Does (part_octets oracles) a b met (store_step tag state folder read_only store by_uid set op silent named).acts
+store_taken oracles a b met tag state folder read_only store by_uid set op silent named messages free are does =
+    rw free (subst (λ (l : List Listed). Does (part_octets oracles) a b met (for_each tag state by_uid set l (store_one by_uid silent op named)).acts) are does)
 
 -- ---- what goes
 
@@ -222,59 +222,59 @@ acts_taken ids parts tag words =
     ∙ (ap (λ z. taken_out ids ++ z) (map-append gives parts (tagged tag words ∷ [])) ∙ sym (append_assoc (taken_out ids) (map gives parts) (map gives (tagged tag words ∷ []))))
 
 -- messages went, and then these lines were given, and the one that ends the replies
-pub taken_told : (meanings : Meanings) (a b c : Around) (met : Option Fault) (tag words ids : List ℕ) (parts : List ReplyPart) (lines : List ℕ) → lines ≡ reply_octets meanings parts
-    → Makes a b None (calls_of (expunged ids)) → Replies b c met (lines ++ tagged_octets tag words) → Does (part_octets meanings) a c met ((taken_out ids ++ reply parts) ++ reply (tagged tag words ∷ []))
-taken_told meanings a b c met tag words ids parts lines are makes replies =
-    let spelled = part_octets meanings in
+pub taken_told : (oracles : Oracles) (a b c : Around) (met : Option Fault) (tag words ids : List ℕ) (parts : List ReplyPart) (lines : List ℕ) → lines ≡ reply_octets oracles parts
+    → Makes a b None (calls_of (expunged ids)) → Replies b c met (lines ++ tagged_octets tag words) → Does (part_octets oracles) a c met ((taken_out ids ++ reply parts) ++ reply (tagged tag words ∷ []))
+taken_told oracles a b c met tag words ids parts lines are makes replies =
+    let spelled = part_octets oracles in
     let last = tagged tag words ∷ [] in
     let whole : lines ++ tagged_octets tag words ≡ flat_map spelled (parts ++ last) =
-    ap (λ z. z ++ tagged_octets tag words) are ∙ (ap (λ z. reply_octets meanings parts ++ z) (sym (tagged_reply meanings tag words)) ∙ sym (flat_map-append spelled parts last)) in
+    ap (λ z. z ++ tagged_octets tag words) are ∙ (ap (λ z. reply_octets oracles parts ++ z) (sym (tagged_reply oracles tag words)) ∙ sym (flat_map-append spelled parts last)) in
     subst (λ (z : List (Act ReplyPart)). Does spelled a c met z) (acts_taken ids parts tag words)
     (Does-changes spelled a b c met (calls_of (expunged ids)) (parts ++ last) makes (subst (λ octets. Replies b c met octets) whole replies))
 
 -- a fault broke it off before anything was told
-pub taken_broken : (meanings : Meanings) (a b : Around) (met : Fault) (tag words ids : List ℕ) (parts : List ReplyPart) → Makes a b (Some met) (calls_of (expunged ids))
-    → DoesFirst (part_octets meanings) a b met ((taken_out ids ++ reply parts) ++ reply (tagged tag words ∷ []))
-taken_broken meanings a b met tag words ids parts makes =
-    subst (λ (z : List (Act ReplyPart)). DoesFirst (part_octets meanings) a b met z) (acts_taken ids parts tag words)
-    (Does-unchanged (part_octets meanings) a b met (calls_of (expunged ids)) (parts ++ tagged tag words ∷ []) makes)
+pub taken_broken : (oracles : Oracles) (a b : Around) (met : Fault) (tag words ids : List ℕ) (parts : List ReplyPart) → Makes a b (Some met) (calls_of (expunged ids))
+    → DoesFirst (part_octets oracles) a b met ((taken_out ids ++ reply parts) ++ reply (tagged tag words ∷ []))
+taken_broken oracles a b met tag words ids parts makes =
+    subst (λ (z : List (Act ReplyPart)). DoesFirst (part_octets oracles) a b met z) (acts_taken ids parts tag words)
+    (Does-unchanged (part_octets oracles) a b met (calls_of (expunged ids)) (parts ++ tagged tag words ∷ []) makes)
 
 -- the same where there are no lines before the last
-pub taken_silently : (meanings : Meanings) (a b c : Around) (met : Option Fault) (tag words ids : List ℕ) → Makes a b None (calls_of (expunged ids)) → Replies b c met (tagged_octets tag words)
-    → Does (part_octets meanings) a c met (taken_out ids ++ reply (tagged tag words ∷ []))
-taken_silently meanings a b c met tag words ids makes replies =
-    subst (λ (z : List (Act ReplyPart)). Does (part_octets meanings) a c met (z ++ reply (tagged tag words ∷ []))) (append-nil (taken_out ids)) (taken_told meanings a b c met tag words ids [] [] refl makes replies)
+pub taken_silently : (oracles : Oracles) (a b c : Around) (met : Option Fault) (tag words ids : List ℕ) → Makes a b None (calls_of (expunged ids)) → Replies b c met (tagged_octets tag words)
+    → Does (part_octets oracles) a c met (taken_out ids ++ reply (tagged tag words ∷ []))
+taken_silently oracles a b c met tag words ids makes replies =
+    subst (λ (z : List (Act ReplyPart)). Does (part_octets oracles) a c met (z ++ reply (tagged tag words ∷ []))) (append-nil (taken_out ids)) (taken_told oracles a b c met tag words ids [] [] refl makes replies)
 
-pub silently_broken : (meanings : Meanings) (a b : Around) (met : Fault) (tag words ids : List ℕ) → Makes a b (Some met) (calls_of (expunged ids))
-    → DoesFirst (part_octets meanings) a b met (taken_out ids ++ reply (tagged tag words ∷ []))
-silently_broken meanings a b met tag words ids makes =
-    subst (λ (z : List (Act ReplyPart)). DoesFirst (part_octets meanings) a b met (z ++ reply (tagged tag words ∷ []))) (append-nil (taken_out ids)) (taken_broken meanings a b met tag words ids [] makes)
+pub silently_broken : (oracles : Oracles) (a b : Around) (met : Fault) (tag words ids : List ℕ) → Makes a b (Some met) (calls_of (expunged ids))
+    → DoesFirst (part_octets oracles) a b met (taken_out ids ++ reply (tagged tag words ∷ []))
+silently_broken oracles a b met tag words ids makes =
+    subst (λ (z : List (Act ReplyPart)). DoesFirst (part_octets oracles) a b met (z ++ reply (tagged tag words ∷ []))) (append-nil (taken_out ids)) (taken_broken oracles a b met tag words ids [] makes)
 
-pub expunge_refused : (meanings : Meanings) (a b : Around) (met : Option Fault) (tag : List ℕ) (state : State) (read_only : Bool) (messages : List Listed) → read_only ≡ true
-    → Replies a b met (tagged_octets tag (codes "NO read only")) → Does (part_octets meanings) a b met (expunge_step tag state read_only messages).acts
-expunge_refused meanings a b met tag state read_only messages closed replies = rw closed (says_given meanings a b met tag (codes "NO read only") state replies)
+pub expunge_refused : (oracles : Oracles) (a b : Around) (met : Option Fault) (tag : List ℕ) (state : State) (read_only : Bool) (messages : List Listed) → read_only ≡ true
+    → Replies a b met (tagged_octets tag (codes "NO read only")) → Does (part_octets oracles) a b met (expunge_step tag state read_only messages).acts
+expunge_refused oracles a b met tag state read_only messages closed replies = rw closed (says_given oracles a b met tag (codes "NO read only") state replies)
 
-pub expunge_broken : (meanings : Meanings) (a b : Around) (met : Fault) (tag : List ℕ) (state : State) (read_only : Bool) (messages : List Listed) → read_only ≡ false
-    → Makes a b (Some met) (calls_of (expunged (deleted_ids messages))) → DoesFirst (part_octets meanings) a b met (expunge_step tag state read_only messages).acts
-expunge_broken meanings a b met tag state read_only messages free makes = rw free (taken_broken meanings a b met tag done (deleted_ids messages) (closing_up 1 messages) makes)
+pub expunge_broken : (oracles : Oracles) (a b : Around) (met : Fault) (tag : List ℕ) (state : State) (read_only : Bool) (messages : List Listed) → read_only ≡ false
+    → Makes a b (Some met) (calls_of (expunged (deleted_ids messages))) → DoesFirst (part_octets oracles) a b met (expunge_step tag state read_only messages).acts
+expunge_broken oracles a b met tag state read_only messages free makes = rw free (taken_broken oracles a b met tag done (deleted_ids messages) (closing_up 1 messages) makes)
 
-pub expunge_told : (meanings : Meanings) (a b c : Around) (met : Option Fault) (tag : List ℕ) (state : State) (read_only : Bool) (messages : List Listed) (lines : List ℕ) → read_only ≡ false
-    → lines ≡ reply_octets meanings (closing_up 1 messages) → Makes a b None (calls_of (expunged (deleted_ids messages))) → Replies b c met (lines ++ tagged_octets tag done)
-    → Does (part_octets meanings) a c met (expunge_step tag state read_only messages).acts
-expunge_told meanings a b c met tag state read_only messages lines free are makes replies =
-    rw free (taken_told meanings a b c met tag done (deleted_ids messages) (closing_up 1 messages) lines are makes replies)
+pub expunge_told : (oracles : Oracles) (a b c : Around) (met : Option Fault) (tag : List ℕ) (state : State) (read_only : Bool) (messages : List Listed) (lines : List ℕ) → read_only ≡ false
+    → lines ≡ reply_octets oracles (closing_up 1 messages) → Makes a b None (calls_of (expunged (deleted_ids messages))) → Replies b c met (lines ++ tagged_octets tag done)
+    → Does (part_octets oracles) a c met (expunge_step tag state read_only messages).acts
+expunge_told oracles a b c met tag state read_only messages lines free are makes replies =
+    rw free (taken_told oracles a b c met tag done (deleted_ids messages) (closing_up 1 messages) lines are makes replies)
 
-pub close_kept : (meanings : Meanings) (a b : Around) (met : Option Fault) (tag : List ℕ) (state : State) (read_only : Bool) (messages : List Listed) → read_only ≡ true → Replies a b met (tagged_octets tag done)
-    → Does (part_octets meanings) a b met (close_step tag state read_only messages).acts
-close_kept meanings a b met tag state read_only messages closed replies = rw closed (says_given meanings a b met tag done state replies)
+pub close_kept : (oracles : Oracles) (a b : Around) (met : Option Fault) (tag : List ℕ) (state : State) (read_only : Bool) (messages : List Listed) → read_only ≡ true → Replies a b met (tagged_octets tag done)
+    → Does (part_octets oracles) a b met (close_step tag state read_only messages).acts
+close_kept oracles a b met tag state read_only messages closed replies = rw closed (says_given oracles a b met tag done state replies)
 
-pub close_broken : (meanings : Meanings) (a b : Around) (met : Fault) (tag : List ℕ) (state : State) (read_only : Bool) (messages : List Listed) → read_only ≡ false
-    → Makes a b (Some met) (calls_of (expunged (deleted_ids messages))) → DoesFirst (part_octets meanings) a b met (close_step tag state read_only messages).acts
-close_broken meanings a b met tag state read_only messages free makes = rw free (silently_broken meanings a b met tag done (deleted_ids messages) makes)
+pub close_broken : (oracles : Oracles) (a b : Around) (met : Fault) (tag : List ℕ) (state : State) (read_only : Bool) (messages : List Listed) → read_only ≡ false
+    → Makes a b (Some met) (calls_of (expunged (deleted_ids messages))) → DoesFirst (part_octets oracles) a b met (close_step tag state read_only messages).acts
+close_broken oracles a b met tag state read_only messages free makes = rw free (silently_broken oracles a b met tag done (deleted_ids messages) makes)
 
-pub close_told : (meanings : Meanings) (a b c : Around) (met : Option Fault) (tag : List ℕ) (state : State) (read_only : Bool) (messages : List Listed) → read_only ≡ false
-    → Makes a b None (calls_of (expunged (deleted_ids messages))) → Replies b c met (tagged_octets tag done) → Does (part_octets meanings) a c met (close_step tag state read_only messages).acts
-close_told meanings a b c met tag state read_only messages free makes replies = rw free (taken_silently meanings a b c met tag done (deleted_ids messages) makes replies)
+pub close_told : (oracles : Oracles) (a b c : Around) (met : Option Fault) (tag : List ℕ) (state : State) (read_only : Bool) (messages : List Listed) → read_only ≡ false
+    → Makes a b None (calls_of (expunged (deleted_ids messages))) → Replies b c met (tagged_octets tag done) → Does (part_octets oracles) a c met (close_step tag state read_only messages).acts
+close_told oracles a b c met tag state read_only messages free makes replies = rw free (taken_silently oracles a b c met tag done (deleted_ids messages) makes replies)
 
 -- the folder with the list that was read anew
 pub knows_anew : (a b c : Around) (account folder : ℕ) (were are : List Listed) → HasCounts a.desk.store b.desk.store → c.desk ≡ b.desk → KnowsFolder a.desk.store account folder were
@@ -299,28 +299,28 @@ on_ok_then (Err met) P Q so holds = tt
 -- ---- the state behind a command
 
 -- what was done is told, and the session behind it is in this state
-pub Takes-state : (a b : Around) (met : Option Fault) (result : Result (Option ImapState) Fault) (state : State) (taken : Meanings → Step) → WithMeanings (λ meanings. Does (part_octets meanings) a b met (taken meanings).acts)
-    → ((meanings : Meanings) → state ≡ (taken meanings).state) → fault_of result ≡ met → IfOk result (λ next. state_or_ended next ≡ state) → IfOk result (KnowsNext b.desk.store) → TakesStep a b result taken
+pub Takes-state : (a b : Around) (met : Option Fault) (result : Result (Option ImapState) Fault) (state : State) (taken : Oracles → Step) → WithOracles (λ oracles. Does (part_octets oracles) a b met (taken oracles).acts)
+    → ((oracles : Oracles) → state ≡ (taken oracles).state) → fault_of result ≡ met → IfOk result (λ next. state_or_ended next ≡ state) → IfOk result (KnowsNext b.desk.store) → TakesStep a b result taken
 Takes-state a b met (Ok next) state taken does states is next_is known = record {
-  does = λ meanings are. subst (λ (m : Option Fault). Does (part_octets meanings) a b m (taken meanings).acts) (sym is) (does meanings are);
-  next = λ meanings are. next_is ∙ states meanings;
+  does = λ oracles are. subst (λ (m : Option Fault). Does (part_octets oracles) a b m (taken oracles).acts) (sym is) (does oracles are);
+  next = λ oracles are. next_is ∙ states oracles;
   known = known;
 }
 Takes-state a b met (Err stopped) state taken does states is next_is known = record {
-  does = λ meanings are. subst (λ (m : Option Fault). Does (part_octets meanings) a b m (taken meanings).acts) (sym is) (does meanings are);
-  next = λ meanings are. tt;
+  does = λ oracles are. subst (λ (m : Option Fault). Does (part_octets oracles) a b m (taken oracles).acts) (sym is) (does oracles are);
+  next = λ oracles are. tt;
   known = tt;
 }
 
 -- the same where the folder stays selected
-pub Takes-stays : (a b : Around) (met : Option Fault) (result : Result (Option ImapState) Fault) (mode : Mode) (was is : Selected) (taken : Meanings → State → Step) → is ≡ record was { messages = is.messages }
-    → WithMeanings (λ meanings. (state : State) → Does (part_octets meanings) a b met (taken meanings state).acts) → ((meanings : Meanings) (state : State) → state ≡ (taken meanings state).state) → fault_of result ≡ met
+pub Takes-stays : (a b : Around) (met : Option Fault) (result : Result (Option ImapState) Fault) (mode : Mode) (was is : Selected) (taken : Oracles → State → Step) → is ≡ record was { messages = is.messages }
+    → WithOracles (λ oracles. (state : State) → Does (part_octets oracles) a b met (taken oracles state).acts) → ((oracles : Oracles) (state : State) → state ≡ (taken oracles state).state) → fault_of result ≡ met
     → IfOk result (λ next. state_or_ended next ≡ selected mode is.account is.folder is.read_only) → IfOk result (KnowsNext b.desk.store)
-    → TakesStep a b result (λ meanings. taken meanings (selected mode was.account was.folder was.read_only))
+    → TakesStep a b result (λ oracles. taken oracles (selected mode was.account was.folder was.read_only))
 Takes-stays a b met result mode was is taken same does states told next_is known =
     let state = selected mode was.account was.folder was.read_only in
     let kept : selected mode is.account is.folder is.read_only ≡ state = ap (λ (one : Selected). selected mode one.account one.folder one.read_only) same in
-    Takes-state a b met result state (λ meanings. taken meanings state) (λ meanings are. does meanings are state) (λ meanings. states meanings state) told
+    Takes-state a b met result state (λ oracles. taken oracles state) (λ oracles are. does oracles are state) (λ oracles. states oracles state) told
     (subst (λ (s : State). IfOk result (λ next. state_or_ended next ≡ s)) kept next_is) known
 
 -- ---- which state it is
@@ -333,10 +333,10 @@ each_state : (tag : List ℕ) (state : State) (by_uid : Bool) (set : Set) (messa
 each_state tag state by_uid set messages act =
     state_if (is_refused by_uid set messages) state (no_such_message tag state) (ends_with tag done (flat_map act (chosen by_uid set messages)) state) refl refl
 
-pub fetch_state : (meanings : Meanings) (tag : List ℕ) (state : State) (mode : Mode) (folder : ℕ) (read_only : Bool) (store : StoreState) (by_uid : Bool) (set : Set) (items : List FetchItem)
-    → state ≡ (fetch_step meanings tag state mode folder read_only store by_uid set items).state
-fetch_state meanings tag state mode folder read_only store by_uid set items =
-    each_state tag state by_uid set (listed store.kept folder) (fetch_one meanings mode store by_uid read_only items)
+pub fetch_state : (oracles : Oracles) (tag : List ℕ) (state : State) (mode : Mode) (folder : ℕ) (read_only : Bool) (store : StoreState) (by_uid : Bool) (set : Set) (items : List FetchItem)
+    → state ≡ (fetch_step oracles tag state mode folder read_only store by_uid set items).state
+fetch_state oracles tag state mode folder read_only store by_uid set items =
+    each_state tag state by_uid set (listed store.kept folder) (fetch_one oracles mode store by_uid read_only items)
 
 pub store_state : (tag : List ℕ) (state : State) (folder : ℕ) (read_only : Bool) (store : StoreState) (by_uid : Bool) (set : Set) (op : StoreOp) (silent : Bool) (named : ℕ)
     → state ≡ (store_step tag state folder read_only store by_uid set op silent named).state
@@ -351,24 +351,24 @@ expunge_state tag state read_only messages =
 -- ---- which step it is
 
 -- any other command is one on folders, or one of every state
-pub selected-other : (meanings : Meanings) (now tag : List ℕ) (mode : Mode) (account folder : ℕ) (read_only : Bool) (store : StoreState) (c : Command) → (c ≡ command.Check → ⊥)
+pub selected-other : (oracles : Oracles) (now tag : List ℕ) (mode : Mode) (account folder : ℕ) (read_only : Bool) (store : StoreState) (c : Command) → (c ≡ command.Check → ⊥)
     → ((by_uid : Bool) (set : Set) (items : List FetchItem) → c ≡ command.Fetch by_uid set items → ⊥)
     → ((by_uid : Bool) (set : Set) (op : StoreOp) (silent : Bool) (flags : ℕ) → c ≡ command.Store by_uid set op silent flags → ⊥) → (c ≡ command.Expunge → ⊥) → (c ≡ command.Close → ⊥)
-    → mailbox_step meanings now tag (selected mode account folder read_only) mode account store c ≡ selected_step meanings now tag mode account folder read_only store c
-selected-other meanings now tag mode account folder read_only store command.Capability no_check no_fetch no_store no_expunge no_close = refl
-selected-other meanings now tag mode account folder read_only store command.Noop no_check no_fetch no_store no_expunge no_close = refl
-selected-other meanings now tag mode account folder read_only store command.Check no_check no_fetch no_store no_expunge no_close = absurd (no_check refl)
-selected-other meanings now tag mode account folder read_only store command.Logout no_check no_fetch no_store no_expunge no_close = refl
-selected-other meanings now tag mode account folder read_only store (command.Login user password) no_check no_fetch no_store no_expunge no_close = refl
-selected-other meanings now tag mode account folder read_only store (command.Enable words) no_check no_fetch no_store no_expunge no_close = refl
-selected-other meanings now tag mode account folder read_only store (command.Select written) no_check no_fetch no_store no_expunge no_close = refl
-selected-other meanings now tag mode account folder read_only store (command.Examine written) no_check no_fetch no_store no_expunge no_close = refl
-selected-other meanings now tag mode account folder read_only store (command.Create written) no_check no_fetch no_store no_expunge no_close = refl
-selected-other meanings now tag mode account folder read_only store (command.List reference pattern) no_check no_fetch no_store no_expunge no_close = refl
-selected-other meanings now tag mode account folder read_only store (command.Status written items) no_check no_fetch no_store no_expunge no_close = refl
-selected-other meanings now tag mode account folder read_only store (command.Append written flags date utf8 octets) no_check no_fetch no_store no_expunge no_close = refl
-selected-other meanings now tag mode account folder read_only store (command.Fetch by_uid set items) no_check no_fetch no_store no_expunge no_close = absurd (no_fetch by_uid set items refl)
-selected-other meanings now tag mode account folder read_only store (command.Store by_uid set op silent flags) no_check no_fetch no_store no_expunge no_close = absurd (no_store by_uid set op silent flags refl)
-selected-other meanings now tag mode account folder read_only store command.Expunge no_check no_fetch no_store no_expunge no_close = absurd (no_expunge refl)
-selected-other meanings now tag mode account folder read_only store command.Close no_check no_fetch no_store no_expunge no_close = absurd (no_close refl)
-selected-other meanings now tag mode account folder read_only store command.NotHere no_check no_fetch no_store no_expunge no_close = refl
+    → mailbox_step oracles now tag (selected mode account folder read_only) mode account store c ≡ selected_step oracles now tag mode account folder read_only store c
+selected-other oracles now tag mode account folder read_only store command.Capability no_check no_fetch no_store no_expunge no_close = refl
+selected-other oracles now tag mode account folder read_only store command.Noop no_check no_fetch no_store no_expunge no_close = refl
+selected-other oracles now tag mode account folder read_only store command.Check no_check no_fetch no_store no_expunge no_close = absurd (no_check refl)
+selected-other oracles now tag mode account folder read_only store command.Logout no_check no_fetch no_store no_expunge no_close = refl
+selected-other oracles now tag mode account folder read_only store (command.Login user password) no_check no_fetch no_store no_expunge no_close = refl
+selected-other oracles now tag mode account folder read_only store (command.Enable words) no_check no_fetch no_store no_expunge no_close = refl
+selected-other oracles now tag mode account folder read_only store (command.Select written) no_check no_fetch no_store no_expunge no_close = refl
+selected-other oracles now tag mode account folder read_only store (command.Examine written) no_check no_fetch no_store no_expunge no_close = refl
+selected-other oracles now tag mode account folder read_only store (command.Create written) no_check no_fetch no_store no_expunge no_close = refl
+selected-other oracles now tag mode account folder read_only store (command.List reference pattern) no_check no_fetch no_store no_expunge no_close = refl
+selected-other oracles now tag mode account folder read_only store (command.Status written items) no_check no_fetch no_store no_expunge no_close = refl
+selected-other oracles now tag mode account folder read_only store (command.Append written flags date utf8 octets) no_check no_fetch no_store no_expunge no_close = refl
+selected-other oracles now tag mode account folder read_only store (command.Fetch by_uid set items) no_check no_fetch no_store no_expunge no_close = absurd (no_fetch by_uid set items refl)
+selected-other oracles now tag mode account folder read_only store (command.Store by_uid set op silent flags) no_check no_fetch no_store no_expunge no_close = absurd (no_store by_uid set op silent flags refl)
+selected-other oracles now tag mode account folder read_only store command.Expunge no_check no_fetch no_store no_expunge no_close = absurd (no_expunge refl)
+selected-other oracles now tag mode account folder read_only store command.Close no_check no_fetch no_store no_expunge no_close = absurd (no_close refl)
+selected-other oracles now tag mode account folder read_only store command.NotHere no_check no_fetch no_store no_expunge no_close = refl

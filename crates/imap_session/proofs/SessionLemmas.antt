@@ -15,7 +15,7 @@ use Rattle.imap_grammar.specs.declared.event.Event.{Event}
 use Rattle.imap_grammar.specs.declared.event.Event.TheVariants.{More, Go, Command, Bad, TooLarge, TooLong}
 use Rattle.imap_grammar.specs.declared.reader.Reader.{Reader}
 use Rattle.imap_grammar.specs.declared.reader.Stage.{Stage}
-use Rattle.imap_grammar.specs.declared.reader.Stage.TheVariants.{Begin, Behind}
+use Rattle.imap_grammar.specs.declared.reader.Stage.TheVariants.{Begin, AfterLiteral}
 use Rattle.imap_grammar.proofs.OneEvent.{one_first}
 use Rattle.mail_store.specs.Following.{records_of}
 use Rattle.mail_store.specs.StoreState.{StoreState, with_records}
@@ -23,19 +23,19 @@ use Rattle.session_core.specs.Acts.{changes_in}
 use Rattle.session_core.specs.Around.{Around}
 use Rattle.session_core.specs.Doing.{Does, DoesAll, DoesFirst, Replies}
 use Rattle.session_core.specs.Keeps.{fault_of}
-use Rattle.session_core.specs.Meanings.{Meanings, AreMeanings}
+use Rattle.session_core.specs.Oracles.{Oracles, AreOracles}
 use Rattle.session_core.specs.Moments.{Moment}
 use Rattle.session_core.specs.Steps.{Begins, StandsAfter, Steps, IsReadyAfter}
 use Rattle.session_core.specs.declared.desk.Desk.{Desk}
 use Rattle.session_core.proofs.DoingLemmas.{Does-replies, DoesAll-nil}
-use Rattle.session_core.proofs.MeaningLemmas.{meanings_given}
+use Rattle.session_core.proofs.MeaningLemmas.{oracles_given}
 use Rattle.session_core.specs.Turns.{all_turns}
 use Rattle.session_core.proofs.StepLemmas.{StepsBy-turn, StepsBy-fails}
 use Rattle.imap_session.specs.laws.CommandLaws.{said_of}
 use Rattle.imap_session.specs.laws.ImapLaws.{at_due, framed_by}
 use Rattle.imap_session.specs.Machine.{State, Step, ended, line, mode_of, not_authenticated, reply, untagged}
 use Rattle.imap_session.specs.Replies.{part_octets}
-use Rattle.imap_session.specs.Session.{ImapReady, ImapStands, IsSaidIn, KnowsState, Machine, TakesStep, TakesStepAt, date_at, due_step, due_turn, event_takes, greeting, imap_protocol, machine_next, moments_behind, next_turn, state_of, state_or_ended, turn_from}
+use Rattle.imap_session.specs.Session.{ImapReady, ImapStands, IsSaidIn, KnowsState, Machine, TakesStep, TakesStepAt, date_at, due_step, due_turn, event_takes, greeting, imap_protocol, machine_next, moments_after, next_turn, state_of, state_or_ended, turn_from}
 use Rattle.imap_session.specs.declared.session.ImapMachine.{ImapMachine}
 use Rattle.imap_session.specs.declared.states.ImapState.{ImapState}
 use Rattle.imap_session.specs.declared.states.ImapState.TheVariants as imap
@@ -82,7 +82,7 @@ no_tag (x ∷ tag) rest front none e = cc
 
 at_begin : (utf8 : Bool) (stage : Stage) (front : List ℕ) → Reached utf8 stage front → front ≡ [] → stage ≡ Begin
 at_begin utf8 Begin front reached none = refl
-at_begin utf8 (Behind tag size a) front reached none = absurd (no_tag tag reached.2.rest front none reached.2.whole)
+at_begin utf8 (AfterLiteral tag size a) front reached none = absurd (no_tag tag reached.2.rest front none reached.2.whole)
 
 -- has seen nothing of one in the other mode either
 pub stands_anew : (utf8 other : Bool) (reader : Reader) → HasSeen utf8 reader [] → HasSeen other reader []
@@ -153,35 +153,35 @@ seen_same seen rest piece used TooLong other = refl
 -- ---- the reader behind what was due
 
 -- where no octets of a command were kept, a reader reads in whatever mode comes
-reads_behind : (meanings : Meanings) (now : List ℕ) (state : State) (store : StoreState) (reader : Reader) (seen piece : List ℕ) (used : ℕ) (event : Event)
-    → HasSeen (is_enabled (mode_of state)) reader (seen_after seen piece used event) → HasSeen (is_enabled (mode_of (due_step meanings now state store event).state)) reader (seen_after seen piece used event)
-reads_behind meanings now state store reader seen piece used More s = s
-reads_behind meanings now state store reader seen piece used Go s = s
-reads_behind meanings now state store reader seen piece used (Command tag said) s = stands_anew _ _ reader s
-reads_behind meanings now state store reader seen piece used (Bad (Some tag) at) s = s
-reads_behind meanings now state store reader seen piece used (Bad None at) s = s
-reads_behind meanings now state store reader seen piece used (TooLarge tag) s = s
-reads_behind meanings now state store reader seen piece used TooLong s = stands_anew _ _ reader s
+reads_after : (oracles : Oracles) (now : List ℕ) (state : State) (store : StoreState) (reader : Reader) (seen piece : List ℕ) (used : ℕ) (event : Event)
+    → HasSeen (is_enabled (mode_of state)) reader (seen_after seen piece used event) → HasSeen (is_enabled (mode_of (due_step oracles now state store event).state)) reader (seen_after seen piece used event)
+reads_after oracles now state store reader seen piece used More s = s
+reads_after oracles now state store reader seen piece used Go s = s
+reads_after oracles now state store reader seen piece used (Command tag said) s = stands_anew _ _ reader s
+reads_after oracles now state store reader seen piece used (Bad (Some tag) at) s = s
+reads_after oracles now state store reader seen piece used (Bad None at) s = s
+reads_after oracles now state store reader seen piece used (TooLarge tag) s = s
+reads_after oracles now state store reader seen piece used TooLong s = stands_anew _ _ reader s
 
 -- ---- turns
 
-due_found : (meanings : Meanings) → AreMeanings meanings → (utf8 : Bool) (seen octets : List ℕ) (used : ℕ) (event : Event) → (event ≡ More → ⊥) → Tells utf8 seen octets used event
-    → meanings.event_of utf8 seen octets ≡ Some (record { used = used; event = event })
-due_found meanings are utf8 seen octets used event other told = one_first utf8 seen octets _ (Some (record { used = used; event = event })) (are.commands utf8 seen octets) (told, other)
+due_found : (oracles : Oracles) → AreOracles oracles → (utf8 : Bool) (seen octets : List ℕ) (used : ℕ) (event : Event) → (event ≡ More → ⊥) → Tells utf8 seen octets used event
+    → oracles.event_of utf8 seen octets ≡ Some (record { used = used; event = event })
+due_found oracles are utf8 seen octets used event other told = one_first utf8 seen octets _ (Some (record { used = used; event = event })) (are.commands utf8 seen octets) (told, other)
 
-turn_at : (meanings : Meanings) (session : ImapState) (machine : Machine) (octets : List ℕ) (due : Due) → meanings.event_of (is_enabled (mode_of machine.state)) machine.seen octets ≡ Some due
-    → turn_from meanings (state_of session) machine octets ≡ Some (due_turn meanings machine octets due)
-turn_at meanings (imap.NotAuthenticated session) machine octets due found = ap (option_map (due_turn meanings machine octets)) found
-turn_at meanings (imap.Authenticated session) machine octets due found = ap (option_map (due_turn meanings machine octets)) found
-turn_at meanings (imap.EnabledAuthenticated session) machine octets due found = ap (option_map (due_turn meanings machine octets)) found
-turn_at meanings (imap.Selected session) machine octets due found = ap (option_map (due_turn meanings machine octets)) found
-turn_at meanings (imap.EnabledSelected session) machine octets due found = ap (option_map (due_turn meanings machine octets)) found
+turn_at : (oracles : Oracles) (session : ImapState) (machine : Machine) (octets : List ℕ) (due : Due) → oracles.event_of (is_enabled (mode_of machine.state)) machine.seen octets ≡ Some due
+    → turn_from oracles (state_of session) machine octets ≡ Some (due_turn oracles machine octets due)
+turn_at oracles (imap.NotAuthenticated session) machine octets due found = ap (option_map (due_turn oracles machine octets)) found
+turn_at oracles (imap.Authenticated session) machine octets due found = ap (option_map (due_turn oracles machine octets)) found
+turn_at oracles (imap.EnabledAuthenticated session) machine octets due found = ap (option_map (due_turn oracles machine octets)) found
+turn_at oracles (imap.Selected session) machine octets due found = ap (option_map (due_turn oracles machine octets)) found
+turn_at oracles (imap.EnabledSelected session) machine octets due found = ap (option_map (due_turn oracles machine octets)) found
 
-turn_found : (meanings : Meanings) (session : ImapState) (machine : Machine) (octets : List ℕ) (due : Due) → machine.state ≡ state_of session
-    → meanings.event_of (is_enabled (mode_of machine.state)) machine.seen octets ≡ Some due → next_turn meanings machine octets ≡ Some (due_turn meanings machine octets due)
+turn_found : (oracles : Oracles) (session : ImapState) (machine : Machine) (octets : List ℕ) (due : Due) → machine.state ≡ state_of session
+    → oracles.event_of (is_enabled (mode_of machine.state)) machine.seen octets ≡ Some due → next_turn oracles machine octets ≡ Some (due_turn oracles machine octets due)
 unfolding next_turn
-turn_found meanings session machine octets due state_is found =
-    subst (λ state. turn_from meanings state machine octets ≡ Some (due_turn meanings machine octets due)) (sym state_is) (turn_at meanings session machine octets due found)
+turn_found oracles session machine octets due state_is found =
+    subst (λ state. turn_from oracles state machine octets ≡ Some (due_turn oracles machine octets due)) (sym state_is) (turn_at oracles session machine octets due found)
 
 not_ended : (session : ImapState) → ended ≡ state_of session → ⊥
 not_ended (imap.NotAuthenticated session) is = cc
@@ -203,12 +203,12 @@ waits_or_not TooLong = inr (λ e. cc)
 
 -- what a reader tells of a piece, and where it stands then, whatever it had seen
 pub record Feeds (utf8 : Bool) (old new : Reader) (piece : List ℕ) (used : ℕ) (event : Event) : Type 0 where
-  pub tells : (seen : List ℕ) → HasSeen utf8 old seen → Tells utf8 seen piece used event
+  pub observed : (seen : List ℕ) → HasSeen utf8 old seen → Tells utf8 seen piece used event
   pub stands : (seen : List ℕ) → HasSeen utf8 old seen → HasSeen utf8 new (seen_after seen piece used event)
 
 pub feeds_by : (utf8 own : Bool) (old new : Reader) (piece : List ℕ) (used : ℕ) (event : Event) → utf8 ≡ own → ((seen : List ℕ) → HasSeen utf8 old seen → Tells utf8 seen piece used event)
     → ((seen : List ℕ) → HasSeen utf8 old seen → HasSeen utf8 new (seen_after seen piece used event)) → Feeds own old new piece used event
-feeds_by utf8 own old new piece used event same tells stands = subst (λ u. Feeds u old new piece used event) same (record { tells = tells; stands = stands })
+feeds_by utf8 own old new piece used event same observed stands = subst (λ u. Feeds u old new piece used event) same (record { observed = observed; stands = stands })
 
 module _ (a b : Around) (session : ImapMachine) (reader : Reader) (piece : List ℕ) (used : ℕ) (event : Event)
     (feeds : Feeds (is_enabled (mode_of (state_of session.state))) session.reader reader piece used event) where
@@ -217,25 +217,25 @@ module _ (a b : Around) (session : ImapMachine) (reader : Reader) (piece : List 
       → HasSeen (is_enabled (mode_of (state_of session.state))) session.reader (machine.seen ++ rest)
   own_reads machine rest state_is s = subst (λ state. HasSeen (is_enabled (mode_of state)) session.reader (machine.seen ++ rest)) state_is s
 
-  found_in : (meanings : Meanings) → AreMeanings meanings → (more : List Moment) (kept : List ℕ) (machine : Machine) (rest : List ℕ) → (event ≡ More → ⊥) → ImapStands more session kept a.desk machine rest
-      → next_turn meanings machine (rest ++ piece) ≡ Some (due_turn meanings machine (rest ++ piece) (record { used = length rest + used; event = event }))
-  found_in meanings are more kept machine rest other has =
+  found_in : (oracles : Oracles) → AreOracles oracles → (more : List Moment) (kept : List ℕ) (machine : Machine) (rest : List ℕ) → (event ≡ More → ⊥) → ImapStands more session kept a.desk machine rest
+      → next_turn oracles machine (rest ++ piece) ≡ Some (due_turn oracles machine (rest ++ piece) (record { used = length rest + used; event = event }))
+  found_in oracles are more kept machine rest other has =
       let utf8 = is_enabled (mode_of machine.state) in
       let told : Tells utf8 (machine.seen ++ rest) piece used event =
-      subst (λ state. Tells (is_enabled (mode_of state)) (machine.seen ++ rest) piece used event) (sym has.state_is) (feeds.tells (machine.seen ++ rest) (own_reads machine rest has.state_is has.reads)) in
-      turn_found meanings session.state machine (rest ++ piece) (record { used = length rest + used; event = event }) has.state_is
-      (due_found meanings are utf8 machine.seen (rest ++ piece) (length rest + used) event other (tells_whole utf8 machine.seen rest piece used event other has.quiet told))
+      subst (λ state. Tells (is_enabled (mode_of state)) (machine.seen ++ rest) piece used event) (sym has.state_is) (feeds.observed (machine.seen ++ rest) (own_reads machine rest has.state_is has.reads)) in
+      turn_found oracles session.state machine (rest ++ piece) (record { used = length rest + used; event = event }) has.state_is
+      (due_found oracles are utf8 machine.seen (rest ++ piece) (length rest + used) event other (tells_whole utf8 machine.seen rest piece used event other has.quiet told))
 
-  step_same : (meanings : Meanings) (more : List Moment) (kept : List ℕ) (machine : Machine) (rest : List ℕ) → ImapStands more session kept a.desk machine rest
-      → due_step meanings (date_at machine.moments) machine.state machine.store event ≡ due_step meanings (date_at more) (state_of session.state) a.desk.store event
-  step_same meanings more kept machine rest has =
-      ap (λ state. due_step meanings (date_at machine.moments) state machine.store event) has.state_is
-      ∙ (ap (λ store. due_step meanings (date_at machine.moments) (state_of session.state) store event) has.store_is
-      ∙ ap (λ (moments : List Moment). due_step meanings (date_at moments) (state_of session.state) a.desk.store event) has.moments_are)
+  step_same : (oracles : Oracles) (more : List Moment) (kept : List ℕ) (machine : Machine) (rest : List ℕ) → ImapStands more session kept a.desk machine rest
+      → due_step oracles (date_at machine.moments) machine.state machine.store event ≡ due_step oracles (date_at more) (state_of session.state) a.desk.store event
+  step_same oracles more kept machine rest has =
+      ap (λ state. due_step oracles (date_at machine.moments) state machine.store event) has.state_is
+      ∙ (ap (λ store. due_step oracles (date_at machine.moments) (state_of session.state) store event) has.store_is
+      ∙ ap (λ (moments : List Moment). due_step oracles (date_at moments) (state_of session.state) a.desk.store event) has.moments_are)
 
   -- what was due was done, or broken off
   abbrev Answers : Result (Option ImapState) Fault → Type 0
-  Answers result = TakesStepAt a b result (event_takes (state_of session.state) event) (λ meanings now. due_step meanings now (state_of session.state) a.desk.store event)
+  Answers result = TakesStepAt a b result (event_takes (state_of session.state) event) (λ oracles now. due_step oracles now (state_of session.state) a.desk.store event)
 
   -- a fault broke off what was due
   Steps-fails : (kept keeps : List ℕ) (met : Fault) → (event ≡ More → ⊥) → Answers (Err met)
@@ -243,32 +243,32 @@ module _ (a b : Around) (session : ImapMachine) (reader : Reader) (piece : List 
   Steps-fails kept keeps met other takes = record {
     told = takes.told;
     are_told = takes.are_told;
-    steps = λ meanings are more machine rest has.
-        StepsBy-fails imap_protocol ImapStands meanings (framed_by meanings are) a b keeps piece more met machine (rest ++ piece) _ (found_in meanings are (takes.told ++ more) kept machine rest other has)
-        (subst (λ (step : Step). DoesFirst (part_octets meanings) a b met step.acts) (sym (step_same meanings (takes.told ++ more) kept machine rest has)) ((takes.steps more).does meanings are));
+    steps = λ oracles are more machine rest has.
+        StepsBy-fails imap_protocol ImapStands oracles (framed_by oracles are) a b keeps piece more met machine (rest ++ piece) _ (found_in oracles are (takes.told ++ more) kept machine rest other has)
+        (subst (λ (step : Step). DoesFirst (part_octets oracles) a b met step.acts) (sym (step_same oracles (takes.told ++ more) kept machine rest has)) ((takes.steps more).does oracles are));
   }
 
   -- what the session stands for behind what was due
-  stands_behind : (meanings : Meanings) (all more : List Moment) (kept keeps : List ℕ) (machine : Machine) (rest : List ℕ) (next : Option ImapState) → (event ≡ More → ⊥) → ImapStands all session kept a.desk machine rest
-      → moments_behind (event_takes (state_of session.state) event) all ≡ more
-      → DoesAll (part_octets meanings) a b (due_step meanings (date_at machine.moments) machine.state machine.store event).acts
-      → state_or_ended next ≡ (due_step meanings (date_at machine.moments) machine.state machine.store event).state
-      → StandsAfter imap_protocol ImapStands more (machine_next reader next) keeps b.desk (due_turn meanings machine (rest ++ piece) (record { used = length rest + used; event = event })).after []
-  stands_behind meanings all more kept keeps machine rest None other has left does next_is = sym next_is
-  stands_behind meanings all more kept keeps machine rest (Some state) other has left does next_is =
+  stands_after : (oracles : Oracles) (all more : List Moment) (kept keeps : List ℕ) (machine : Machine) (rest : List ℕ) (next : Option ImapState) → (event ≡ More → ⊥) → ImapStands all session kept a.desk machine rest
+      → moments_after (event_takes (state_of session.state) event) all ≡ more
+      → DoesAll (part_octets oracles) a b (due_step oracles (date_at machine.moments) machine.state machine.store event).acts
+      → state_or_ended next ≡ (due_step oracles (date_at machine.moments) machine.state machine.store event).state
+      → StandsAfter imap_protocol ImapStands more (machine_next reader next) keeps b.desk (due_turn oracles machine (rest ++ piece) (record { used = length rest + used; event = event })).after []
+  stands_after oracles all more kept keeps machine rest None other has left does next_is = sym next_is
+  stands_after oracles all more kept keeps machine rest (Some state) other has left does next_is =
       let utf8 = is_enabled (mode_of machine.state) in
       let seen = machine.seen ++ rest in
       let now = date_at machine.moments in
-      let step = due_step meanings now machine.state machine.store event in
+      let step = due_step oracles now machine.state machine.store event in
       let reads = subst (λ z. HasSeen utf8 reader z) (seen_same machine.seen rest piece used event other)
       (subst (λ z. HasSeen (is_enabled (mode_of z)) reader (seen_after seen piece used event)) (sym has.state_is) (feeds.stands seen (own_reads machine rest has.state_is has.reads))) in
       let after = seen_after machine.seen (rest ++ piece) (length rest + used) event in
       record {
         state_is = sym next_is;
         store_is = sym (does.follows.store ∙ ap (λ store. with_records store (records_of (changes_in step.acts))) (sym has.store_is));
-        moments_are = ap (λ state. moments_behind (event_takes state event) machine.moments) has.state_is
-            ∙ (ap (λ moments. moments_behind (event_takes (state_of session.state) event) moments) has.moments_are ∙ left);
-        reads = subst (λ z. HasSeen (is_enabled (mode_of step.state)) reader z) (sym (append-nil after)) (reads_behind meanings now machine.state machine.store reader machine.seen (rest ++ piece) (length rest + used) event reads);
+        moments_are = ap (λ state. moments_after (event_takes state event) machine.moments) has.state_is
+            ∙ (ap (λ moments. moments_after (event_takes (state_of session.state) event) moments) has.moments_are ∙ left);
+        reads = subst (λ z. HasSeen (is_enabled (mode_of step.state)) reader z) (sym (append-nil after)) (reads_after oracles now machine.state machine.store reader machine.seen (rest ++ piece) (length rest + used) event reads);
         quiet = λ n some below event due. absurd (omega (arith, some, below));
       }
 
@@ -278,24 +278,24 @@ module _ (a b : Around) (session : ImapMachine) (reader : Reader) (piece : List 
   Steps-due kept keeps next other takes = record {
     told = takes.told;
     are_told = takes.are_told;
-    steps = λ meanings are more machine rest has.
+    steps = λ oracles are more machine rest has.
         let all = takes.told ++ more in
-        let same = sym (step_same meanings all kept machine rest has) in
-        let does = subst (λ (step : Step). DoesAll (part_octets meanings) a b step.acts) same ((takes.steps more).does meanings are) in
-        let next_is = subst (λ (step : Step). state_or_ended next ≡ step.state) same ((takes.steps more).next meanings are) in
-        StepsBy-turn imap_protocol ImapStands meanings (framed_by meanings are) a b (record { next = machine_next reader next; used = used }) keeps piece more [] machine (rest ++ piece) _
-        (found_in meanings are all kept machine rest other has) does (stands_behind meanings all more kept keeps machine rest next other has (takes.count more) does next_is) (drop_past rest piece used);
+        let same = sym (step_same oracles all kept machine rest has) in
+        let does = subst (λ (step : Step). DoesAll (part_octets oracles) a b step.acts) same ((takes.steps more).does oracles are) in
+        let next_is = subst (λ (step : Step). state_or_ended next ≡ step.state) same ((takes.steps more).next oracles are) in
+        StepsBy-turn imap_protocol ImapStands oracles (framed_by oracles are) a b (record { next = machine_next reader next; used = used }) keeps piece more [] machine (rest ++ piece) _
+        (found_in oracles are all kept machine rest other has) does (stands_after oracles all more kept keeps machine rest next other has (takes.count more) does next_is) (drop_past rest piece used);
   }
 
-  waits_stand : (meanings : Meanings) → (all more : List Moment) (kept keeps : List ℕ) (machine : Machine) (rest : List ℕ) (next : Option ImapState) → event ≡ More → ImapStands all session kept a.desk machine rest
-      → all ≡ more → DoesAll (part_octets meanings) a b [] → state_or_ended next ≡ state_of session.state → StandsAfter imap_protocol ImapStands more (machine_next reader next) keeps b.desk machine (rest ++ piece)
-  waits_stand meanings all more kept keeps machine rest None waits has left does next_is = absurd (not_ended session.state next_is)
-  waits_stand meanings all more kept keeps machine rest (Some state) waits has left does next_is =
+  waits_stand : (oracles : Oracles) → (all more : List Moment) (kept keeps : List ℕ) (machine : Machine) (rest : List ℕ) (next : Option ImapState) → event ≡ More → ImapStands all session kept a.desk machine rest
+      → all ≡ more → DoesAll (part_octets oracles) a b [] → state_or_ended next ≡ state_of session.state → StandsAfter imap_protocol ImapStands more (machine_next reader next) keeps b.desk machine (rest ++ piece)
+  waits_stand oracles all more kept keeps machine rest None waits has left does next_is = absurd (not_ended session.state next_is)
+  waits_stand oracles all more kept keeps machine rest (Some state) waits has left does next_is =
       let utf8 = is_enabled (mode_of machine.state) in
       let seen = machine.seen ++ rest in
       let own = own_reads machine rest has.state_is has.reads in
       let told : Tells utf8 seen piece used More =
-      subst (λ z. Tells (is_enabled (mode_of z)) seen piece used More) (sym has.state_is) (subst (λ z. Tells (is_enabled (mode_of (state_of session.state))) seen piece used z) waits (feeds.tells seen own)) in
+      subst (λ z. Tells (is_enabled (mode_of z)) seen piece used More) (sym has.state_is) (subst (λ z. Tells (is_enabled (mode_of (state_of session.state))) seen piece used z) waits (feeds.observed seen own)) in
       let now : HasSeen utf8 reader (seen ++ piece) =
       subst (λ z. HasSeen (is_enabled (mode_of z)) reader (seen ++ piece)) (sym has.state_is) (subst (λ z. HasSeen (is_enabled (mode_of (state_of session.state))) reader (seen_after seen piece used z)) waits (feeds.stands seen own)) in
       let size : length (rest ++ piece) ≡ length rest + length piece = length-append rest piece in
@@ -313,25 +313,25 @@ module _ (a b : Around) (session : ImapMachine) (reader : Reader) (piece : List 
   Steps-waits kept keeps next waits takes = record {
     told = takes.told;
     are_told = takes.are_told;
-    steps = λ meanings are more machine rest has.
+    steps = λ oracles are more machine rest has.
         let all = takes.told ++ more in
         let state = state_of session.state in
-        let left = subst (λ e. moments_behind (event_takes state e) all ≡ more) waits (takes.count more) in
-        let does = subst (λ e. DoesAll (part_octets meanings) a b (due_step meanings (date_at all) state a.desk.store e).acts) waits ((takes.steps more).does meanings are) in
-        let next_is = subst (λ e. state_or_ended next ≡ (due_step meanings (date_at all) state a.desk.store e).state) waits ((takes.steps more).next meanings are) in
-        let told = subst (λ z. Tells (is_enabled (mode_of (state_of session.state))) (machine.seen ++ rest) piece used z) waits (feeds.tells (machine.seen ++ rest) (own_reads machine rest has.state_is has.reads)) in
+        let left = subst (λ e. moments_after (event_takes state e) all ≡ more) waits (takes.count more) in
+        let does = subst (λ e. DoesAll (part_octets oracles) a b (due_step oracles (date_at all) state a.desk.store e).acts) waits ((takes.steps more).does oracles are) in
+        let next_is = subst (λ e. state_or_ended next ≡ (due_step oracles (date_at all) state a.desk.store e).state) waits ((takes.steps more).next oracles are) in
+        let told = subst (λ z. Tells (is_enabled (mode_of (state_of session.state))) (machine.seen ++ rest) piece used z) waits (feeds.observed (machine.seen ++ rest) (own_reads machine rest has.state_is has.reads)) in
         let whole = told.0 in
         let none : drop used piece ≡ [] = drop_all used piece (omega (arith, whole)) in
         record {
           acts = [];
-          turn = all_turns (next_turn meanings) machine (rest ++ piece);
+          turn = all_turns (next_turn oracles) machine (rest ++ piece);
           turns_are = refl;
           does = does;
           stays = record {
             state = machine;
             rest = rest ++ piece;
-            has = waits_stand meanings all more kept keeps machine rest next waits has left does next_is;
-            turn_is = ap (λ l. all_turns (next_turn meanings) machine l) (sym (append-nil (rest ++ piece)) ∙ ap (λ z. (rest ++ piece) ++ z) (sym none));
+            has = waits_stand oracles all more kept keeps machine rest next waits has left does next_is;
+            turn_is = ap (λ l. all_turns (next_turn oracles) machine l) (sym (append-nil (rest ++ piece)) ∙ ap (λ z. (rest ++ piece) ++ z) (sym none));
           };
         };
   }
@@ -341,11 +341,11 @@ module _ (a b : Around) (session : ImapMachine) (reader : Reader) (piece : List 
   waits_fail kept keeps met waits takes = record {
     told = takes.told;
     are_told = takes.are_told;
-    steps = λ meanings are more machine rest has. record {
+    steps = λ oracles are more machine rest has. record {
       acts = [];
-      turn = all_turns (next_turn meanings) machine (rest ++ piece);
+      turn = all_turns (next_turn oracles) machine (rest ++ piece);
       turns_are = refl;
-      does = subst (λ e. DoesFirst (part_octets meanings) a b met (due_step meanings (date_at (takes.told ++ more)) (state_of session.state) a.desk.store e).acts) waits ((takes.steps more).does meanings are);
+      does = subst (λ e. DoesFirst (part_octets oracles) a b met (due_step oracles (date_at (takes.told ++ more)) (state_of session.state) a.desk.store e).acts) waits ((takes.steps more).does oracles are);
       stays = tt;
     };
   }
@@ -374,7 +374,7 @@ module _ (a b : Around) (session : ImapMachine) (reader : Reader) (piece : List 
   used_in utf8 seen TooLong some told = (told.0, told.1)
 
   pub used_bound : (kept : List ℕ) (desk : Desk) → ImapReady session kept desk → 0 < length piece → (0 < used) × (used ≤ length piece)
-  used_bound kept desk ready some = used_in (is_enabled (mode_of (state_of session.state))) ready.seen event some (feeds.tells ready.seen ready.reads)
+  used_bound kept desk ready some = used_in (is_enabled (mode_of (state_of session.state))) ready.seen event some (feeds.observed ready.seen ready.reads)
 
   said_in : (utf8 : Bool) (seen : List ℕ) (e : Event) → Tells utf8 seen piece used e → IsSaidIn e
   said_in utf8 seen More told = tt
@@ -386,33 +386,33 @@ module _ (a b : Around) (session : ImapMachine) (reader : Reader) (piece : List 
 
   -- what a command says is as its step needs it
   pub said_now : (kept : List ℕ) (desk : Desk) → ImapReady session kept desk → IsSaidIn event
-  said_now kept desk ready = said_in (is_enabled (mode_of (state_of session.state))) ready.seen event (feeds.tells ready.seen ready.reads)
+  said_now kept desk ready = said_in (is_enabled (mode_of (state_of session.state))) ready.seen event (feeds.observed ready.seen ready.reads)
 
-  pub ready_behind : (kept : List ℕ) (desk : Desk) (next : Option ImapState) → ImapReady session kept desk → Answers (Ok next)
+  pub ready_after : (kept : List ℕ) (desk : Desk) (next : Option ImapState) → ImapReady session kept desk → Answers (Ok next)
       → IsReadyAfter ImapReady (record { next = machine_next reader next; used = used }) kept b.desk
-  ready_behind kept desk None ready takes = tt
-  ready_behind kept desk (Some state) ready takes =
-      let meanings = meanings_given in
+  ready_after kept desk None ready takes = tt
+  ready_after kept desk (Some state) ready takes =
+      let oracles = oracles_given in
       record {
         nothing_kept = ready.nothing_kept;
         known = (takes.steps []).known;
         seen = seen_after ready.seen piece used event;
-        reads = subst (λ s. HasSeen (is_enabled (mode_of s)) reader (seen_after ready.seen piece used event)) (sym ((takes.steps []).next meanings.0 meanings.1))
-            (reads_behind meanings.0 (date_at (takes.told ++ [])) (state_of session.state) a.desk.store reader ready.seen piece used event (feeds.stands ready.seen ready.reads));
+        reads = subst (λ s. HasSeen (is_enabled (mode_of s)) reader (seen_after ready.seen piece used event)) (sym ((takes.steps []).next oracles.0 oracles.1))
+            (reads_after oracles.0 (date_at (takes.told ++ [])) (state_of session.state) a.desk.store reader ready.seen piece used event (feeds.stands ready.seen ready.reads));
       }
 
 -- ---- the greeting
 
-greeting_does : (meanings : Meanings) (a b : Around) (met : Option Fault) → Replies a b met (codes "* OK IMAP4rev1 ready\r\n") → Does (part_octets meanings) a b met (reply greeting)
-greeting_does meanings a b met replies = Does-replies (part_octets meanings) a b met greeting replies
+greeting_does : (oracles : Oracles) (a b : Around) (met : Option Fault) → Replies a b met (codes "* OK IMAP4rev1 ready\r\n") → Does (part_octets oracles) a b met (reply greeting)
+greeting_does oracles a b met replies = Does-replies (part_octets oracles) a b met greeting replies
 
 pub Begins-given : (a b : Around) (session : ImapMachine) → state_of session.state ≡ not_authenticated → ((utf8 : Bool) → HasSeen utf8 session.reader []) → Replies a b None (codes "* OK IMAP4rev1 ready\r\n")
     → Begins imap_protocol ImapStands a b (Ok session)
 Begins-given a b session state_is reads replies =
-    let meanings = meanings_given in
-    let given : DoesAll (part_octets meanings.0) a b (reply greeting) = greeting_does meanings.0 a b None replies in
+    let oracles = oracles_given in
+    let given : DoesAll (part_octets oracles.0) a b (reply greeting) = greeting_does oracles.0 a b None replies in
     record {
-      does = λ meanings are. greeting_does meanings a b None replies;
+      does = λ oracles are. greeting_does oracles a b None replies;
       stands_for = λ moments. record {
         state_is = sym state_is;
         store_is = sym given.follows.store;
@@ -423,36 +423,36 @@ Begins-given a b session state_is reads replies =
     }
 
 pub Begins-fails : (a b : Around) (met : Fault) → Replies a b (Some met) (codes "* OK IMAP4rev1 ready\r\n") → Begins imap_protocol ImapStands a b (Err met)
-Begins-fails a b met replies = record { does = λ meanings are. greeting_does meanings a b (Some met) replies; stands_for = tt }
+Begins-fails a b met replies = record { does = λ oracles are. greeting_does oracles a b (Some met) replies; stands_for = tt }
 
 -- ---- what is due is answered
 
 -- nothing yet
 pub TakesAt-more : (a : Around) (session : ImapState) → KnowsState a.desk.store session
-    → TakesStepAt a a (Ok (Some session)) false (λ meanings now. due_step meanings now (state_of session) a.desk.store More)
+    → TakesStepAt a a (Ok (Some session)) false (λ oracles now. due_step oracles now (state_of session) a.desk.store More)
 TakesAt-more a session known =
-    TakesAt-plain a a (Ok (Some session)) false (λ meanings now. due_step meanings now (state_of session) a.desk.store More) refl
-    (λ now. Takes-next a a (Some session) (λ meanings. due_step meanings now (state_of session) a.desk.store More) (λ meanings are. DoesAll-nil (part_octets meanings) a) (λ meanings are. refl) known)
+    TakesAt-plain a a (Ok (Some session)) false (λ oracles now. due_step oracles now (state_of session) a.desk.store More) refl
+    (λ now. Takes-next a a (Some session) (λ oracles. due_step oracles now (state_of session) a.desk.store More) (λ oracles are. DoesAll-nil (part_octets oracles) a) (λ oracles are. refl) known)
 
 -- a reply that leaves the state
-due_given : (meanings : Meanings) (a b : Around) (met : Option Fault) (now : List ℕ) (state : State) (store : StoreState) (event : Event) → IsPlain event → Replies a b met (due_octets event)
-    → Does (part_octets meanings) a b met (due_step meanings now state store event).acts
-due_given meanings a b met now state store More plain replies = Does-replies (part_octets meanings) a b met [] replies
-due_given meanings a b met now state store Go plain replies = Does-replies (part_octets meanings) a b met (line (codes "+ go") ∷ []) replies
-due_given meanings a b met now state store (Command tag said) plain replies = absurd plain
-due_given meanings a b met now state store (Bad (Some tag) at) plain replies = says_given meanings a b met tag (codes "BAD syntax") state replies
-due_given meanings a b met now state store (Bad None at) plain replies = Does-replies (part_octets meanings) a b met (untagged (codes "BAD syntax") ∷ []) replies
-due_given meanings a b met now state store (TooLarge tag) plain replies = says_given meanings a b met tag (codes "NO too large") state replies
-due_given meanings a b met now state store TooLong plain replies = absurd plain
+due_given : (oracles : Oracles) (a b : Around) (met : Option Fault) (now : List ℕ) (state : State) (store : StoreState) (event : Event) → IsPlain event → Replies a b met (due_octets event)
+    → Does (part_octets oracles) a b met (due_step oracles now state store event).acts
+due_given oracles a b met now state store More plain replies = Does-replies (part_octets oracles) a b met [] replies
+due_given oracles a b met now state store Go plain replies = Does-replies (part_octets oracles) a b met (line (codes "+ go") ∷ []) replies
+due_given oracles a b met now state store (Command tag said) plain replies = absurd plain
+due_given oracles a b met now state store (Bad (Some tag) at) plain replies = says_given oracles a b met tag (codes "BAD syntax") state replies
+due_given oracles a b met now state store (Bad None at) plain replies = Does-replies (part_octets oracles) a b met (untagged (codes "BAD syntax") ∷ []) replies
+due_given oracles a b met now state store (TooLarge tag) plain replies = says_given oracles a b met tag (codes "NO too large") state replies
+due_given oracles a b met now state store TooLong plain replies = absurd plain
 
-plain_state : (meanings : Meanings) (now : List ℕ) (state : State) (store : StoreState) (event : Event) → IsPlain event → (due_step meanings now state store event).state ≡ state
-plain_state meanings now state store More plain = refl
-plain_state meanings now state store Go plain = refl
-plain_state meanings now state store (Command tag said) plain = absurd plain
-plain_state meanings now state store (Bad (Some tag) at) plain = refl
-plain_state meanings now state store (Bad None at) plain = refl
-plain_state meanings now state store (TooLarge tag) plain = refl
-plain_state meanings now state store TooLong plain = absurd plain
+plain_state : (oracles : Oracles) (now : List ℕ) (state : State) (store : StoreState) (event : Event) → IsPlain event → (due_step oracles now state store event).state ≡ state
+plain_state oracles now state store More plain = refl
+plain_state oracles now state store Go plain = refl
+plain_state oracles now state store (Command tag said) plain = absurd plain
+plain_state oracles now state store (Bad (Some tag) at) plain = refl
+plain_state oracles now state store (Bad None at) plain = refl
+plain_state oracles now state store (TooLarge tag) plain = refl
+plain_state oracles now state store TooLong plain = absurd plain
 
 plain_takes : (state : State) (event : Event) → IsPlain event → event_takes state event ≡ false
 plain_takes state More plain = refl
@@ -465,34 +465,34 @@ plain_takes state TooLong plain = refl
 -- the state of an answer that keeps the session, or a fault
 kept_step : (a b : Around) (session : ImapState) (given : Result (Unit {0}) Fault) (result : Result (Option ImapState) Fault) (event : Event) (now : List ℕ) → IsPlain event
     → MatchResult given (λ done. result ≡ Ok (Some session)) (λ met. result ≡ Err met) → Replies a b (fault_of given) (due_octets event) → KnowsState b.desk.store session
-    → TakesStep a b result (λ meanings. due_step meanings now (state_of session) a.desk.store event)
+    → TakesStep a b result (λ oracles. due_step oracles now (state_of session) a.desk.store event)
 kept_step a b session (Ok done) result event now plain kept replies known =
-    rw kept (Takes-next a b (Some session) (λ meanings. due_step meanings now (state_of session) a.desk.store event)
-    (λ meanings are. due_given meanings a b None now (state_of session) a.desk.store event plain replies) (λ meanings are. sym (plain_state meanings now (state_of session) a.desk.store event plain)) known)
+    rw kept (Takes-next a b (Some session) (λ oracles. due_step oracles now (state_of session) a.desk.store event)
+    (λ oracles are. due_given oracles a b None now (state_of session) a.desk.store event plain replies) (λ oracles are. sym (plain_state oracles now (state_of session) a.desk.store event plain)) known)
 kept_step a b session (Err met) result event now plain kept replies known =
-    rw kept (Takes-fault a b met (λ meanings. due_step meanings now (state_of session) a.desk.store event)
-    (λ meanings are. due_given meanings a b (Some met) now (state_of session) a.desk.store event plain replies))
+    rw kept (Takes-fault a b met (λ oracles. due_step oracles now (state_of session) a.desk.store event)
+    (λ oracles are. due_given oracles a b (Some met) now (state_of session) a.desk.store event plain replies))
 
 pub TakesAt-kept : (a b : Around) (session : ImapState) (given : Result (Unit {0}) Fault) (result : Result (Option ImapState) Fault) (event : Event) → IsPlain event
     → MatchResult given (λ done. result ≡ Ok (Some session)) (λ met. result ≡ Err met) → Replies a b (fault_of given) (due_octets event) → KnowsState b.desk.store session
-    → TakesStepAt a b result (event_takes (state_of session) event) (λ meanings now. due_step meanings now (state_of session) a.desk.store event)
+    → TakesStepAt a b result (event_takes (state_of session) event) (λ oracles now. due_step oracles now (state_of session) a.desk.store event)
 TakesAt-kept a b session given result event plain kept replies known =
-    TakesAt-plain a b result (event_takes (state_of session) event) (λ meanings now. due_step meanings now (state_of session) a.desk.store event) (plain_takes (state_of session) event plain)
+    TakesAt-plain a b result (event_takes (state_of session) event) (λ oracles now. due_step oracles now (state_of session) a.desk.store event) (plain_takes (state_of session) event plain)
     (λ now. kept_step a b session given result event now plain kept replies known)
 
-over_does : (meanings : Meanings) (a b : Around) (met : Option Fault) (now : List ℕ) (state : State) (store : StoreState) → Replies a b met (codes "* BYE line too long\r\n")
-    → Does (part_octets meanings) a b met (due_step meanings now state store TooLong).acts
-over_does meanings a b met now state store replies = Does-replies (part_octets meanings) a b met (untagged (codes "BYE line too long") ∷ []) replies
+over_does : (oracles : Oracles) (a b : Around) (met : Option Fault) (now : List ℕ) (state : State) (store : StoreState) → Replies a b met (codes "* BYE line too long\r\n")
+    → Does (part_octets oracles) a b met (due_step oracles now state store TooLong).acts
+over_does oracles a b met now state store replies = Does-replies (part_octets oracles) a b met (untagged (codes "BYE line too long") ∷ []) replies
 
 over_step : (a b : Around) (session : ImapState) (given : Result (Unit {0}) Fault) (result : Result (Option ImapState) Fault) (now : List ℕ) → MatchResult given (λ done. result ≡ Ok None) (λ met. result ≡ Err met)
-    → Replies a b (fault_of given) (codes "* BYE line too long\r\n") → TakesStep a b result (λ meanings. due_step meanings now (state_of session) a.desk.store TooLong)
+    → Replies a b (fault_of given) (codes "* BYE line too long\r\n") → TakesStep a b result (λ oracles. due_step oracles now (state_of session) a.desk.store TooLong)
 over_step a b session (Ok done) result now kept replies =
-    rw kept (Takes-next a b None (λ meanings. due_step meanings now (state_of session) a.desk.store TooLong) (λ meanings are. over_does meanings a b None now (state_of session) a.desk.store replies) (λ meanings are. refl) tt)
+    rw kept (Takes-next a b None (λ oracles. due_step oracles now (state_of session) a.desk.store TooLong) (λ oracles are. over_does oracles a b None now (state_of session) a.desk.store replies) (λ oracles are. refl) tt)
 over_step a b session (Err met) result now kept replies =
-    rw kept (Takes-fault a b met (λ meanings. due_step meanings now (state_of session) a.desk.store TooLong) (λ meanings are. over_does meanings a b (Some met) now (state_of session) a.desk.store replies))
+    rw kept (Takes-fault a b met (λ oracles. due_step oracles now (state_of session) a.desk.store TooLong) (λ oracles are. over_does oracles a b (Some met) now (state_of session) a.desk.store replies))
 
 -- the session is over
 pub TakesAt-over : (a b : Around) (session : ImapState) (given : Result (Unit {0}) Fault) (result : Result (Option ImapState) Fault) → MatchResult given (λ done. result ≡ Ok None) (λ met. result ≡ Err met)
-    → Replies a b (fault_of given) (codes "* BYE line too long\r\n") → TakesStepAt a b result false (λ meanings now. due_step meanings now (state_of session) a.desk.store TooLong)
+    → Replies a b (fault_of given) (codes "* BYE line too long\r\n") → TakesStepAt a b result false (λ oracles now. due_step oracles now (state_of session) a.desk.store TooLong)
 TakesAt-over a b session given result kept replies =
-    TakesAt-plain a b result false (λ meanings now. due_step meanings now (state_of session) a.desk.store TooLong) refl (λ now. over_step a b session given result now kept replies)
+    TakesAt-plain a b result false (λ oracles now. due_step oracles now (state_of session) a.desk.store TooLong) refl (λ now. over_step a b session given result now kept replies)

@@ -3,6 +3,7 @@ use Rattle.std.specs.Prelude.{ℕ, Bool, true, false, not, ◌+◌, ◌-◌, ◌
 use Rattle.std.specs.Fmt.{decimal}
 use Rattle.std.specs.List.{join_with_byte, list_all, list_any}
 use Rattle.std.specs.Str.{str_to_ascii_uppercase}
+use Rattle.mail_wire.specs.Characters.{space, dot}
 use Rattle.mail_wire.specs.declared.values.Span.{Span}
 use Rattle.mime_tree.specs.Sections.{section}
 use Rattle.mime_tree.specs.declared.sections.Part.{Part}
@@ -12,7 +13,7 @@ use Rattle.mail_store.specs.StoreState.{StoreState}
 use Rattle.surrogate_cache.specs.Caching.{Asked, asked_by}
 use Rattle.surrogate_cache.specs.Served.{Mode, served_by}
 use Rattle.session_core.specs.Desks.{stored_date, stored_octets}
-use Rattle.session_core.specs.Meanings.{Meanings}
+use Rattle.session_core.specs.Oracles.{Oracles}
 use Rattle.imap_words.specs.Tokens.{is_atom_char}
 use Rattle.imap_grammar.specs.declared.command.FetchItem.{FetchItem}
 use Rattle.imap_grammar.specs.declared.command.FetchItem.TheVariants as item
@@ -26,29 +27,29 @@ use Rattle.imap_session.specs.Replies.{ReplyPart, text, shown, viewed}
 -- ---- what is served
 
 -- What a session is served of a message: the message itself in an enabled session, and its surrogate in a legacy one (RFC 6855, 3; RFC 6857).
-abbrev pub served_of : Meanings → Mode → StoreState → Listed → List ℕ
-served_of meanings mode store one = served_by meanings.surrogate mode (stored_octets store one.id)
+abbrev pub served_of : Oracles → Mode → StoreState → Listed → List ℕ
+served_of oracles mode store one = served_by oracles.surrogate mode (stored_octets store one.id)
 
 -- how many octets a session is served of a message
-abbrev pub size_of : Meanings → Mode → StoreState → Listed → ℕ
-size_of meanings mode store one = length (served_of meanings mode store one)
+abbrev pub size_of : Oracles → Mode → StoreState → Listed → ℕ
+size_of oracles mode store one = length (served_of oracles mode store one)
 
 -- Where a section stands in what is served of a message, if there is one.
-abbrev pub section_at : Meanings → Mode → StoreState → Listed → (path : List ℕ) → Part → Option Span
-section_at meanings mode store one path what = section (meanings.outlines (served_of meanings mode store one)) path what
+abbrev pub section_at : Oracles → Mode → StoreState → Listed → (path : List ℕ) → Part → Option Span
+section_at oracles mode store one path what = section (oracles.outlines (served_of oracles mode store one)) path what
 
 -- These octets of what is served of a message.
-abbrev pub octets_at : Meanings → Mode → StoreState → Listed → Span → List ℕ
-octets_at meanings mode store one span = take span.len (drop span.at (served_of meanings mode store one))
+abbrev pub octets_at : Oracles → Mode → StoreState → Listed → Span → List ℕ
+octets_at oracles mode store one span = take span.len (drop span.at (served_of oracles mode store one))
 
 -- the header block of the whole message, with its empty line
-abbrev pub header_octets : Meanings → Mode → StoreState → Listed → Option Span → List ℕ
-header_octets meanings mode store one None = []
-header_octets meanings mode store one (Some span) = octets_at meanings mode store one span
+abbrev pub header_octets : Oracles → Mode → StoreState → Listed → Option Span → List ℕ
+header_octets oracles mode store one None = []
+header_octets oracles mode store one (Some span) = octets_at oracles mode store one span
 
 -- The header block of what is served of a message.
-abbrev pub whole_header : Meanings → Mode → StoreState → Listed → List ℕ
-whole_header meanings mode store one = header_octets meanings mode store one (section_at meanings mode store one [] place.Header)
+abbrev pub whole_header : Oracles → Mode → StoreState → Listed → List ℕ
+whole_header oracles mode store one = header_octets oracles mode store one (section_at oracles mode store one [] place.Header)
 
 -- ---- names of sections
 
@@ -68,7 +69,7 @@ fields_word negated = if negated then codes "HEADER.FIELDS.NOT (" else codes "HE
 abbrev pub part_words : SectionPart → List (List ℕ)
 part_words part.Whole = []
 part_words part.Header = codes "HEADER" ∷ []
-part_words (part.Fields names negated) = (fields_word negated ++ (join_with_byte 32 (map field_name names) ++ codes ")")) ∷ []
+part_words (part.Fields names negated) = (fields_word negated ++ (join_with_byte space (map field_name names) ++ codes ")")) ∷ []
 part_words part.Text = codes "TEXT" ∷ []
 part_words part.Mime = codes "MIME" ∷ []
 
@@ -79,7 +80,7 @@ partial_text (Some asked) = codes "<" ++ (decimal asked.0 ++ codes ">")
 
 -- the name of a section in a reply: its path and its words with a dot between any two
 abbrev pub section_name : (path : List ℕ) → SectionPart → Option (ℕ × ℕ) → List ℕ
-section_name path what partial = codes "BODY[" ++ (join_with_byte 46 (map decimal path ++ part_words what) ++ (codes "]" ++ partial_text partial))
+section_name path what partial = codes "BODY[" ++ (join_with_byte dot (map decimal path ++ part_words what) ++ (codes "]" ++ partial_text partial))
 
 -- ---- octets as literals
 
@@ -111,10 +112,10 @@ abbrev pub view_parts : Mode → (asked octets : List ℕ) → List ReplyPart
 view_parts mode asked octets = literal_head asked (length octets) ∷ viewed mode octets ∷ []
 
 -- chosen fields of a header, or NIL where there is none
-abbrev pub fields_parts : Meanings → Mode → StoreState → Listed → (asked : List ℕ) → Option (ℕ × ℕ) → View → Option Span → List ReplyPart
-fields_parts meanings mode store one asked partial view None = text (asked ++ codes " NIL") ∷ []
-fields_parts meanings mode store one asked partial view (Some span) =
-    view_parts mode asked (partial_octets partial (meanings.view_of view (octets_at meanings mode store one span)))
+abbrev pub fields_parts : Oracles → Mode → StoreState → Listed → (asked : List ℕ) → Option (ℕ × ℕ) → View → Option Span → List ReplyPart
+fields_parts oracles mode store one asked partial view None = text (asked ++ codes " NIL") ∷ []
+fields_parts oracles mode store one asked partial view (Some span) =
+    view_parts mode asked (partial_octets partial (oracles.view_of view (octets_at oracles mode store one span)))
 
 -- which part of an entity a section's words name; fields are those of its header
 abbrev pub place_of : SectionPart → Part
@@ -125,30 +126,30 @@ place_of part.Text = place.Text
 place_of part.Mime = place.Mime
 
 -- The reply of a section that is there, or isn't: fields are chosen from its header, and other sections are ranges of what is served.
-abbrev pub found_parts : Meanings → Mode → StoreState → Listed → (asked : List ℕ) → Option (ℕ × ℕ) → SectionPart → Option Span → List ReplyPart
-found_parts meanings mode store one asked partial (part.Fields names negated) span = fields_parts meanings mode store one asked partial (fields names negated) span
-found_parts meanings mode store one asked partial other span = shown_parts mode store one asked partial span
+abbrev pub found_parts : Oracles → Mode → StoreState → Listed → (asked : List ℕ) → Option (ℕ × ℕ) → SectionPart → Option Span → List ReplyPart
+found_parts oracles mode store one asked partial (part.Fields names negated) span = fields_parts oracles mode store one asked partial (fields names negated) span
+found_parts oracles mode store one asked partial other span = shown_parts mode store one asked partial span
 
 -- The reply of a section: its name, and as a literal what is served of it, or NIL where it isn't there (RFC 3501, 7.4.2).
-abbrev pub section_parts : Meanings → Mode → StoreState → Listed → (asked path : List ℕ) → SectionPart → Option (ℕ × ℕ) → List ReplyPart
-section_parts meanings mode store one asked path what partial =
-    found_parts meanings mode store one asked partial what (section_at meanings mode store one path (place_of what))
+abbrev pub section_parts : Oracles → Mode → StoreState → Listed → (asked path : List ℕ) → SectionPart → Option (ℕ × ℕ) → List ReplyPart
+section_parts oracles mode store one asked path what partial =
+    found_parts oracles mode store one asked partial what (section_at oracles mode store one path (place_of what))
 
 -- ---- items
 
 -- The reply of an item of FETCH: its word and its value (RFC 3501, 7.4.2).
-abbrev pub item_parts : Meanings → Mode → StoreState → Listed → FetchItem → List ReplyPart
-item_parts meanings mode store one item.Flags = text (flags_text one.flags) ∷ []
-item_parts meanings mode store one item.Uid = text (codes "UID " ++ decimal one.uid) ∷ []
-item_parts meanings mode store one item.InternalDate = text (codes "INTERNALDATE \"" ++ (stored_date store one.id ++ codes "\"")) ∷ []
-item_parts meanings mode store one item.Size = text (codes "RFC822.SIZE " ++ decimal (size_of meanings mode store one)) ∷ []
-item_parts meanings mode store one item.Rfc822 = section_parts meanings mode store one (codes "RFC822") [] part.Whole None
-item_parts meanings mode store one item.Rfc822Header = section_parts meanings mode store one (codes "RFC822.HEADER") [] part.Header None
-item_parts meanings mode store one item.Rfc822Text = section_parts meanings mode store one (codes "RFC822.TEXT") [] part.Text None
-item_parts meanings mode store one item.Envelope = text (codes "ENVELOPE ") ∷ viewed mode (meanings.view_of envelope (whole_header meanings mode store one)) ∷ []
-item_parts meanings mode store one item.Body = text (codes "BODY ") ∷ viewed mode (meanings.view_of (structure false) (served_of meanings mode store one)) ∷ []
-item_parts meanings mode store one item.BodyStructure = text (codes "BODYSTRUCTURE ") ∷ viewed mode (meanings.view_of (structure true) (served_of meanings mode store one)) ∷ []
-item_parts meanings mode store one (item.Section peek path what partial) = section_parts meanings mode store one (section_name path what partial) path what partial
+abbrev pub item_parts : Oracles → Mode → StoreState → Listed → FetchItem → List ReplyPart
+item_parts oracles mode store one item.Flags = text (flags_text one.flags) ∷ []
+item_parts oracles mode store one item.Uid = text (codes "UID " ++ decimal one.uid) ∷ []
+item_parts oracles mode store one item.InternalDate = text (codes "INTERNALDATE \"" ++ (stored_date store one.id ++ codes "\"")) ∷ []
+item_parts oracles mode store one item.Size = text (codes "RFC822.SIZE " ++ decimal (size_of oracles mode store one)) ∷ []
+item_parts oracles mode store one item.Rfc822 = section_parts oracles mode store one (codes "RFC822") [] part.Whole None
+item_parts oracles mode store one item.Rfc822Header = section_parts oracles mode store one (codes "RFC822.HEADER") [] part.Header None
+item_parts oracles mode store one item.Rfc822Text = section_parts oracles mode store one (codes "RFC822.TEXT") [] part.Text None
+item_parts oracles mode store one item.Envelope = text (codes "ENVELOPE ") ∷ viewed mode (oracles.view_of envelope (whole_header oracles mode store one)) ∷ []
+item_parts oracles mode store one item.Body = text (codes "BODY ") ∷ viewed mode (oracles.view_of (structure false) (served_of oracles mode store one)) ∷ []
+item_parts oracles mode store one item.BodyStructure = text (codes "BODYSTRUCTURE ") ∷ viewed mode (oracles.view_of (structure true) (served_of oracles mode store one)) ∷ []
+item_parts oracles mode store one (item.Section peek path what partial) = section_parts oracles mode store one (section_name path what partial) path what partial
 
 -- The item is UID.
 abbrev pub is_uid : FetchItem → Bool

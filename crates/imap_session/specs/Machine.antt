@@ -4,6 +4,7 @@ use Rattle.std.specs.Fmt.{decimal}
 use Rattle.std.specs.List.{flat_map, list_any, list_all}
 use Rattle.std.specs.Option.{option_map_or}
 use Rattle.std.specs.Str.{chars, is_utf8}
+use Rattle.mail_wire.specs.Characters.{carriage_return, percent, asterisk}
 use Rattle.mail_wire.specs.Lines.{crlf, is_crlf}
 use Rattle.mail_wire.specs.Octets.{same_name}
 use Rattle.unicode_normalization.specs.Forms.{is_nfc}
@@ -20,7 +21,7 @@ use Rattle.kept_mail.specs.Kept.{Kept, after_record, find_folder, folder_names, 
 use Rattle.mail_store.specs.StoreState.{StoreState}
 use Rattle.surrogate_cache.specs.Served.{Mode, legacy, enabled, is_enabled}
 use Rattle.session_core.specs.Acts.{Act, asking, gives, changes}
-use Rattle.session_core.specs.Meanings.{Meanings}
+use Rattle.session_core.specs.Oracles.{Oracles}
 use Rattle.imap_grammar.specs.declared.command.Set.{Set}
 use Rattle.imap_grammar.specs.declared.command.StatusItem.{StatusItem}
 use Rattle.imap_grammar.specs.declared.command.StatusItem.TheVariants as status
@@ -120,8 +121,8 @@ enable_step tag mode account asked = answers tag done (untagged (codes "ENABLED"
 -- ---- folders
 
 -- the folder that the text names
-abbrev pub folder_named : Meanings → Mode → StoreState → (account : ℕ) → List ℕ → Option ℕ
-folder_named meanings mode store account written = option_and_then (find_folder store.kept account) (meanings.name_of (is_enabled mode) written)
+abbrev pub folder_named : Oracles → Mode → StoreState → (account : ℕ) → List ℕ → Option ℕ
+folder_named oracles mode store account written = option_and_then (find_folder store.kept account) (oracles.name_of (is_enabled mode) written)
 
 -- The five flags that a message may have here (RFC 3501, 2.3.2).
 abbrev pub all_flags : List ℕ
@@ -150,7 +151,7 @@ select_by tag mode account read_only store (Some folder) =
 
 -- a character that a folder's name may have: no control, no `*` and no `%`
 abbrev pub may_stand_in_name : ℕ → Bool
-may_stand_in_name c = not (is_control c) && (not (c == 42) && not (c == 37))
+may_stand_in_name c = not (is_control c) && (not (c == asterisk) && not (c == percent))
 
 -- the octets may be a folder's name
 abbrev pub names_folder : List ℕ → Bool
@@ -223,8 +224,8 @@ status_by tag state mode store items (Some folder) = answers tag done (status_li
 -- there are no octets, or CRLF or a CR stands at their end
 unfoldable pub is_complete : List ℕ → Bool
 is_complete [] = true
-is_complete (x ∷ []) = x == 13
-is_complete (x ∷ y ∷ []) = is_crlf x y || y == 13
+is_complete (x ∷ []) = x == carriage_return
+is_complete (x ∷ y ∷ []) = is_crlf x y || y == carriage_return
 is_complete (x ∷ y ∷ z ∷ rest) = is_complete (y ∷ z ∷ rest)
 
 -- data whose last line lacks its end are completed
@@ -257,11 +258,11 @@ append_octets has_tree tag state opened store folder flags date octets =
     else says tag (codes "NO not a message") state
 
 -- data in the form with UTF8 are for a session that enabled it (RFC 6855, 4)
-abbrev pub append_in : Meanings → (tag : List ℕ) → State → (opened : Option ℕ) → Mode → StoreState → (flags : ℕ) → (date : List ℕ) → (in_utf8 : Bool) → (octets : List ℕ) → Option ℕ → Step
-append_in meanings tag state opened mode store flags date in_utf8 octets None = no_such_folder tag state
-append_in meanings tag state opened mode store flags date in_utf8 octets (Some folder) =
+abbrev pub append_in : Oracles → (tag : List ℕ) → State → (opened : Option ℕ) → Mode → StoreState → (flags : ℕ) → (date : List ℕ) → (in_utf8 : Bool) → (octets : List ℕ) → Option ℕ → Step
+append_in oracles tag state opened mode store flags date in_utf8 octets None = no_such_folder tag state
+append_in oracles tag state opened mode store flags date in_utf8 octets (Some folder) =
     if in_utf8 && not (is_enabled mode) then says tag (codes "NO not enabled") state
-    else append_octets (meanings.has_tree (completed octets)) tag state opened store folder flags date (completed octets)
+    else append_octets (oracles.has_tree (completed octets)) tag state opened store folder flags date (completed octets)
 
 -- a date that isn't given is that of the present moment
 abbrev pub date_or : (now : List ℕ) → Option (List ℕ) → List ℕ
@@ -295,10 +296,10 @@ flags_change one flags = records.Flags one.id flags ∷ []
 -- ---- FETCH
 
 -- a space before each, but the first where nothing stands before it
-abbrev pub parts_behind : (others : Bool) → List (List ReplyPart) → List ReplyPart
-parts_behind others [] = []
-parts_behind false (parts ∷ more) = parts ++ parts_behind true more
-parts_behind true (parts ∷ more) = text (codes " ") ∷ (parts ++ parts_behind true more)
+abbrev pub parts_following : (others : Bool) → List (List ReplyPart) → List ReplyPart
+parts_following others [] = []
+parts_following false (parts ∷ more) = parts ++ parts_following true more
+parts_following true (parts ∷ more) = text (codes " ") ∷ (parts ++ parts_following true more)
 
 -- UID FETCH tells the UID first where it isn't asked
 abbrev pub with_uid : (by_uid : Bool) → List FetchItem → List FetchItem
@@ -317,26 +318,26 @@ abbrev pub seen : Listed → Listed
 seen one = record one { flags = stored_flags Add one.flags 1 }
 
 -- The reply of FETCH for a message: its number, and its items in parentheses (RFC 3501, 7.4.2).
-abbrev pub fetch_reply : Meanings → Mode → StoreState → (number : ℕ) → Listed → List FetchItem → List ReplyPart
-fetch_reply meanings mode store number one items =
-    text (codes "* " ++ (decimal number ++ codes " FETCH (")) ∷ parts_behind false (map (item_parts meanings mode store one) items) ++ line (codes ")") ∷ []
+abbrev pub fetch_reply : Oracles → Mode → StoreState → (number : ℕ) → Listed → List FetchItem → List ReplyPart
+fetch_reply oracles mode store number one items =
+    text (codes "* " ++ (decimal number ++ codes " FETCH (")) ∷ parts_following false (map (item_parts oracles mode store one) items) ++ line (codes ")") ∷ []
 
 -- the message is asked for, and then it is told
-abbrev pub fetch_told : Meanings → Mode → StoreState → (by_uid : Bool) → List FetchItem → (number : ℕ) → Listed → (changed : Bool) → List (Act ReplyPart)
-fetch_told meanings mode store by_uid items number one changed =
-    asking (asked_of mode store items one.id) (reply (fetch_reply meanings mode store number one (with_flags changed (with_uid by_uid items))))
+abbrev pub fetch_told : Oracles → Mode → StoreState → (by_uid : Bool) → List FetchItem → (number : ℕ) → Listed → (changed : Bool) → List (Act ReplyPart)
+fetch_told oracles mode store by_uid items number one changed =
+    asking (asked_of mode store items one.id) (reply (fetch_reply oracles mode store number one (with_flags changed (with_uid by_uid items))))
 
 -- one message: Seen is set beforehand
-abbrev pub fetch_one : Meanings → Mode → StoreState → (by_uid read_only : Bool) → List FetchItem → Numbered → List (Act ReplyPart)
-fetch_one meanings mode store by_uid read_only items one =
+abbrev pub fetch_one : Oracles → Mode → StoreState → (by_uid read_only : Bool) → List FetchItem → Numbered → List (Act ReplyPart)
+fetch_one oracles mode store by_uid read_only items one =
     if becomes_seen read_only items one.listed
-    then changes (flags_change one.listed (seen one.listed).flags) ∷ fetch_told meanings mode store by_uid items one.number (seen one.listed) true
-    else fetch_told meanings mode store by_uid items one.number one.listed false
+    then changes (flags_change one.listed (seen one.listed).flags) ∷ fetch_told oracles mode store by_uid items one.number (seen one.listed) true
+    else fetch_told oracles mode store by_uid items one.number one.listed false
 
 -- FETCH of the messages of a set (RFC 3501, 6.4.5).
-abbrev pub fetch_step : Meanings → (tag : List ℕ) → State → Mode → (folder : ℕ) → (read_only : Bool) → StoreState → (by_uid : Bool) → Set → List FetchItem → Step
-fetch_step meanings tag state mode folder read_only store by_uid set items =
-    for_each tag state by_uid set (listed store.kept folder) (fetch_one meanings mode store by_uid read_only items)
+abbrev pub fetch_step : Oracles → (tag : List ℕ) → State → Mode → (folder : ℕ) → (read_only : Bool) → StoreState → (by_uid : Bool) → Set → List FetchItem → Step
+fetch_step oracles tag state mode folder read_only store by_uid set items =
+    for_each tag state by_uid set (listed store.kept folder) (fetch_one oracles mode store by_uid read_only items)
 
 -- ---- STORE
 
@@ -412,45 +413,45 @@ common_step tag state command.NotHere = says tag (codes "NO not here") state
 common_step tag state other = out_of_order tag state
 
 -- A command before login: LOGIN, or one of every state (RFC 3501, 6.2).
-abbrev pub not_authenticated_step : Meanings → (tag : List ℕ) → StoreState → Command → Step
-not_authenticated_step meanings tag store (command.Login user password) = login_by tag (logged_in meanings.path_of store.kept user password)
-not_authenticated_step meanings tag store other = common_step tag not_authenticated other
+abbrev pub not_authenticated_step : Oracles → (tag : List ℕ) → StoreState → Command → Step
+not_authenticated_step oracles tag store (command.Login user password) = login_by tag (logged_in oracles.path_of store.kept user password)
+not_authenticated_step oracles tag store other = common_step tag not_authenticated other
 
 -- the commands of every session that is authenticated, whether a folder is selected or not
-abbrev pub mailbox_step : Meanings → (now tag : List ℕ) → State → Mode → (account : ℕ) → StoreState → Command → Step
-mailbox_step meanings now tag state mode account store (command.Select written) = select_by tag mode account false store (folder_named meanings mode store account written)
-mailbox_step meanings now tag state mode account store (command.Examine written) = select_by tag mode account true store (folder_named meanings mode store account written)
-mailbox_step meanings now tag state mode account store (command.Create written) = create_by tag state account store (meanings.name_of (is_enabled mode) written)
-mailbox_step meanings now tag state mode account store (command.List reference pattern) = answers tag done (list_lines mode store account reference pattern) state
-mailbox_step meanings now tag state mode account store (command.Status written items) = status_by tag state mode store items (folder_named meanings mode store account written)
-mailbox_step meanings now tag state mode account store (command.Append written flags date in_utf8 octets) =
-    append_in meanings tag state (opened_in state) mode store flags (date_or now date) in_utf8 octets (folder_named meanings mode store account written)
-mailbox_step meanings now tag state mode account store other = common_step tag state other
+abbrev pub mailbox_step : Oracles → (now tag : List ℕ) → State → Mode → (account : ℕ) → StoreState → Command → Step
+mailbox_step oracles now tag state mode account store (command.Select written) = select_by tag mode account false store (folder_named oracles mode store account written)
+mailbox_step oracles now tag state mode account store (command.Examine written) = select_by tag mode account true store (folder_named oracles mode store account written)
+mailbox_step oracles now tag state mode account store (command.Create written) = create_by tag state account store (oracles.name_of (is_enabled mode) written)
+mailbox_step oracles now tag state mode account store (command.List reference pattern) = answers tag done (list_lines mode store account reference pattern) state
+mailbox_step oracles now tag state mode account store (command.Status written items) = status_by tag state mode store items (folder_named oracles mode store account written)
+mailbox_step oracles now tag state mode account store (command.Append written flags date in_utf8 octets) =
+    append_in oracles tag state (opened_in state) mode store flags (date_or now date) in_utf8 octets (folder_named oracles mode store account written)
+mailbox_step oracles now tag state mode account store other = common_step tag state other
 
 -- A command after login, where no folder is open: ENABLE, one of mailboxes, or one of every state (RFC 3501, 6.3; RFC 5161, 3.1).
-abbrev pub authenticated_step : Meanings → (now tag : List ℕ) → Mode → (account : ℕ) → StoreState → Command → Step
-authenticated_step meanings now tag mode account store (command.Enable words) = enable_step tag mode account (asks_utf8 words)
-authenticated_step meanings now tag mode account store other = mailbox_step meanings now tag (authenticated mode account) mode account store other
+abbrev pub authenticated_step : Oracles → (now tag : List ℕ) → Mode → (account : ℕ) → StoreState → Command → Step
+authenticated_step oracles now tag mode account store (command.Enable words) = enable_step tag mode account (asks_utf8 words)
+authenticated_step oracles now tag mode account store other = mailbox_step oracles now tag (authenticated mode account) mode account store other
 
 -- A command where a folder is open: one of its messages, of mailboxes, or of every state (RFC 3501, 6.4).
-abbrev pub selected_step : Meanings → (now tag : List ℕ) → Mode → (account folder : ℕ) → (read_only : Bool) → StoreState → Command → Step
-selected_step meanings now tag mode account folder read_only store command.Check = says tag done (selected mode account folder read_only)
-selected_step meanings now tag mode account folder read_only store (command.Fetch by_uid set items) =
-    fetch_step meanings tag (selected mode account folder read_only) mode folder read_only store by_uid set items
-selected_step meanings now tag mode account folder read_only store (command.Store by_uid set op silent flags) =
+abbrev pub selected_step : Oracles → (now tag : List ℕ) → Mode → (account folder : ℕ) → (read_only : Bool) → StoreState → Command → Step
+selected_step oracles now tag mode account folder read_only store command.Check = says tag done (selected mode account folder read_only)
+selected_step oracles now tag mode account folder read_only store (command.Fetch by_uid set items) =
+    fetch_step oracles tag (selected mode account folder read_only) mode folder read_only store by_uid set items
+selected_step oracles now tag mode account folder read_only store (command.Store by_uid set op silent flags) =
     store_step tag (selected mode account folder read_only) folder read_only store by_uid set op silent flags
-selected_step meanings now tag mode account folder read_only store command.Expunge =
+selected_step oracles now tag mode account folder read_only store command.Expunge =
     expunge_step tag (selected mode account folder read_only) read_only (listed store.kept folder)
-selected_step meanings now tag mode account folder read_only store command.Close = close_step tag (authenticated mode account) read_only (listed store.kept folder)
-selected_step meanings now tag mode account folder read_only store other =
-    mailbox_step meanings now tag (selected mode account folder read_only) mode account store other
+selected_step oracles now tag mode account folder read_only store command.Close = close_step tag (authenticated mode account) read_only (listed store.kept folder)
+selected_step oracles now tag mode account folder read_only store other =
+    mailbox_step oracles now tag (selected mode account folder read_only) mode account store other
 
 -- a command in a state, at a moment of this date; after the end none is read
-unfoldable pub step : Meanings → (now : List ℕ) → State → StoreState → (tag : List ℕ) → Command → Step
-step meanings now not_authenticated store tag said = not_authenticated_step meanings tag store said
-step meanings now (authenticated mode account) store tag said = authenticated_step meanings now tag mode account store said
-step meanings now (selected mode account folder read_only) store tag said = selected_step meanings now tag mode account folder read_only store said
-step meanings now ended store tag said = record { acts = []; state = ended }
+unfoldable pub step : Oracles → (now : List ℕ) → State → StoreState → (tag : List ℕ) → Command → Step
+step oracles now not_authenticated store tag said = not_authenticated_step oracles tag store said
+step oracles now (authenticated mode account) store tag said = authenticated_step oracles now tag mode account store said
+step oracles now (selected mode account folder read_only) store tag said = selected_step oracles now tag mode account folder read_only store said
+step oracles now ended store tag said = record { acts = []; state = ended }
 
 -- the mode in which commands are read
 abbrev pub mode_of : State → Mode

@@ -7,7 +7,7 @@ use Rattle.kept_mail.specs.declared.limits.TheConstants.{THINGS_MAX}
 use Rattle.mail_store.specs.StoreState.{StoreState}
 use Rattle.surrogate_cache.specs.Served.{Mode, legacy, enabled}
 use Rattle.session_core.specs.Acts.{changes}
-use Rattle.session_core.specs.Meanings.{Meanings}
+use Rattle.session_core.specs.Oracles.{Oracles}
 use Rattle.imap_grammar.specs.declared.command.Command.{Command}
 use Rattle.imap_grammar.specs.declared.command.Command.TheVariants as command
 use Rattle.imap_session.specs.Machine.{State, Step, appended, authenticated, completed, date_or, done, ends_with, folder_named, opened_in, reply, says, selected, untagged}
@@ -36,8 +36,8 @@ pub record HasRoomFor (store : StoreState) (octets : List ℕ) : Type 0 where
 
 -- The message may be put into this folder: it is the one that is named, data in the form with UTF8 come from a session that enabled it, and the
 -- octets, the last line complete, have a tree, for which the store has room.
-pub record MayBePut (meanings : Meanings) (mode : Mode) (account : ℕ) (store : StoreState) (said : Said) (folder : ℕ) : Type 0 where
-  pub named : folder_named meanings mode store account said.written ≡ Some folder
+pub record MayBePut (oracles : Oracles) (mode : Mode) (account : ℕ) (store : StoreState) (said : Said) (folder : ℕ) : Type 0 where
+  pub named : folder_named oracles mode store account said.written ≡ Some folder
   pub form : said.in_utf8 ≡ true → mode ≡ enabled
   pub tree : IsStored (completed said.octets)
   pub room : HasRoomFor store (completed said.octets)
@@ -67,18 +67,18 @@ words_of_cause no_message = codes "NO not a message"
 words_of_cause too_large = codes "NO too large"
 
 -- When each cause is one: no folder of this name, UTF8 before it was enabled, octets that are no message, or no room for them.
-abbrev pub IsCause : Meanings → Mode → (account : ℕ) → StoreState → Said → Cause → Type 0
-IsCause meanings mode account store said no_folder = folder_named meanings mode store account said.written ≡ None
-IsCause meanings mode account store said not_enabled = (said.in_utf8 ≡ true) × (mode ≡ legacy)
-IsCause meanings mode account store said no_message = ¬ IsStored (completed said.octets)
-IsCause meanings mode account store said too_large = ¬ HasRoomFor store (completed said.octets)
+abbrev pub IsCause : Oracles → Mode → (account : ℕ) → StoreState → Said → Cause → Type 0
+IsCause oracles mode account store said no_folder = folder_named oracles mode store account said.written ≡ None
+IsCause oracles mode account store said not_enabled = (said.in_utf8 ≡ true) × (mode ≡ legacy)
+IsCause oracles mode account store said no_message = ¬ IsStored (completed said.octets)
+IsCause oracles mode account store said too_large = ¬ HasRoomFor store (completed said.octets)
 
 -- The message of an APPEND is put last into the folder that it names.
-abbrev pub IsPut : Meanings → (now tag : List ℕ) → State → Mode → (account : ℕ) → StoreState → Said → Step → Type 0
-IsPut meanings now tag state mode account store said taken =
-    (folder : ℕ) × (folder_named meanings mode store account said.written ≡ Some folder) × (taken ≡ put_step now tag state store said folder)
+abbrev pub IsPut : Oracles → (now tag : List ℕ) → State → Mode → (account : ℕ) → StoreState → Said → Step → Type 0
+IsPut oracles now tag state mode account store said taken =
+    (folder : ℕ) × (folder_named oracles mode store account said.written ≡ Some folder) × (taken ≡ put_step now tag state store said folder)
 
 -- a cause is told and nothing else, and nothing changes
-abbrev pub IsRefused : Meanings → (tag : List ℕ) → State → Mode → (account : ℕ) → StoreState → Said → Step → Type 0
-IsRefused meanings tag state mode account store said taken =
-    (cause : Cause) × IsCause meanings mode account store said cause × (taken ≡ says tag (words_of_cause cause) state)
+abbrev pub IsRefused : Oracles → (tag : List ℕ) → State → Mode → (account : ℕ) → StoreState → Said → Step → Type 0
+IsRefused oracles tag state mode account store said taken =
+    (cause : Cause) × IsCause oracles mode account store said cause × (taken ≡ says tag (words_of_cause cause) state)

@@ -5,7 +5,7 @@ use Rattle.mail_wire.specs.Octets.{is_ascii}
 use Rattle.surrogate_rope.specs.Layout.{HasSurrogate, HasAsciiBlocks}
 use Rattle.surrogate_cache.specs.Served.{Mode, legacy, enabled, is_enabled, served_by}
 use Rattle.imap_mailboxes.specs.Names.{quoted, shown_name}
-use Rattle.session_core.specs.Meanings.{Meanings}
+use Rattle.session_core.specs.Oracles.{Oracles}
 
 -- A part of a reply.
 pub data ReplyPart : Type 0 where
@@ -19,27 +19,27 @@ pub data ReplyPart : Type 0 where
   viewed : (mode : Mode) (octets : List ℕ) → ReplyPart
 
 -- the octets of a part
-abbrev pub part_octets : Meanings → ReplyPart → List ℕ
-part_octets meanings (text octets) = octets
-part_octets meanings (name mode octets) = quoted (shown_name (is_enabled mode) octets)
-part_octets meanings (shown msg mode at len) = take len (drop at (served_by meanings.surrogate mode msg))
-part_octets meanings (viewed mode octets) = octets
+abbrev pub part_octets : Oracles → ReplyPart → List ℕ
+part_octets oracles (text octets) = octets
+part_octets oracles (name mode octets) = quoted (shown_name (is_enabled mode) octets)
+part_octets oracles (shown msg mode at len) = take len (drop at (served_by oracles.surrogate mode msg))
+part_octets oracles (viewed mode octets) = octets
 
 -- The octets of the parts, one behind another.
-abbrev pub reply_octets : Meanings → List ReplyPart → List ℕ
-reply_octets meanings parts = flat_map (part_octets meanings) parts
+abbrev pub reply_octets : Oracles → List ReplyPart → List ℕ
+reply_octets oracles parts = flat_map (part_octets oracles) parts
 
 -- All but names, messages and views is ASCII, and so are names and views in a legacy session. What a legacy session is shown of a message is a range of
 -- the message's surrogate, all of whose header blocks are ASCII.
-abbrev pub IsFit : Meanings → ReplyPart → Type 0
-IsFit meanings (text octets) = list_all is_ascii octets ≡ true
-IsFit meanings (name legacy octets) = list_all is_ascii (part_octets meanings (name legacy octets)) ≡ true
-IsFit meanings (name enabled octets) = Unit {0}
-IsFit meanings (shown msg legacy at len) = HasSurrogate msg (meanings.surrogate msg) × HasAsciiBlocks (meanings.surrogate msg)
-IsFit meanings (shown msg enabled at len) = Unit {0}
-IsFit meanings (viewed legacy octets) = list_all is_ascii octets ≡ true
-IsFit meanings (viewed enabled octets) = Unit {0}
+abbrev pub IsFit : Oracles → ReplyPart → Type 0
+IsFit oracles (text octets) = list_all is_ascii octets ≡ true
+IsFit oracles (name legacy octets) = list_all is_ascii (part_octets oracles (name legacy octets)) ≡ true
+IsFit oracles (name enabled octets) = Unit {0}
+IsFit oracles (shown msg legacy at len) = HasSurrogate msg (oracles.surrogate msg) × HasAsciiBlocks (oracles.surrogate msg)
+IsFit oracles (shown msg enabled at len) = Unit {0}
+IsFit oracles (viewed legacy octets) = list_all is_ascii octets ≡ true
+IsFit oracles (viewed enabled octets) = Unit {0}
 
 -- Each of the parts may be sent in its mode.
-abbrev pub AreFit : Meanings → List ReplyPart → Type 0
-AreFit meanings parts = AllByRecursion (IsFit meanings) parts
+abbrev pub AreFit : Oracles → List ReplyPart → Type 0
+AreFit oracles parts = AllByRecursion (IsFit oracles) parts

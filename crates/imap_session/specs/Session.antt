@@ -20,7 +20,7 @@ use Rattle.session_core.specs.Acts.{Act, changes_in}
 use Rattle.session_core.specs.Around.{Around}
 use Rattle.session_core.specs.Doing.{Does}
 use Rattle.session_core.specs.Keeps.{fault_of}
-use Rattle.session_core.specs.Meanings.{Meanings, WithMeanings}
+use Rattle.session_core.specs.Oracles.{Oracles, WithOracles}
 use Rattle.session_core.specs.Moments.{Moment, IsTold}
 use Rattle.session_core.specs.Protocol.{Protocol}
 use Rattle.session_core.specs.Turns.{Turn}
@@ -60,9 +60,9 @@ date_at [] = long_ago
 date_at (moment ∷ moments) = if is_date moment.internal then moment.internal else long_ago
 
 -- the moments behind one that was taken, or not
-abbrev pub moments_behind : (taken : Bool) → List Moment → List Moment
-moments_behind true (moment ∷ moments) = moments
-moments_behind other moments = moments
+abbrev pub moments_after : (taken : Bool) → List Moment → List Moment
+moments_after true (moment ∷ moments) = moments
+moments_after other moments = moments
 
 -- What is due takes the next moment: an APPEND without a date, after login.
 abbrev pub event_takes : State → Event → Bool
@@ -70,42 +70,42 @@ event_takes state (Command tag said) = takes_moment state said
 event_takes state other = false
 
 -- what is due: a literal may come, or a command is answered, or refused
-abbrev pub due_step : Meanings → (now : List ℕ) → State → StoreState → Event → Step
-due_step meanings now state store More = record { acts = []; state = state }
-due_step meanings now state store Go = record { acts = reply (line (codes "+ go") ∷ []); state = state }
-due_step meanings now state store (Command tag said) = step meanings now state store tag said
-due_step meanings now state store (Bad (Some tag) at) = says tag (codes "BAD syntax") state
-due_step meanings now state store (Bad None at) = record { acts = reply (untagged (codes "BAD syntax") ∷ []); state = state }
-due_step meanings now state store (TooLarge tag) = says tag (codes "NO too large") state
-due_step meanings now state store TooLong = record { acts = reply (untagged (codes "BYE line too long") ∷ []); state = ended }
+abbrev pub due_step : Oracles → (now : List ℕ) → State → StoreState → Event → Step
+due_step oracles now state store More = record { acts = []; state = state }
+due_step oracles now state store Go = record { acts = reply (line (codes "+ go") ∷ []); state = state }
+due_step oracles now state store (Command tag said) = step oracles now state store tag said
+due_step oracles now state store (Bad (Some tag) at) = says tag (codes "BAD syntax") state
+due_step oracles now state store (Bad None at) = record { acts = reply (untagged (codes "BAD syntax") ∷ []); state = state }
+due_step oracles now state store (TooLarge tag) = says tag (codes "NO too large") state
+due_step oracles now state store TooLong = record { acts = reply (untagged (codes "BYE line too long") ∷ []); state = ended }
 
 -- The turn for what is due: its acts, the machine after it, and the octets behind those it used.
-abbrev pub due_turn : Meanings → Machine → List ℕ → Due → Turn Machine (Act ReplyPart)
-due_turn meanings machine octets due =
-    let taken = due_step meanings (date_at machine.moments) machine.state machine.store due.event in
+abbrev pub due_turn : Oracles → Machine → List ℕ → Due → Turn Machine (Act ReplyPart)
+due_turn oracles machine octets due =
+    let taken = due_step oracles (date_at machine.moments) machine.state machine.store due.event in
     record {
       parts = taken.acts;
       after = record {
         state = taken.state;
         store = with_records machine.store (records_of (changes_in taken.acts));
         seen = seen_after machine.seen octets due.used due.event;
-        moments = moments_behind (event_takes machine.state due.event) machine.moments;
+        moments = moments_after (event_takes machine.state due.event) machine.moments;
       };
       rest = drop due.used octets;
     }
 
 -- The turn at the head of the octets, where something is due.
-abbrev pub turn_by_reading : Meanings → Machine → List ℕ → Option (Turn Machine (Act ReplyPart))
-turn_by_reading meanings machine octets = option_map (due_turn meanings machine octets) (meanings.event_of (is_enabled (mode_of machine.state)) machine.seen octets)
+abbrev pub turn_by_reading : Oracles → Machine → List ℕ → Option (Turn Machine (Act ReplyPart))
+turn_by_reading oracles machine octets = option_map (due_turn oracles machine octets) (oracles.event_of (is_enabled (mode_of machine.state)) machine.seen octets)
 
 -- after the end no command is read
-abbrev pub turn_from : Meanings → State → Machine → List ℕ → Option (Turn Machine (Act ReplyPart))
-turn_from meanings ended machine octets = None
-turn_from meanings state machine octets = turn_by_reading meanings machine octets
+abbrev pub turn_from : Oracles → State → Machine → List ℕ → Option (Turn Machine (Act ReplyPart))
+turn_from oracles ended machine octets = None
+turn_from oracles state machine octets = turn_by_reading oracles machine octets
 
 -- The turn at the head of the octets, where something is due and the session hasn't ended.
-unfoldable pub next_turn : Meanings → Machine → List ℕ → Option (Turn Machine (Act ReplyPart))
-next_turn meanings machine octets = turn_from meanings machine.state machine octets
+unfoldable pub next_turn : Oracles → Machine → List ℕ → Option (Turn Machine (Act ReplyPart))
+next_turn oracles machine octets = turn_from oracles machine.state machine octets
 
 -- The first line of a session (RFC 3501, 7.1.1).
 abbrev pub greeting : List ReplyPart
@@ -186,9 +186,9 @@ machine_next reader None = None
 machine_next reader (Some state) = Some (record { reader = reader; state = state })
 
 -- The step was carried out, or after a fault the first of it; the session is in its state, and the store has what it names.
-pub record TakesStep (before now : Around) (result : Result (Option ImapState) Fault) (taken : Meanings → Step) : Type 0 where
-  pub does : WithMeanings (λ meanings. Does (part_octets meanings) before now (fault_of result) (taken meanings).acts)
-  pub next : WithMeanings (λ meanings. IfOk result (λ next. state_or_ended next ≡ (taken meanings).state))
+pub record TakesStep (before now : Around) (result : Result (Option ImapState) Fault) (taken : Oracles → Step) : Type 0 where
+  pub does : WithOracles (λ oracles. Does (part_octets oracles) before now (fault_of result) (taken oracles).acts)
+  pub next : WithOracles (λ oracles. IfOk result (λ next. state_or_ended next ≡ (taken oracles).state))
   pub known : IfOk result (KnowsNext now.desk.store)
 
 -- what a command says that the step of its state needs: a date that is given is one, and a bit for each flag
@@ -203,8 +203,8 @@ IsSaidIn (Command tag said) = IsSaid said
 IsSaidIn other = Unit {0}
 
 -- The same step with a moment that the clock told, where one is taken. A fault may come before it was told.
-pub record TakesStepAt (before now : Around) (result : Result (Option ImapState) Fault) (takes : Bool) (taken : Meanings → (date : List ℕ) → Step) : Type 0 where
+pub record TakesStepAt (before now : Around) (result : Result (Option ImapState) Fault) (takes : Bool) (taken : Oracles → (date : List ℕ) → Step) : Type 0 where
   pub told : List Moment
   pub are_told : All (IsTold before.clock) told
-  pub count : IfOk result (λ next. (more : List Moment) → moments_behind takes (told ++ more) ≡ more)
-  pub steps : (more : List Moment) → TakesStep before now result (λ meanings. taken meanings (date_at (told ++ more)))
+  pub count : IfOk result (λ next. (more : List Moment) → moments_after takes (told ++ more) ≡ more)
+  pub steps : (more : List Moment) → TakesStep before now result (λ oracles. taken oracles (date_at (told ++ more)))

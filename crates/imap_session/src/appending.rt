@@ -5,11 +5,11 @@ ghost use Rattle.kept_mail.specs.Kept.{Kept, listed};
 ghost use Rattle.session_core.specs.Desks.{IsOpen};
 ghost use Rattle.session_core.specs.Doing.{Does, Makes};
 ghost use Rattle.session_core.specs.Keeps.{Keeps, fault_of};
-ghost use Rattle.session_core.specs.Meanings.{Meanings, WithMeanings};
+ghost use Rattle.session_core.specs.Oracles.{Oracles, WithOracles};
 ghost use Rattle.imap_session.specs.Machine.{State, authenticated, completed, date_or, lacks_date};
 ghost use Rattle.imap_session.specs.Replies.{part_octets, reply_octets};
 ghost use Rattle.imap_session.specs.Session.{TakesStepAt};
-ghost use Rattle.imap_session.specs.private.Appending.{IsDateFrom, WereListed, command_of, letter_step, put_changes, put_lines, put_octets as put_octets_of, put_of, words_of_put};
+ghost use Rattle.imap_session.specs.private.Appending.{IsDateFrom, WereListed, command_of, request_step, put_changes, put_lines, put_octets as put_octets_of, put_of, words_of_put};
 ghost use Rattle.imap_session.specs.private.Selected.{KnowsSelected};
 
 use crate::folders::find_named;
@@ -25,7 +25,7 @@ use std::alloc::Global;
 
 /// What APPEND says: the name of a folder as it was written, and a message.
 #[derive(Drop)]
-pub struct Letter<'a> {
+pub struct AppendRequest<'a> {
     pub written: &'a [u8],
     pub flags: u8,
     pub date: &'a Option<Octets>,
@@ -57,8 +57,8 @@ pub fn date_of<W: Wire, J: Keeper, C: Clock>(
     match given {
         Some(date) => Octets::from_slice(outside.alloc(), date.as_slice()),
         None => {
-            let stamp = outside.now()?;
-            Ok(stamp.internal)
+            let timestamp = outside.now()?;
+            Ok(timestamp.internal)
         }
     }
 }
@@ -75,9 +75,9 @@ fn put_octets<W: Wire, J: Keeper, C: Clock>(
     requires folder { folder < length outside.old.desk.store.kept.folders }
     requires flags { flags < 32 }
     requires dated { IsDate date.now }
-    ensures put { IfOk result (λ put. WithMeanings (λ meanings. put ≡ put_octets_of (meanings.has_tree octets.now) outside.old.desk.store folder octets.now)) }
-    ensures makes { WithMeanings (λ meanings. Makes outside.old outside.new (fault_of result)
-        (put_changes flags date.now octets.now (put_octets_of (meanings.has_tree octets.now) outside.old.desk.store folder octets.now))) }
+    ensures put { IfOk result (λ put. WithOracles (λ oracles. put ≡ put_octets_of (oracles.has_tree octets.now) outside.old.desk.store folder octets.now)) }
+    ensures makes { WithOracles (λ oracles. Makes outside.old outside.new (fault_of result)
+        (put_changes flags date.now octets.now (put_octets_of (oracles.has_tree octets.now) outside.old.desk.store folder octets.now))) }
     ensures keeps { Keeps outside.old outside.new (fault_of result) }
 {
     if !is_stored(outside.alloc(), octets)? {
@@ -89,54 +89,54 @@ fn put_octets<W: Wire, J: Keeper, C: Clock>(
     }
 }
 
-// Puts the octets of a letter last in a folder, with CRLF at their end, unless they are refused.
+// Puts the octets of a request last in a folder, with CRLF at their end, unless they are refused.
 fn put_completed<W: Wire, J: Keeper, C: Clock>(
     folder: u32,
-    letter: &Letter,
+    request: &AppendRequest,
     date: &[u8],
     outside: &mut Outside<W, J, C>,
 ) -> Result<Put, Fault>
     requires opens { IsOpen outside.old.desk }
     requires folder { folder < length outside.old.desk.store.kept.folders }
-    requires flags { letter.now.flags < 32 }
+    requires flags { request.now.flags < 32 }
     requires dated { IsDate date.now }
-    ensures put { IfOk result (λ put. WithMeanings (λ meanings.
-        put ≡ put_octets_of (meanings.has_tree (completed letter.now.octets.now)) outside.old.desk.store folder (completed letter.now.octets.now))) }
-    ensures makes { WithMeanings (λ meanings. Makes outside.old outside.new (fault_of result) (put_changes letter.now.flags date.now (completed letter.now.octets.now)
-        (put_octets_of (meanings.has_tree (completed letter.now.octets.now)) outside.old.desk.store folder (completed letter.now.octets.now)))) }
+    ensures put { IfOk result (λ put. WithOracles (λ oracles.
+        put ≡ put_octets_of (oracles.has_tree (completed request.now.octets.now)) outside.old.desk.store folder (completed request.now.octets.now))) }
+    ensures makes { WithOracles (λ oracles. Makes outside.old outside.new (fault_of result) (put_changes request.now.flags date.now (completed request.now.octets.now)
+        (put_octets_of (oracles.has_tree (completed request.now.octets.now)) outside.old.desk.store folder (completed request.now.octets.now)))) }
     ensures keeps { Keeps outside.old outside.new (fault_of result) }
 {
-    if is_ended(letter.octets) {
-        return put_octets(folder, letter.flags, date, letter.octets, outside);
+    if is_ended(request.octets) {
+        return put_octets(folder, request.flags, date, request.octets, outside);
     }
-    let mut octets = Octets::from_slice(outside.alloc(), letter.octets)?;
+    let mut octets = Octets::from_slice(outside.alloc(), request.octets)?;
     complete(&mut octets)?;
-    put_octets(folder, letter.flags, date, octets.as_slice(), outside)
+    put_octets(folder, request.flags, date, octets.as_slice(), outside)
 }
 
-// Puts a letter with this date last in the folder that it names, unless it is refused.
-fn put_letter<V: Kind, W: Wire, J: Keeper, C: Clock>(
+// Puts a request with this date last in the folder that it names, unless it is refused.
+fn put_request<V: Kind, W: Wire, J: Keeper, C: Clock>(
     account: u32,
-    letter: &Letter,
+    request: &AppendRequest,
     date: &[u8],
     outside: &mut Outside<W, J, C>,
 ) -> Result<Put, Fault>
     requires opens { IsOpen outside.old.desk }
-    requires flags { letter.now.flags < 32 }
+    requires flags { request.now.flags < 32 }
     requires dated { IsDate date.now }
-    ensures put { IfOk result (λ put. WithMeanings (λ meanings. put ≡ put_of meanings V.mode account outside.old.desk.store letter.now)) }
-    ensures makes { WithMeanings (λ meanings. Makes outside.old outside.new (fault_of result)
-        (put_changes letter.now.flags date.now (completed letter.now.octets.now) (put_of meanings V.mode account outside.old.desk.store letter.now))) }
+    ensures put { IfOk result (λ put. WithOracles (λ oracles. put ≡ put_of oracles V.mode account outside.old.desk.store request.now)) }
+    ensures makes { WithOracles (λ oracles. Makes outside.old outside.new (fault_of result)
+        (put_changes request.now.flags date.now (completed request.now.octets.now) (put_of oracles V.mode account outside.old.desk.store request.now))) }
     ensures keeps { Keeps outside.old outside.new (fault_of result) }
 {
-    let found = find_named::<V>(outside.alloc(), outside.store(), account, letter.written)?;
+    let found = find_named::<V>(outside.alloc(), outside.store(), account, request.written)?;
     let Some(folder) = found else {
         return Ok(Put::NoFolder);
     };
-    if letter.in_utf8 && !V::enabled() {
+    if request.in_utf8 && !V::enabled() {
         return Ok(Put::NotEnabled);
     }
-    put_completed(folder, letter, date, outside)
+    put_completed(folder, request, date, outside)
 }
 
 // What APPEND answers.
@@ -180,7 +180,7 @@ fn list_put(
 
 // The line that tells how many messages the selected folder has, where one was put into it.
 fn exists_line(alloc: Global, put: Put, opened: u32, count: usize) -> Result<Octets, Memory>
-    ensures { IfOk result (λ line. (meanings : Meanings) (kept : Kept) → count ≡ length (listed kept opened) → line ≡ reply_octets meanings (put_lines (Some opened) kept put)) }
+    ensures { IfOk result (λ line. (oracles : Oracles) (kept : Kept) → count ≡ length (listed kept opened) → line ≡ reply_octets oracles (put_lines (Some opened) kept put)) }
 {
     let Put::In(folder) = put else {
         return Ok(Octets::new(alloc));
@@ -196,20 +196,20 @@ fn exists_line(alloc: Global, put: Put, opened: u32, count: usize) -> Result<Oct
 pub fn append<V: Kind, W: Wire, J: Keeper, C: Clock>(
     imap: Imap<Authenticated, V>,
     tag: &[u8],
-    letter: &Letter,
+    request: &AppendRequest,
     outside: &mut Outside<W, J, C>,
 ) -> Result<Option<ImapState>, Fault>
     requires opens { IsOpen outside.old.desk }
     requires known { imap.state.account < length outside.old.desk.store.kept.accounts }
-    requires flags { letter.now.flags < 32 }
-    requires dated { IfSome letter.now.date.now IsDate }
-    ensures takes { TakesStepAt outside.old outside.new result (lacks_date (command_of letter.now)) (λ meanings now.
-        letter_step meanings tag.now (authenticated V.mode imap.state.account) None V.mode imap.state.account outside.old.desk.store letter.now (date_or now letter.now.date.now)) }
+    requires flags { request.now.flags < 32 }
+    requires dated { IfSome request.now.date.now IsDate }
+    ensures takes { TakesStepAt outside.old outside.new result (lacks_date (command_of request.now)) (λ oracles now.
+        request_step oracles tag.now (authenticated V.mode imap.state.account) None V.mode imap.state.account outside.old.desk.store request.now (date_or now request.now.date.now)) }
     ensures keeps { Keeps outside.old outside.new (fault_of result) }
 {
-    let date = date_of(letter.date, outside)?;
+    let date = date_of(request.date, outside)?;
     let account = imap.state.account;
-    let put = put_letter::<V, W, J, C>(account, letter, date.as_slice(), outside)?;
+    let put = put_request::<V, W, J, C>(account, request, date.as_slice(), outside)?;
     say(tag, put_words(put), outside)?;
     Ok(Some(V::in_authenticated(imap)))
 }
@@ -218,26 +218,26 @@ pub fn append<V: Kind, W: Wire, J: Keeper, C: Clock>(
 pub fn append_within<V: Kind, W: Wire, J: Keeper, C: Clock>(
     selected: &mut Selected,
     tag: &[u8],
-    letter: &Letter,
+    request: &AppendRequest,
     date: &[u8],
     outside: &mut Outside<W, J, C>,
 ) -> Result<(), Fault>
     requires opens { IsOpen outside.old.desk }
     requires known { KnowsSelected outside.old.desk.store selected.old }
-    requires flags { letter.now.flags < 32 }
+    requires flags { request.now.flags < 32 }
     requires dated { IsDate date.now }
-    ensures does { WithMeanings (λ meanings. (state : State) → Does (part_octets meanings) outside.old outside.new (fault_of result)
-        (letter_step meanings tag.now state (Some selected.old.folder) V.mode selected.old.account outside.old.desk.store letter.now date.now).acts) }
+    ensures does { WithOracles (λ oracles. (state : State) → Does (part_octets oracles) outside.old outside.new (fault_of result)
+        (request_step oracles tag.now state (Some selected.old.folder) V.mode selected.old.account outside.old.desk.store request.now date.now).acts) }
     ensures known { OnOk result (KnowsSelected outside.new.desk.store selected.new) }
     ensures same { selected.new ≡ record selected.old { messages = selected.new.messages } }
     ensures keeps { Keeps outside.old outside.new (fault_of result) }
 {
-    let put = put_letter::<V, W, J, C>(selected.account, letter, date, outside)?;
+    let put = put_request::<V, W, J, C>(selected.account, request, date, outside)?;
     list_put(
         &mut selected.messages,
         selected.folder,
         put,
-        letter.flags,
+        request.flags,
         outside.store(),
     )?;
     let count = selected.messages.len();

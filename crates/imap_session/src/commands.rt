@@ -5,13 +5,13 @@ ghost use Rattle.mail_store.specs.StoreState.{StoreState};
 ghost use Rattle.session_core.specs.Desks.{IsOpen};
 ghost use Rattle.session_core.specs.Doing.{Does};
 ghost use Rattle.session_core.specs.Keeps.{Keeps, fault_of};
-ghost use Rattle.session_core.specs.Meanings.{Meanings, WithMeanings};
+ghost use Rattle.session_core.specs.Oracles.{Oracles, WithOracles};
 ghost use Rattle.imap_session.specs.Machine.{State, answers, asks_utf8 as asks_utf8_of, authenticated_step, common_step, done, enable_step, folder_lines as lines_of_folder, folder_named, lacks_date, list_lines as lines_of_list, login_by, mailbox_step, not_authenticated_step, opened_words as words_of_opened, select_by, status_by, step, takes_moment};
 ghost use Rattle.imap_session.specs.Replies.{part_octets};
 ghost use Rattle.imap_session.specs.Session.{IsSaid, KnowsNext, KnowsState, TakesStep, TakesStepAt, state_of, state_or_ended};
 ghost use Rattle.imap_session.specs.private.Messages.{selects_or_appends, state_left};
 
-use crate::appending::{Letter, append};
+use crate::appending::{AppendRequest, append};
 use crate::folders::{create, find_named, folder_lines, list_lines, status_line};
 use crate::replies::{DONE, NO_SUCH_FOLDER, OUT_OF_ORDER, answer, answer_text, say};
 use crate::selected::answer_selected;
@@ -31,7 +31,7 @@ fn give_common<W: Wire, J: Keeper, C: Clock>(
     command: &Command,
     outside: &mut Outside<W, J, C>,
 ) -> Result<(), Fault>
-    ensures does { (meanings : Meanings) (state : State) → Does (part_octets meanings) outside.old outside.new (fault_of result) (common_step tag.now state command.now).acts }
+    ensures does { (oracles : Oracles) (state : State) → Does (part_octets oracles) outside.old outside.new (fault_of result) (common_step tag.now state command.now).acts }
     ensures same { outside.new.desk ≡ outside.old.desk }
     ensures keeps { Keeps outside.old outside.new (fault_of result) }
 {
@@ -63,7 +63,7 @@ fn answer_common<W: Wire, J: Keeper, C: Clock>(
     outside: &mut Outside<W, J, C>,
 ) -> Result<Option<ImapState>, Fault>
     requires known { KnowsState outside.old.desk.store session }
-    ensures takes { TakesStep outside.old outside.new result (λ meanings. common_step tag.now (state_of session) command.now) }
+    ensures takes { TakesStep outside.old outside.new result (λ oracles. common_step tag.now (state_of session) command.now) }
     ensures keeps { Keeps outside.old outside.new (fault_of result) }
 {
     give_common(tag, command, outside)?;
@@ -80,7 +80,7 @@ fn login<W: Wire, J: Keeper, C: Clock>(
     password: &[u8],
     outside: &mut Outside<W, J, C>,
 ) -> Result<Option<ImapState>, Fault>
-    ensures takes { TakesStep outside.old outside.new result (λ meanings. login_by tag.now (logged_in meanings.path_of outside.old.desk.store.kept name.now password.now)) }
+    ensures takes { TakesStep outside.old outside.new result (λ oracles. login_by tag.now (logged_in oracles.path_of outside.old.desk.store.kept name.now password.now)) }
     ensures keeps { Keeps outside.old outside.new (fault_of result) }
 {
     let Some(account) = outside.store().login(name, password)? else {
@@ -98,7 +98,7 @@ fn answer_unauthenticated<W: Wire, J: Keeper, C: Clock>(
     command: &Command,
     outside: &mut Outside<W, J, C>,
 ) -> Result<Option<ImapState>, Fault>
-    ensures takes { TakesStep outside.old outside.new result (λ meanings. not_authenticated_step meanings tag.now outside.old.desk.store command.now) }
+    ensures takes { TakesStep outside.old outside.new result (λ oracles. not_authenticated_step oracles tag.now outside.old.desk.store command.now) }
     ensures keeps { Keeps outside.old outside.new (fault_of result) }
 {
     match command {
@@ -131,7 +131,7 @@ fn give_opened<W: Wire, J: Keeper, C: Clock>(
 ) -> Result<(), Fault>
     requires folder { folder < length outside.old.desk.store.kept.folders }
     requires count { count ≡ length (listed outside.old.desk.store.kept folder) }
-    ensures does { (meanings : Meanings) (state : State) → Does (part_octets meanings) outside.old outside.new (fault_of result)
+    ensures does { (oracles : Oracles) (state : State) → Does (part_octets oracles) outside.old outside.new (fault_of result)
         (answers tag.now (words_of_opened read_only) (lines_of_folder outside.old.desk.store folder read_only) state).acts }
     ensures same { outside.new.desk ≡ outside.old.desk }
     ensures keeps { Keeps outside.old outside.new (fault_of result) }
@@ -149,8 +149,8 @@ pub fn select<V: Kind, W: Wire, J: Keeper, C: Clock>(
     outside: &mut Outside<W, J, C>,
 ) -> Result<Option<ImapState>, Fault>
     requires known { imap.state.account < length outside.old.desk.store.kept.accounts }
-    ensures takes { TakesStep outside.old outside.new result (λ meanings.
-        select_by tag.now V.mode imap.state.account read_only outside.old.desk.store (folder_named meanings V.mode outside.old.desk.store imap.state.account written.now)) }
+    ensures takes { TakesStep outside.old outside.new result (λ oracles.
+        select_by tag.now V.mode imap.state.account read_only outside.old.desk.store (folder_named oracles V.mode outside.old.desk.store imap.state.account written.now)) }
     ensures keeps { Keeps outside.old outside.new (fault_of result) }
 {
     let account = imap.state.account;
@@ -172,8 +172,8 @@ fn give_status<V: Kind, W: Wire, J: Keeper, C: Clock>(
     items: &[StatusItem],
     outside: &mut Outside<W, J, C>,
 ) -> Result<(), Fault>
-    ensures does { WithMeanings (λ meanings. (state : State) → Does (part_octets meanings) outside.old outside.new (fault_of result)
-        (status_by tag.now state V.mode outside.old.desk.store items.now (folder_named meanings V.mode outside.old.desk.store account written.now)).acts) }
+    ensures does { WithOracles (λ oracles. (state : State) → Does (part_octets oracles) outside.old outside.new (fault_of result)
+        (status_by tag.now state V.mode outside.old.desk.store items.now (folder_named oracles V.mode outside.old.desk.store account written.now)).acts) }
     ensures same { outside.new.desk ≡ outside.old.desk }
     ensures keeps { Keeps outside.old outside.new (fault_of result) }
 {
@@ -193,7 +193,7 @@ fn give_list<V: Kind, W: Wire, J: Keeper, C: Clock>(
     pattern: &[u8],
     outside: &mut Outside<W, J, C>,
 ) -> Result<(), Fault>
-    ensures does { (meanings : Meanings) (state : State) → Does (part_octets meanings) outside.old outside.new (fault_of result)
+    ensures does { (oracles : Oracles) (state : State) → Does (part_octets oracles) outside.old outside.new (fault_of result)
         (answers tag.now done (lines_of_list V.mode outside.old.desk.store account reference.now pattern.now) state).acts }
     ensures same { outside.new.desk ≡ outside.old.desk }
     ensures keeps { Keeps outside.old outside.new (fault_of result) }
@@ -218,8 +218,8 @@ fn give_on_folders<V: Kind, W: Wire, J: Keeper, C: Clock>(
     requires opens { IsOpen outside.old.desk }
     requires account { account < length outside.old.desk.store.kept.accounts }
     requires other { selects_or_appends command.now ≡ false }
-    ensures does { WithMeanings (λ meanings. (now : List ℕ) (state : State) → Does (part_octets meanings) outside.old outside.new (fault_of result)
-        (mailbox_step meanings now tag.now state V.mode account outside.old.desk.store command.now).acts) }
+    ensures does { WithOracles (λ oracles. (now : List ℕ) (state : State) → Does (part_octets oracles) outside.old outside.new (fault_of result)
+        (mailbox_step oracles now tag.now state V.mode account outside.old.desk.store command.now).acts) }
     ensures known { OnOk result ((session : ImapState) → KnowsState outside.old.desk.store session → KnowsState outside.new.desk.store session) }
     ensures keeps { Keeps outside.old outside.new (fault_of result) }
 {
@@ -248,7 +248,7 @@ pub fn answer_on_folders<V: Kind, W: Wire, J: Keeper, C: Clock>(
     requires known { KnowsState outside.old.desk.store session }
     requires account { account < length outside.old.desk.store.kept.accounts }
     requires other { selects_or_appends command.now ≡ false }
-    ensures takes { (now : List ℕ) → TakesStep outside.old outside.new result (λ meanings. mailbox_step meanings now tag.now (state_of session) V.mode account outside.old.desk.store command.now) }
+    ensures takes { (now : List ℕ) → TakesStep outside.old outside.new result (λ oracles. mailbox_step oracles now tag.now (state_of session) V.mode account outside.old.desk.store command.now) }
     ensures keeps { Keeps outside.old outside.new (fault_of result) }
 {
     give_on_folders::<V, W, J, C>(account, tag, command, outside)?;
@@ -274,7 +274,7 @@ fn enable<V: Kind, W: Wire, J: Keeper, C: Clock>(
     outside: &mut Outside<W, J, C>,
 ) -> Result<Option<ImapState>, Fault>
     requires known { imap.state.account < length outside.old.desk.store.kept.accounts }
-    ensures takes { TakesStep outside.old outside.new result (λ meanings. enable_step tag.now V.mode imap.state.account (asks_utf8_of words.now)) }
+    ensures takes { TakesStep outside.old outside.new result (λ oracles. enable_step tag.now V.mode imap.state.account (asks_utf8_of words.now)) }
     ensures keeps { Keeps outside.old outside.new (fault_of result) }
 {
     if V::enabled() || !asks_utf8(words) {
@@ -295,7 +295,7 @@ fn answer_authenticated<V: Kind, W: Wire, J: Keeper, C: Clock>(
     requires opens { IsOpen outside.old.desk }
     requires known { imap.state.account < length outside.old.desk.store.kept.accounts }
     requires said { IsSaid command.now }
-    ensures takes { TakesStepAt outside.old outside.new result (lacks_date command.now) (λ meanings now. authenticated_step meanings now tag.now V.mode imap.state.account outside.old.desk.store command.now) }
+    ensures takes { TakesStepAt outside.old outside.new result (lacks_date command.now) (λ oracles now. authenticated_step oracles now tag.now V.mode imap.state.account outside.old.desk.store command.now) }
     ensures keeps { Keeps outside.old outside.new (fault_of result) }
 {
     match command {
@@ -309,14 +309,14 @@ fn answer_authenticated<V: Kind, W: Wire, J: Keeper, C: Clock>(
             utf8,
             octets,
         } => {
-            let letter = Letter {
+            let request = AppendRequest {
                 written: name.as_slice(),
                 flags: *flags,
                 date,
                 in_utf8: *utf8,
                 octets: octets.as_slice(),
             };
-            append(imap, tag, &letter, outside)
+            append(imap, tag, &request, outside)
         }
         _ => {
             let account = imap.state.account;
@@ -336,7 +336,7 @@ pub fn answer_command<W: Wire, J: Keeper, C: Clock>(
     requires opens { IsOpen outside.old.desk }
     requires known { KnowsState outside.old.desk.store session }
     requires said { IsSaid command.now }
-    ensures takes { TakesStepAt outside.old outside.new result (takes_moment (state_of session) command.now) (λ meanings now. step meanings now (state_of session) outside.old.desk.store tag.now command.now) }
+    ensures takes { TakesStepAt outside.old outside.new result (takes_moment (state_of session) command.now) (λ oracles now. step oracles now (state_of session) outside.old.desk.store tag.now command.now) }
     ensures keeps { Keeps outside.old outside.new (fault_of result) }
 {
     match session {

@@ -1,6 +1,6 @@
 //! EXPUNGE (RFC 3501, 6.4.3 and 7.4.1).
 ghost use Rattle.std.specs.Prelude.{◌≡◌, ◌+◌, ◌++◌, [], length, IfOk, OnOk};
-ghost use Rattle.session_core.specs.Meanings.{Meanings};
+ghost use Rattle.session_core.specs.Oracles.{Oracles};
 ghost use Rattle.imap_session.specs.Machine.{closing_up, deleted_ids as ids_of_deleted, is_deleted as is_deleted_of};
 ghost use Rattle.imap_session.specs.Replies.{reply_octets};
 
@@ -32,7 +32,7 @@ pub fn deleted_ids(alloc: Global, messages: &[Listed]) -> Result<Vec<u32>, Memor
 
 /// A line for each message that is marked as deleted, with its number once those before it are gone.
 pub fn expunge_lines(alloc: Global, messages: &[Listed]) -> Result<Octets, Memory>
-    ensures { IfOk result (λ lines. (meanings : Meanings) → lines ≡ reply_octets meanings (closing_up 1 messages.now)) }
+    ensures { IfOk result (λ lines. (oracles : Oracles) → lines ≡ reply_octets oracles (closing_up 1 messages.now)) }
 {
     let mut lines = Octets::new(alloc);
     let mut number: usize = 1;

@@ -8,9 +8,9 @@ ghost use Rattle.surrogate_cache.specs.Served.{is_enabled};
 ghost use Rattle.session_core.specs.Desks.{IsOpen, stored_octets};
 ghost use Rattle.session_core.specs.Doing.{Asks, wanting};
 ghost use Rattle.session_core.specs.Keeps.{Keeps, fault_of};
-ghost use Rattle.session_core.specs.Meanings.{WithMeanings};
+ghost use Rattle.session_core.specs.Oracles.{WithOracles};
 ghost use Rattle.imap_session.specs.Items.{asked_of, is_flags as is_flags_of, is_uid as is_uid_of, item_parts, sets_seen as sets_seen_of};
-ghost use Rattle.imap_session.specs.Machine.{becomes_seen, fetch_one, fetch_told, parts_behind, reply};
+ghost use Rattle.imap_session.specs.Machine.{becomes_seen, fetch_one, fetch_told, parts_following, reply};
 ghost use Rattle.imap_session.specs.Replies.{part_octets, reply_octets};
 ghost use Rattle.imap_session.specs.private.Fetched.{end_octets, space_octets, tells_flags_last, tells_uid_first, uid_first_octets};
 ghost use Rattle.imap_session.specs.private.Pending.{Carries};
@@ -161,8 +161,8 @@ fn push_told<V: Kind, W: Wire, J: Keeper, C: Clock>(
     requires id { one.now.id < length outside.now.desk.store.kept.messages }
     requires other { asks_section item.now ≡ false }
     requires shown { HasShown V.mode (stored_octets outside.now.desk.store one.now.id) (shows (is_enabled V.mode) item.now) (option_copied shown) }
-    ensures { WithMeanings (λ meanings. (store : StoreState) → ShowsAlike store outside.now.desk.store
-        → OnOk result (pending.new ≡ pending.old ++ reply_octets meanings (item_parts meanings V.mode store one.now item.now))) }
+    ensures { WithOracles (λ oracles. (store : StoreState) → ShowsAlike store outside.now.desk.store
+        → OnOk result (pending.new ≡ pending.old ++ reply_octets oracles (item_parts oracles V.mode store one.now item.now))) }
 {
     let alloc = outside.alloc();
     match (item, shown) {
@@ -196,8 +196,8 @@ fn put_item<V: Kind, W: Wire, J: Keeper, C: Clock>(
 ) -> Result<(), Fault>
     requires id { one.now.id < length outside.old.desk.store.kept.messages }
     requires shown { HasShown V.mode (stored_octets outside.old.desk.store one.now.id) (shows (is_enabled V.mode) item.now) (option_copied shown) }
-    ensures carries { WithMeanings (λ meanings. (store : StoreState) → ShowsAlike store outside.old.desk.store → Carries (part_octets meanings) outside.old outside.new (fault_of result)
-        pending.old pending.new (reply (item_parts meanings V.mode store one.now item.now))) }
+    ensures carries { WithOracles (λ oracles. (store : StoreState) → ShowsAlike store outside.old.desk.store → Carries (part_octets oracles) outside.old outside.new (fault_of result)
+        pending.old pending.new (reply (item_parts oracles V.mode store one.now item.now))) }
     ensures desk { OnOk result (outside.new.desk ≡ outside.old.desk) }
     ensures keeps { Keeps outside.old outside.new (fault_of result) }
 {
@@ -211,10 +211,10 @@ fn put_item<V: Kind, W: Wire, J: Keeper, C: Clock>(
 }
 
 // Puts a space last where something stands before what comes next.
-fn push_space(pending: &mut Octets, apart: bool) -> Result<(), Memory>
-    ensures { OnOk result (pending.new ≡ pending.old ++ space_octets apart) }
+fn push_space(pending: &mut Octets, is_separated: bool) -> Result<(), Memory>
+    ensures { OnOk result (pending.new ≡ pending.old ++ space_octets is_separated) }
 {
-    if apart {
+    if is_separated {
         pending.push(b' ')?;
     }
     Ok(())
@@ -225,22 +225,22 @@ fn put_items<V: Kind, W: Wire, J: Keeper, C: Clock>(
     items: &[FetchItem],
     one: &Listed,
     shown: Option<&Shown>,
-    behind_others: bool,
+    after_others: bool,
     pending: &mut Octets,
     outside: &mut Outside<W, J, C>,
 ) -> Result<(), Fault>
     requires id { one.now.id < length outside.old.desk.store.kept.messages }
     requires shown { HasShown V.mode (stored_octets outside.old.desk.store one.now.id) (list_any (shows (is_enabled V.mode)) items.now) (option_copied shown) }
-    ensures carries { WithMeanings (λ meanings. (store : StoreState) → ShowsAlike store outside.old.desk.store → Carries (part_octets meanings) outside.old outside.new (fault_of result)
-        pending.old pending.new (reply (parts_behind behind_others (map (item_parts meanings V.mode store one.now) items.now)))) }
+    ensures carries { WithOracles (λ oracles. (store : StoreState) → ShowsAlike store outside.old.desk.store → Carries (part_octets oracles) outside.old outside.new (fault_of result)
+        pending.old pending.new (reply (parts_following after_others (map (item_parts oracles V.mode store one.now) items.now)))) }
     ensures desk { OnOk result (outside.new.desk ≡ outside.old.desk) }
     ensures keeps { Keeps outside.old outside.new (fault_of result) }
 {
-    let mut apart = behind_others;
+    let mut is_separated = after_others;
     for item in items {
-        push_space(pending, apart)?;
+        push_space(pending, is_separated)?;
         put_item::<V, W, J, C>(item, one, shown, pending, outside)?;
-        apart = true;
+        is_separated = true;
     }
     Ok(())
 }
@@ -292,8 +292,8 @@ impl<'a, V: Kind> Fetching<'a, V> {
         requires opens { IsOpen outside.old.desk }
         requires id { one.now.id < length outside.old.desk.store.kept.messages }
         requires seen { flags_changed ≡ true → list_any sets_seen_of self.now.items.now ≡ true }
-        ensures carries { WithMeanings (λ meanings. (store : StoreState) → ShowsAlike store outside.old.desk.store → Carries (part_octets meanings) outside.old outside.new (fault_of result)
-            pending.old pending.new (fetch_told meanings V.mode store self.now.by_uid self.now.items.now number one.now flags_changed)) }
+        ensures carries { WithOracles (λ oracles. (store : StoreState) → ShowsAlike store outside.old.desk.store → Carries (part_octets oracles) outside.old outside.new (fault_of result)
+            pending.old pending.new (fetch_told oracles V.mode store self.now.by_uid self.now.items.now number one.now flags_changed)) }
         ensures store { OnOk result (outside.new.desk.store ≡ outside.old.desk.store) }
         ensures keeps { Keeps outside.old outside.new (fault_of result) }
     {
@@ -308,7 +308,7 @@ impl<'a, V: Kind> Fetching<'a, V> {
 }
 
 impl<'a, V: Kind> EachMessage for Fetching<'a, V> {
-    ghost acts = { λ fetching meanings store one. fetch_one meanings V.mode store fetching.by_uid fetching.read_only fetching.items.now one };
+    ghost acts = { λ fetching oracles store one. fetch_one oracles V.mode store fetching.by_uid fetching.read_only fetching.items.now one };
 
     ghost may_take = { λ fetching. ⊤ };
 

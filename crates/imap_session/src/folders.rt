@@ -6,7 +6,7 @@ ghost use Rattle.surrogate_cache.specs.Served.{is_enabled};
 ghost use Rattle.session_core.specs.Desks.{IsOpen};
 ghost use Rattle.session_core.specs.Keeps.{Keeps, fault_of};
 ghost use Rattle.session_core.specs.Doing.{Does};
-ghost use Rattle.session_core.specs.Meanings.{Meanings, WithMeanings};
+ghost use Rattle.session_core.specs.Oracles.{Oracles, WithOracles};
 ghost use Rattle.imap_session.specs.Machine.{create_by, folder_lines as lines_of_folder, folder_named, list_line as line_of_list, list_lines as lines_of_list, State, status_among, status_line as line_of_status, spaced, unseen_among};
 ghost use Rattle.imap_session.specs.Replies.{part_octets, reply_octets};
 ghost use Rattle.imap_session.specs.private.Lines.{words_of_created};
@@ -33,7 +33,7 @@ pub fn find_named<V: Kind>(
     account: u32,
     written: &[u8],
 ) -> Result<Option<u32>, Memory>
-    ensures found { IfOk result (λ found. WithMeanings (λ meanings. found ≡ folder_named meanings V.mode store.now account written.now)) }
+    ensures found { IfOk result (λ found. WithOracles (λ oracles. found ≡ folder_named oracles V.mode store.now account written.now)) }
     ensures known { IfOk result (λ found. IfSome found (λ folder. folder < length store.now.kept.folders)) }
 {
     let Some(name) = read_name(alloc, V::enabled(), written)? else {
@@ -52,7 +52,7 @@ pub fn folder_lines(
 ) -> Result<Octets, Memory>
     requires folder { folder < length store.now.kept.folders }
     requires count { count ≡ length (listed store.now.kept folder) }
-    ensures { IfOk result (λ lines. (meanings : Meanings) → lines ≡ reply_octets meanings (lines_of_folder store.now folder read_only)) }
+    ensures { IfOk result (λ lines. (oracles : Oracles) → lines ≡ reply_octets oracles (lines_of_folder store.now folder read_only)) }
 {
     let next = store.uid_next(folder);
     let permanent = if read_only {
@@ -86,7 +86,7 @@ fn push_list_line<V: Kind>(
     name: &[u8],
 ) -> Result<(), Memory>
     requires { IsUtf8 name.now }
-    ensures { (meanings : Meanings) → OnOk result (lines.new ≡ lines.old ++ reply_octets meanings (line_of_list V.mode pattern.now name.now)) }
+    ensures { (oracles : Oracles) → OnOk result (lines.new ≡ lines.old ++ reply_octets oracles (line_of_list V.mode pattern.now name.now)) }
 {
     let shown = shown_text::<V>(alloc, name)?;
     if !pattern.matches(shown.as_slice()) {
@@ -106,7 +106,7 @@ pub fn list_lines<V: Kind>(
     reference: &[u8],
     pattern: &[u8],
 ) -> Result<Octets, Memory>
-    ensures { IfOk result (λ lines. (meanings : Meanings) → lines ≡ reply_octets meanings (lines_of_list V.mode store.now account reference.now pattern.now)) }
+    ensures { IfOk result (λ lines. (oracles : Oracles) → lines ≡ reply_octets oracles (lines_of_list V.mode store.now account reference.now pattern.now)) }
 {
     if pattern.is_empty() {
         return Octets::from_slice(alloc, b"* LIST (\\Noselect) NIL \"\"\r\n");
@@ -177,7 +177,7 @@ pub fn status_line<V: Kind>(
     items: &[StatusItem],
 ) -> Result<Octets, Memory>
     requires { folder < length store.now.kept.folders }
-    ensures { IfOk result (λ line. (meanings : Meanings) → line ≡ reply_octets meanings (line_of_status V.mode store.now folder items.now)) }
+    ensures { IfOk result (λ line. (oracles : Oracles) → line ≡ reply_octets oracles (line_of_status V.mode store.now folder items.now)) }
 {
     let messages = store.list(folder)?;
     let texts = status_texts(alloc, items, &messages, store.uid_next(folder))?;
@@ -211,8 +211,8 @@ pub fn create<V: Kind, W: Wire, J: Keeper, C: Clock>(
 ) -> Result<(), Fault>
     requires opens { IsOpen outside.old.desk }
     requires known { account < length outside.old.desk.store.kept.accounts }
-    ensures does { WithMeanings (λ meanings. (state : State) → Does (part_octets meanings) outside.old outside.new (fault_of result)
-        (create_by tag.now state account outside.old.desk.store (meanings.name_of (is_enabled V.mode) written.now)).acts) }
+    ensures does { WithOracles (λ oracles. (state : State) → Does (part_octets oracles) outside.old outside.new (fault_of result)
+        (create_by tag.now state account outside.old.desk.store (oracles.name_of (is_enabled V.mode) written.now)).acts) }
     ensures keeps { Keeps outside.old outside.new (fault_of result) }
 {
     let alloc = outside.alloc();

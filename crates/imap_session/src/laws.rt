@@ -6,7 +6,7 @@ ghost use Rattle.mail_store.specs.Following.{records_of};
 ghost use Rattle.mail_store.specs.StoreState.{StoreState, with_records};
 ghost use Rattle.surrogate_cache.specs.Served.{Mode, enabled, legacy};
 ghost use Rattle.session_core.specs.Acts.{asked_in, changes_in};
-ghost use Rattle.session_core.specs.Meanings.{Meanings, TellsTrees};
+ghost use Rattle.session_core.specs.Oracles.{Oracles, TellsTrees};
 ghost use Rattle.session_core.specs.Turns.{all_turns};
 ghost use Rattle.imap_grammar.specs.declared.command.Command.{Command};
 ghost use Rattle.imap_grammar.specs.declared.command.Command.TheVariants as command_is;
@@ -24,54 +24,54 @@ ghost use Rattle.imap_session.specs.Session.{Machine, next_turn};
 /// flags and its date or that of the moment, and the reply is OK. Otherwise nothing changes, and the reply is the line that tells the cause.
 /// Before login it is out of order.
 pub fn whole_messages_are_put()
-    ensures put { (meanings : Meanings) (now tag : List ℕ) (state : State) (mode : Mode) (account : ℕ) (store : StoreState) (said : Said) (folder : ℕ)
-        → TellsTrees meanings.has_tree → IsAuthenticated mode account state → MayBePut meanings mode account store said folder
-        → step meanings now state store tag (append_of said) ≡ put_step now tag state store said folder }
+    ensures put { (oracles : Oracles) (now tag : List ℕ) (state : State) (mode : Mode) (account : ℕ) (store : StoreState) (said : Said) (folder : ℕ)
+        → TellsTrees oracles.has_tree → IsAuthenticated mode account state → MayBePut oracles mode account store said folder
+        → step oracles now state store tag (append_of said) ≡ put_step now tag state store said folder }
     ensures change { (now tag : List ℕ) (state : State) (store : StoreState) (said : Said) (folder : ℕ)
         → changes_in (put_step now tag state store said folder).acts ≡ (appended folder said.flags (date_or now said.date) (completed said.octets) ∷ []) ∷ [] }
-    ensures either { (meanings : Meanings) (now tag : List ℕ) (state : State) (mode : Mode) (account : ℕ) (store : StoreState) (said : Said)
-        → TellsTrees meanings.has_tree → IsAuthenticated mode account state
-        → let taken = step meanings now state store tag (append_of said) in
-        IsPut meanings now tag state mode account store said taken ⊎ IsRefused meanings tag state mode account store said taken }
+    ensures either { (oracles : Oracles) (now tag : List ℕ) (state : State) (mode : Mode) (account : ℕ) (store : StoreState) (said : Said)
+        → TellsTrees oracles.has_tree → IsAuthenticated mode account state
+        → let taken = step oracles now state store tag (append_of said) in
+        IsPut oracles now tag state mode account store said taken ⊎ IsRefused oracles tag state mode account store said taken }
     ensures none { (tag : List ℕ) (state : State) (cause : Cause) → changes_in (says tag (words_of_cause cause) state).acts ≡ [] }
-    ensures before { (meanings : Meanings) (now tag : List ℕ) (store : StoreState) (said : Said)
-        → step meanings now not_authenticated store tag (append_of said) ≡ out_of_order tag not_authenticated }
+    ensures before { (oracles : Oracles) (now tag : List ℕ) (store : StoreState) (said : Said)
+        → step oracles now not_authenticated store tag (append_of said) ≡ out_of_order tag not_authenticated }
 {}
 
 /// Only CREATE, APPEND, STORE, FETCH, EXPUNGE and CLOSE may change the store, and no command does before login. Where a folder was opened by EXAMINE
 /// only what adds something to the store changes it.
 pub fn few_commands_change_the_store()
-    ensures others { (meanings : Meanings) (now tag : List ℕ) (state : State) (store : StoreState) (said : Command) → changes_store said ≡ false
-        → changes_in (step meanings now state store tag said).acts ≡ [] }
-    ensures before { (meanings : Meanings) (now tag : List ℕ) (store : StoreState) (said : Command) → changes_in (step meanings now not_authenticated store tag said).acts ≡ [] }
-    ensures examined { (meanings : Meanings) (now tag : List ℕ) (mode : Mode) (account folder : ℕ) (store : StoreState) (said : Command) → adds_to_store said ≡ false
-        → changes_in (step meanings now (selected mode account folder true) store tag said).acts ≡ [] }
+    ensures others { (oracles : Oracles) (now tag : List ℕ) (state : State) (store : StoreState) (said : Command) → changes_store said ≡ false
+        → changes_in (step oracles now state store tag said).acts ≡ [] }
+    ensures before { (oracles : Oracles) (now tag : List ℕ) (store : StoreState) (said : Command) → changes_in (step oracles now not_authenticated store tag said).acts ≡ [] }
+    ensures examined { (oracles : Oracles) (now tag : List ℕ) (mode : Mode) (account folder : ℕ) (store : StoreState) (said : Command) → adds_to_store said ≡ false
+        → changes_in (step oracles now (selected mode account folder true) store tag said).acts ≡ [] }
 {}
 
 /// Until a session has ended each command is answered: all that it does is done before the line with its tag is given, which is the last.
 pub fn each_command_is_answered()
-    ensures { (meanings : Meanings) (now tag : List ℕ) (state : State) (store : StoreState) (said : Command) → state ≢ ended
-        → EndsTagged tag (step meanings now state store tag said) }
+    ensures { (oracles : Oracles) (now tag : List ℕ) (state : State) (store : StoreState) (said : Command) → state ≢ ended
+        → EndsTagged tag (step oracles now state store tag said) }
 {}
 
 /// Behind a stream the machine's store is the one before it with the changes that its commands make.
 pub fn the_store_has_the_changes()
-    ensures { (meanings : Meanings) (machine : Machine) (octets : List ℕ) → let turn = all_turns (next_turn meanings) machine octets in
+    ensures { (oracles : Oracles) (machine : Machine) (octets : List ℕ) → let turn = all_turns (next_turn oracles) machine octets in
         turn.after.store ≡ with_records machine.store (records_of (changes_in turn.parts)) }
 {}
 
 /// Only FETCH and UID FETCH ask the cache for messages, and no command does once UTF-8 is enabled. In a legacy session each message that is told
 /// is asked for once, in their order, where an item is of the message itself: flags, UID and date are kept beside it.
 pub fn only_fetch_asks_for_messages()
-    ensures others { (meanings : Meanings) (now tag : List ℕ) (state : State) (store : StoreState) (said : Command) → is_fetch said ≡ false
-        → asked_in (step meanings now state store tag said).acts ≡ [] }
-    ensures enabled { (meanings : Meanings) (now tag : List ℕ) (state : State) (store : StoreState) (said : Command) → mode_of state ≡ enabled
-        → asked_in (step meanings now state store tag said).acts ≡ [] }
-    ensures once { (meanings : Meanings) (now tag : List ℕ) (account folder : ℕ) (read_only : Bool) (store : StoreState) (by_uid : Bool) (set : Set) (items : List FetchItem)
+    ensures others { (oracles : Oracles) (now tag : List ℕ) (state : State) (store : StoreState) (said : Command) → is_fetch said ≡ false
+        → asked_in (step oracles now state store tag said).acts ≡ [] }
+    ensures enabled { (oracles : Oracles) (now tag : List ℕ) (state : State) (store : StoreState) (said : Command) → mode_of state ≡ enabled
+        → asked_in (step oracles now state store tag said).acts ≡ [] }
+    ensures once { (oracles : Oracles) (now tag : List ℕ) (account folder : ℕ) (read_only : Bool) (store : StoreState) (by_uid : Bool) (set : Set) (items : List FetchItem)
         → list_any is_of_message items ≡ true → is_refused by_uid set (listed store.kept folder) ≡ false
-        → asked_in (step meanings now (selected legacy account folder read_only) store tag (command_is.Fetch by_uid set items)).acts ≡ map (asked_as store) (chosen by_uid set (listed store.kept folder)) }
-    ensures beside { (meanings : Meanings) (now tag : List ℕ) (mode : Mode) (account folder : ℕ) (read_only : Bool) (store : StoreState) (by_uid : Bool) (set : Set) (items : List FetchItem)
-        → list_any is_of_message items ≡ false → asked_in (step meanings now (selected mode account folder read_only) store tag (command_is.Fetch by_uid set items)).acts ≡ [] }
-    ensures refused { (meanings : Meanings) (now tag : List ℕ) (mode : Mode) (account folder : ℕ) (read_only : Bool) (store : StoreState) (by_uid : Bool) (set : Set) (items : List FetchItem)
-        → is_refused by_uid set (listed store.kept folder) ≡ true → asked_in (step meanings now (selected mode account folder read_only) store tag (command_is.Fetch by_uid set items)).acts ≡ [] }
+        → asked_in (step oracles now (selected legacy account folder read_only) store tag (command_is.Fetch by_uid set items)).acts ≡ map (asked_as store) (chosen by_uid set (listed store.kept folder)) }
+    ensures beside { (oracles : Oracles) (now tag : List ℕ) (mode : Mode) (account folder : ℕ) (read_only : Bool) (store : StoreState) (by_uid : Bool) (set : Set) (items : List FetchItem)
+        → list_any is_of_message items ≡ false → asked_in (step oracles now (selected mode account folder read_only) store tag (command_is.Fetch by_uid set items)).acts ≡ [] }
+    ensures refused { (oracles : Oracles) (now tag : List ℕ) (mode : Mode) (account folder : ℕ) (read_only : Bool) (store : StoreState) (by_uid : Bool) (set : Set) (items : List FetchItem)
+        → is_refused by_uid set (listed store.kept folder) ≡ true → asked_in (step oracles now (selected mode account folder read_only) store tag (command_is.Fetch by_uid set items)).acts ≡ [] }
 {}

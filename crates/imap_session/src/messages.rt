@@ -10,7 +10,7 @@ ghost use Rattle.mail_store.specs.StoreState.{StoreState};
 ghost use Rattle.session_core.specs.Acts.{Act, changes};
 ghost use Rattle.session_core.specs.Desks.{IsOpen};
 ghost use Rattle.session_core.specs.Keeps.{Keeps, fault_of};
-ghost use Rattle.session_core.specs.Meanings.{Meanings, WithMeanings};
+ghost use Rattle.session_core.specs.Oracles.{Oracles, WithOracles};
 ghost use Rattle.imap_session.specs.Machine.{Numbered, flags_change, numbered_at};
 ghost use Rattle.imap_session.specs.Replies.{ReplyPart, part_octets};
 ghost use Rattle.imap_session.specs.private.Messages.{HasNewFlags, KeepsListing, ShowsAlike};
@@ -24,7 +24,7 @@ use session_core::Outside;
 
 /// What is done with each message.
 pub trait EachMessage {
-    ghost acts: { Self → Meanings → StoreState → Numbered → List (Act ReplyPart) };
+    ghost acts: { Self → Oracles → StoreState → Numbered → List (Act ReplyPart) };
 
     /// What it needs.
     ghost may_take: { Self → Type 0 };
@@ -40,9 +40,9 @@ pub trait EachMessage {
         requires ready { may_take self.now }
         requires opens { IsOpen outside.old.desk }
         requires live { IsLive (slice_get outside.old.desk.store.kept.messages one.old.id) }
-        ensures carries { WithMeanings (λ meanings. (store : StoreState) → ShowsAlike store outside.old.desk.store
-            → Carries (part_octets meanings) outside.old outside.new (fault_of result) pending.old pending.new
-            (acts self.now meanings store (record { number = number; listed = one.old }))) }
+        ensures carries { WithOracles (λ oracles. (store : StoreState) → ShowsAlike store outside.old.desk.store
+            → Carries (part_octets oracles) outside.old outside.new (fault_of result) pending.old pending.new
+            (acts self.now oracles store (record { number = number; listed = one.old }))) }
         ensures flags { OnOk result (HasNewFlags outside.old.desk.store.kept outside.new.desk.store.kept one.old one.new) }
         ensures keeps { Keeps outside.old outside.new (fault_of result) };
 }
@@ -52,7 +52,7 @@ pub fn give_pending<W: Wire, J: Keeper, C: Clock>(
     pending: &mut Octets,
     outside: &mut Outside<W, J, C>,
 ) -> Result<(), Fault>
-    ensures carries { (meanings : Meanings) → Carries (part_octets meanings) outside.old outside.new (fault_of result) pending.old pending.new [] }
+    ensures carries { (oracles : Oracles) → Carries (part_octets oracles) outside.old outside.new (fault_of result) pending.old pending.new [] }
     ensures nothing { OnOk result (pending.new ≡ []) }
     ensures desk { OnOk result (outside.new.desk ≡ outside.old.desk) }
     ensures keeps { Keeps outside.old outside.new (fault_of result) }
@@ -70,7 +70,7 @@ fn give_piece<W: Wire, J: Keeper, C: Clock>(
     pending: &mut Octets,
     outside: &mut Outside<W, J, C>,
 ) -> Result<(), Fault>
-    ensures carries { (meanings : Meanings) → Carries (part_octets meanings) outside.old outside.new (fault_of result) pending.old pending.new [] }
+    ensures carries { (oracles : Oracles) → Carries (part_octets oracles) outside.old outside.new (fault_of result) pending.old pending.new [] }
     ensures desk { OnOk result (outside.new.desk ≡ outside.old.desk) }
     ensures keeps { Keeps outside.old outside.new (fault_of result) }
 {
@@ -90,7 +90,7 @@ pub fn change_flags<W: Wire, J: Keeper, C: Clock>(
 ) -> Result<(), Fault>
     requires opens { IsOpen outside.old.desk }
     requires live { IsLive (slice_get outside.old.desk.store.kept.messages one.old.id) }
-    ensures carries { (meanings : Meanings) → Carries (part_octets meanings) outside.old outside.new (fault_of result) pending.old pending.new
+    ensures carries { (oracles : Oracles) → Carries (part_octets oracles) outside.old outside.new (fault_of result) pending.old pending.new
         (changes (flags_change one.old (flags_stored op one.old.flags named)) ∷ []) }
     ensures changed { OnOk result (one.new ≡ record one.old { flags = flags_stored op one.old.flags named }) }
     ensures kept { OnOk result (outside.new.desk.store.kept
@@ -118,8 +118,8 @@ pub fn take_each<E: EachMessage, W: Wire, J: Keeper, C: Clock>(
     requires rising { IsStrictlyIncreasing places.now }
     requires few { length messages.old.items < 2 ^ 32 }
     requires within { All (λ place. place < length messages.old.items) places.now }
-    ensures carries { WithMeanings (λ meanings. Carries (part_octets meanings) outside.old outside.new (fault_of result) pending.old pending.new
-        (flat_map (E.acts each.now meanings outside.old.desk.store) (flat_map (numbered_at messages.old.items) places.now))) }
+    ensures carries { WithOracles (λ oracles. Carries (part_octets oracles) outside.old outside.new (fault_of result) pending.old pending.new
+        (flat_map (E.acts each.now oracles outside.old.desk.store) (flat_map (numbered_at messages.old.items) places.now))) }
     ensures listing { OnOk result (KeepsListing outside.old.desk.store outside.new.desk.store messages.old.items messages.new.items) }
     ensures keeps { Keeps outside.old outside.new (fault_of result) }
 {

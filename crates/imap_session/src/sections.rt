@@ -8,11 +8,11 @@ ghost use Rattle.surrogate_rope.specs.Served.{IsShownOf, shown_octets, shown_out
 ghost use Rattle.mail_store.specs.StoreState.{StoreState};
 ghost use Rattle.session_core.specs.Desks.{stored_octets};
 ghost use Rattle.session_core.specs.Keeps.{Keeps, fault_of};
-ghost use Rattle.session_core.specs.Meanings.{WithMeanings};
+ghost use Rattle.session_core.specs.Oracles.{WithOracles};
 ghost use Rattle.imap_session.specs.Items.{field_name, fields_word as word_of_fields, part_words, partial_span as span_of_partial, partial_text, section_name, span_parts};
 ghost use Rattle.imap_session.specs.Machine.{reply};
 ghost use Rattle.imap_session.specs.Replies.{part_octets};
-ghost use Rattle.imap_session.specs.private.Asking.{AsksStored, IsAsked, IsOfMessage, IsWanted, apart_octets, asked_parts, head_octets, name_of, wanted_place};
+ghost use Rattle.imap_session.specs.private.Asking.{AsksStored, IsAsked, IsOfMessage, IsWanted, separator_octets, asked_parts, head_octets, name_of, wanted_place};
 ghost use Rattle.imap_session.specs.private.Messages.{ShowsAlike};
 ghost use Rattle.imap_session.specs.private.Pending.{Carries};
 ghost use Rattle.imap_session.specs.private.Shown.{IsShownIn, names_all, names_message};
@@ -44,10 +44,10 @@ pub fn push_number(made: &mut Octets, word: &[u8], number: usize) -> Result<(), 
 }
 
 // Puts an octet last where something stands before what comes next.
-fn push_apart(made: &mut Octets, octet: u8, apart: bool) -> Result<(), Memory>
-    ensures { OnOk result (made.new ≡ made.old ++ apart_octets octet apart) }
+fn push_separator(made: &mut Octets, octet: u8, is_separated: bool) -> Result<(), Memory>
+    ensures { OnOk result (made.new ≡ made.old ++ separator_octets octet is_separated) }
 {
-    if apart {
+    if is_separated {
         made.push(octet)?;
     }
     Ok(())
@@ -56,11 +56,11 @@ fn push_apart(made: &mut Octets, octet: u8, apart: bool) -> Result<(), Memory>
 fn push_path(name: &mut Octets, path: &[u32]) -> Result<(), Memory>
     ensures { OnOk result (name.new ≡ name.old ++ join_with_byte 46 (map decimal path.now)) }
 {
-    let mut apart = false;
+    let mut is_separated = false;
     for number in path {
-        push_apart(name, b'.', apart)?;
+        push_separator(name, b'.', is_separated)?;
         push_number(name, b"", *number as usize)?;
-        apart = true;
+        is_separated = true;
     }
     Ok(())
 }
@@ -85,11 +85,11 @@ fn push_field_name(alloc: Global, name: &mut Octets, field: &[u8]) -> Result<(),
 fn push_field_names(alloc: Global, name: &mut Octets, fields: &[Octets]) -> Result<(), Memory>
     ensures { OnOk result (name.new ≡ name.old ++ join_with_byte 32 (map field_name fields.now)) }
 {
-    let mut apart = false;
+    let mut is_separated = false;
     for field in fields {
-        push_apart(name, b' ', apart)?;
+        push_separator(name, b' ', is_separated)?;
         push_field_name(alloc, name, field.as_slice())?;
-        apart = true;
+        is_separated = true;
     }
     Ok(())
 }
@@ -147,7 +147,7 @@ pub fn is_message(path: &[u32], part: &SectionPart) -> bool
 }
 
 // Whether a part has a word behind a path.
-fn stands_apart(path: &[u32], part: &SectionPart) -> bool
+fn has_separator(path: &[u32], part: &SectionPart) -> bool
     ensures { result ≡ (not (names_all part.now) && not (length path.now == 0)) }
 {
     !is_whole(part) && !path.is_empty()
@@ -176,7 +176,7 @@ fn push_section(
 {
     name.push_slice(b"BODY[")?;
     push_path(name, path)?;
-    push_apart(name, b'.', stands_apart(path, part))?;
+    push_separator(name, b'.', has_separator(path, part))?;
     push_word(alloc, name, part)?;
     name.push(b']')?;
     push_partial(name, partial)
@@ -326,7 +326,7 @@ fn give_span<V: Kind, W: Wire, J: Keeper, C: Clock>(
     requires id { one.now.id < length outside.old.desk.store.kept.messages }
     requires shown { IsShownIn V.mode (stored_octets outside.old.desk.store one.now.id) shown.now }
     requires within { span.at + span.len ≤ length (shown_octets (stored_octets outside.old.desk.store one.now.id) shown.now) }
-    ensures carries { WithMeanings (λ meanings. (store : StoreState) → ShowsAlike store outside.old.desk.store → Carries (part_octets meanings) outside.old outside.new (fault_of result)
+    ensures carries { WithOracles (λ oracles. (store : StoreState) → ShowsAlike store outside.old.desk.store → Carries (part_octets oracles) outside.old outside.new (fault_of result)
         pending.old pending.new (reply (span_parts V.mode store one.now (name_of asked.now) span))) }
     ensures desk { OnOk result (outside.new.desk ≡ outside.old.desk) }
     ensures keeps { Keeps outside.old outside.new (fault_of result) }
@@ -345,8 +345,8 @@ pub fn put_stored<V: Kind, W: Wire, J: Keeper, C: Clock>(
 ) -> Result<(), Fault>
     requires id { one.now.id < length outside.old.desk.store.kept.messages }
     requires stored { AsksStored (is_enabled V.mode) asked.now }
-    ensures carries { WithMeanings (λ meanings. (store : StoreState) → ShowsAlike store outside.old.desk.store → Carries (part_octets meanings) outside.old outside.new (fault_of result)
-        pending.old pending.new (reply (asked_parts meanings V.mode store one.now asked.now))) }
+    ensures carries { WithOracles (λ oracles. (store : StoreState) → ShowsAlike store outside.old.desk.store → Carries (part_octets oracles) outside.old outside.new (fault_of result)
+        pending.old pending.new (reply (asked_parts oracles V.mode store one.now asked.now))) }
     ensures desk { OnOk result (outside.new.desk ≡ outside.old.desk) }
     ensures keeps { Keeps outside.old outside.new (fault_of result) }
 {
@@ -394,8 +394,8 @@ pub fn put_section<V: Kind, W: Wire, J: Keeper, C: Clock>(
 ) -> Result<(), Fault>
     requires id { one.now.id < length outside.old.desk.store.kept.messages }
     requires shown { IsShownIn V.mode (stored_octets outside.old.desk.store one.now.id) shown.now }
-    ensures carries { WithMeanings (λ meanings. (store : StoreState) → ShowsAlike store outside.old.desk.store → Carries (part_octets meanings) outside.old outside.new (fault_of result)
-        pending.old pending.new (reply (asked_parts meanings V.mode store one.now asked.now))) }
+    ensures carries { WithOracles (λ oracles. (store : StoreState) → ShowsAlike store outside.old.desk.store → Carries (part_octets oracles) outside.old outside.new (fault_of result)
+        pending.old pending.new (reply (asked_parts oracles V.mode store one.now asked.now))) }
     ensures desk { OnOk result (outside.new.desk ≡ outside.old.desk) }
     ensures keeps { Keeps outside.old outside.new (fault_of result) }
 {

@@ -11,15 +11,15 @@ ghost use Rattle.session_core.specs.Changes.{calls_of};
 ghost use Rattle.session_core.specs.Desks.{IsOpen};
 ghost use Rattle.session_core.specs.Doing.{Does, Makes};
 ghost use Rattle.session_core.specs.Keeps.{Keeps, fault_of};
-ghost use Rattle.session_core.specs.Meanings.{WithMeanings};
+ghost use Rattle.session_core.specs.Oracles.{WithOracles};
 ghost use Rattle.imap_session.specs.Machine.{State, authenticated, close_step, date_or, deleted_ids as ids_of_deleted, done, ends_with, expunge_step, fetch_step, for_each, lacks_date, numbered_at, selected as selected_in, selected_step, store_step};
 ghost use Rattle.imap_session.specs.Replies.{part_octets};
 ghost use Rattle.imap_session.specs.Session.{IsSaid, KnowsFolder, KnowsNext, TakesStep, TakesStepAt, state_or_ended};
-ghost use Rattle.imap_session.specs.private.Appending.{command_of, letter_step};
+ghost use Rattle.imap_session.specs.private.Appending.{command_of, request_step};
 ghost use Rattle.imap_session.specs.private.Messages.{KeepsListing, selects_or_appends};
 ghost use Rattle.imap_session.specs.private.Selected.{AreListed, KnowsSelected};
 
-use crate::appending::{Letter, append_within, date_of};
+use crate::appending::{AppendRequest, append_within, date_of};
 use crate::commands::{answer_on_folders, select};
 use crate::expunging::{deleted_ids, expunge_lines};
 use crate::fetching::Fetching;
@@ -50,8 +50,8 @@ fn answer_each<E: EachMessage, W: Wire, J: Keeper, C: Clock>(
     requires few { length messages.old.items < 2 ^ 32 }
     requires rising { IsStrictlyIncreasing places.now }
     requires within { All (λ place. place < length messages.old.items) places.now }
-    ensures does { WithMeanings (λ meanings. (state : State) → Does (part_octets meanings) outside.old outside.new (fault_of result)
-        (ends_with tag.now done (flat_map (E.acts each.now meanings outside.old.desk.store) (flat_map (numbered_at messages.old.items) places.now)) state).acts) }
+    ensures does { WithOracles (λ oracles. (state : State) → Does (part_octets oracles) outside.old outside.new (fault_of result)
+        (ends_with tag.now done (flat_map (E.acts each.now oracles outside.old.desk.store) (flat_map (numbered_at messages.old.items) places.now)) state).acts) }
     ensures listing { OnOk result (KeepsListing outside.old.desk.store outside.new.desk.store messages.old.items messages.new.items) }
     ensures keeps { Keeps outside.old outside.new (fault_of result) }
 {
@@ -73,8 +73,8 @@ fn answer_over<E: EachMessage, W: Wire, J: Keeper, C: Clock>(
     requires opens { IsOpen outside.old.desk }
     requires listing { AreListed outside.old.desk.store.kept messages.old.items }
     requires few { length messages.old.items < 2 ^ 32 }
-    ensures does { WithMeanings (λ meanings. (state : State) → Does (part_octets meanings) outside.old outside.new (fault_of result)
-        (for_each tag.now state by_uid set.now messages.old.items (E.acts each.now meanings outside.old.desk.store)).acts) }
+    ensures does { WithOracles (λ oracles. (state : State) → Does (part_octets oracles) outside.old outside.new (fault_of result)
+        (for_each tag.now state by_uid set.now messages.old.items (E.acts each.now oracles outside.old.desk.store)).acts) }
     ensures listing { OnOk result (KeepsListing outside.old.desk.store outside.new.desk.store messages.old.items messages.new.items) }
     ensures keeps { Keeps outside.old outside.new (fault_of result) }
 {
@@ -95,8 +95,8 @@ fn fetch<V: Kind, W: Wire, J: Keeper, C: Clock>(
 ) -> Result<(), Fault>
     requires opens { IsOpen outside.old.desk }
     requires known { KnowsSelected outside.old.desk.store selected.old }
-    ensures does { WithMeanings (λ meanings. (state : State) → Does (part_octets meanings) outside.old outside.new (fault_of result)
-        (fetch_step meanings tag.now state V.mode selected.old.folder selected.old.read_only outside.old.desk.store by_uid set.now items.now).acts) }
+    ensures does { WithOracles (λ oracles. (state : State) → Does (part_octets oracles) outside.old outside.new (fault_of result)
+        (fetch_step oracles tag.now state V.mode selected.old.folder selected.old.read_only outside.old.desk.store by_uid set.now items.now).acts) }
     ensures known { OnOk result (KnowsSelected outside.new.desk.store selected.new) }
     ensures same { selected.new ≡ record selected.old { messages = selected.new.messages } }
     ensures keeps { Keeps outside.old outside.new (fault_of result) }
@@ -120,7 +120,7 @@ fn store<W: Wire, J: Keeper, C: Clock>(
 ) -> Result<(), Fault>
     requires opens { IsOpen outside.old.desk }
     requires known { KnowsSelected outside.old.desk.store selected.old }
-    ensures does { WithMeanings (λ meanings. (state : State) → Does (part_octets meanings) outside.old outside.new (fault_of result)
+    ensures does { WithOracles (λ oracles. (state : State) → Does (part_octets oracles) outside.old outside.new (fault_of result)
         (store_step tag.now state selected.old.folder selected.old.read_only outside.old.desk.store storing.by_uid set.now storing.op storing.silent storing.named).acts) }
     ensures known { OnOk result (KnowsSelected outside.new.desk.store selected.new) }
     ensures same { selected.new ≡ record selected.old { messages = selected.new.messages } }
@@ -163,7 +163,7 @@ fn expunge<W: Wire, J: Keeper, C: Clock>(
 ) -> Result<(), Fault>
     requires opens { IsOpen outside.old.desk }
     requires known { KnowsSelected outside.old.desk.store selected.old }
-    ensures does { WithMeanings (λ meanings. (state : State) → Does (part_octets meanings) outside.old outside.new (fault_of result)
+    ensures does { WithOracles (λ oracles. (state : State) → Does (part_octets oracles) outside.old outside.new (fault_of result)
         (expunge_step tag.now state selected.old.read_only (listed outside.old.desk.store.kept selected.old.folder)).acts) }
     ensures known { OnOk result (KnowsSelected outside.new.desk.store selected.new) }
     ensures same { selected.new ≡ record selected.old { messages = selected.new.messages } }
@@ -186,7 +186,7 @@ fn close<W: Wire, J: Keeper, C: Clock>(
 ) -> Result<(), Fault>
     requires opens { IsOpen outside.old.desk }
     requires known { KnowsSelected outside.old.desk.store selected.now }
-    ensures does { WithMeanings (λ meanings. (state : State) → Does (part_octets meanings) outside.old outside.new (fault_of result)
+    ensures does { WithOracles (λ oracles. (state : State) → Does (part_octets oracles) outside.old outside.new (fault_of result)
         (close_step tag.now state selected.now.read_only (listed outside.old.desk.store.kept selected.now.folder)).acts) }
     ensures accounts { OnOk result (length outside.new.desk.store.kept.accounts ≡ length outside.old.desk.store.kept.accounts) }
     ensures keeps { Keeps outside.old outside.new (fault_of result) }
@@ -230,20 +230,20 @@ fn leave<V: Kind>(
 fn append_selected<V: Kind, W: Wire, J: Keeper, C: Clock>(
     mut imap: Imap<Selected, V>,
     tag: &[u8],
-    letter: &Letter,
+    request: &AppendRequest,
     outside: &mut Outside<W, J, C>,
 ) -> Result<Option<ImapState>, Fault>
     requires opens { IsOpen outside.old.desk }
     requires known { KnowsSelected outside.old.desk.store imap.state }
-    requires flags { letter.now.flags < 32 }
-    requires dated { IfSome letter.now.date.now IsDate }
-    ensures takes { TakesStepAt outside.old outside.new result (lacks_date (command_of letter.now)) (λ meanings now.
-        letter_step meanings tag.now (selected_in V.mode imap.state.account imap.state.folder imap.state.read_only) (Some imap.state.folder) V.mode imap.state.account outside.old.desk.store letter.now
-        (date_or now letter.now.date.now)) }
+    requires flags { request.now.flags < 32 }
+    requires dated { IfSome request.now.date.now IsDate }
+    ensures takes { TakesStepAt outside.old outside.new result (lacks_date (command_of request.now)) (λ oracles now.
+        request_step oracles tag.now (selected_in V.mode imap.state.account imap.state.folder imap.state.read_only) (Some imap.state.folder) V.mode imap.state.account outside.old.desk.store request.now
+        (date_or now request.now.date.now)) }
     ensures keeps { Keeps outside.old outside.new (fault_of result) }
 {
-    let date = date_of(letter.date, outside)?;
-    let done = append_within::<V, W, J, C>(&mut imap.state, tag, letter, date.as_slice(), outside);
+    let date = date_of(request.date, outside)?;
+    let done = append_within::<V, W, J, C>(&mut imap.state, tag, request, date.as_slice(), outside);
     stay(imap, done)
 }
 
@@ -258,8 +258,8 @@ fn answer_within<V: Kind, W: Wire, J: Keeper, C: Clock>(
     requires known { KnowsSelected outside.old.desk.store imap.state }
     requires other { selects_or_appends command.now ≡ false }
     requires stays { command.now ≢ command_is.Close }
-    ensures takes { (now : List ℕ) → TakesStep outside.old outside.new result (λ meanings.
-        selected_step meanings now tag.now V.mode imap.state.account imap.state.folder imap.state.read_only outside.old.desk.store command.now) }
+    ensures takes { (now : List ℕ) → TakesStep outside.old outside.new result (λ oracles.
+        selected_step oracles now tag.now V.mode imap.state.account imap.state.folder imap.state.read_only outside.old.desk.store command.now) }
     ensures keeps { Keeps outside.old outside.new (fault_of result) }
 {
     match command {
@@ -310,8 +310,8 @@ pub fn answer_selected<V: Kind, W: Wire, J: Keeper, C: Clock>(
     requires opens { IsOpen outside.old.desk }
     requires known { KnowsFolder outside.old.desk.store imap.state.account imap.state.folder imap.state.messages.items }
     requires said { IsSaid command.now }
-    ensures takes { TakesStepAt outside.old outside.new result (lacks_date command.now) (λ meanings now.
-        selected_step meanings now tag.now V.mode imap.state.account imap.state.folder imap.state.read_only outside.old.desk.store command.now) }
+    ensures takes { TakesStepAt outside.old outside.new result (lacks_date command.now) (λ oracles now.
+        selected_step oracles now tag.now V.mode imap.state.account imap.state.folder imap.state.read_only outside.old.desk.store command.now) }
     ensures keeps { Keeps outside.old outside.new (fault_of result) }
 {
     match command {
@@ -332,14 +332,14 @@ pub fn answer_selected<V: Kind, W: Wire, J: Keeper, C: Clock>(
             utf8,
             octets,
         } => {
-            let letter = Letter {
+            let request = AppendRequest {
                 written: name.as_slice(),
                 flags: *flags,
                 date,
                 in_utf8: *utf8,
                 octets: octets.as_slice(),
             };
-            append_selected(imap, tag, &letter, outside)
+            append_selected(imap, tag, &request, outside)
         }
         _ => answer_within(imap, tag, command, outside),
     }

@@ -16,7 +16,7 @@ use crate::replies::{TOO_LARGE, say};
 use crate::states::{Imap, ImapState};
 use imap_grammar::{Event, Reader};
 use mail_wire::{Clock, Fault, Keeper, Octets, Wire};
-use session_core::{Came, Machine, Outside, Served, Session, serve};
+use session_core::{Advance, Machine, Outside, Served, Session, serve};
 
 /// A session that has not ended: the reader of its commands, and its state.
 #[derive(Drop)]
@@ -78,7 +78,7 @@ fn answer_event<W: Wire, J: Keeper, C: Clock>(
     requires opens { IsOpen outside.old.desk }
     requires known { KnowsState outside.old.desk.store session }
     requires said { IsSaidIn event.now }
-    ensures takes { TakesStepAt outside.old outside.new result (event_takes (state_of session) event.now) (λ meanings now. due_step meanings now (state_of session) outside.old.desk.store event.now) }
+    ensures takes { TakesStepAt outside.old outside.new result (event_takes (state_of session) event.now) (λ oracles now. due_step oracles now (state_of session) outside.old.desk.store event.now) }
     ensures keeps { Keeps outside.old outside.new (fault_of result) }
 {
     match event {
@@ -96,15 +96,15 @@ fn answer_event<W: Wire, J: Keeper, C: Clock>(
     }
 }
 
-fn came_of(reader: Reader, next: Option<ImapState>, used: usize) -> Came<ImapMachine>
+fn advance_of(reader: Reader, next: Option<ImapState>, used: usize) -> Advance<ImapMachine>
     ensures { result ≡ record { next = machine_next reader next; used = used } }
 {
     match next {
-        Some(state) => Came {
+        Some(state) => Advance {
             next: Some(ImapMachine { reader, state }),
             used,
         },
-        None => Came { next: None, used },
+        None => Advance { next: None, used },
     }
 }
 
@@ -128,13 +128,13 @@ impl Machine for ImapMachine {
         kept: &mut Octets,
         piece: &[u8],
         outside: &mut Outside<W, J, C>,
-    ) -> Result<Came<Self>, Fault> {
+    ) -> Result<Advance<Self>, Fault> {
         let ImapMachine { mut reader, state } = self;
         let (used, event) = reader.feed(piece, is_enabled(&state))?;
         let answer = answer_event(state, &event, outside);
         drop(event);
         let next = answer?;
-        Ok(came_of(reader, next, used))
+        Ok(advance_of(reader, next, used))
     }
 
     ghost framed = { framed_by };

@@ -2,7 +2,7 @@
 ghost use Rattle.std.specs.Prelude.{◌≡◌, ◌<◌, ◌++◌, ⊤, OnOk, false};
 ghost use Rattle.mail_store.specs.StoreState.{StoreState};
 ghost use Rattle.session_core.specs.Keeps.{Keeps, fault_of};
-ghost use Rattle.session_core.specs.Meanings.{Meanings};
+ghost use Rattle.session_core.specs.Oracles.{Oracles};
 ghost use Rattle.imap_session.specs.Machine.{flags_reply, store_one};
 ghost use Rattle.imap_session.specs.Replies.{reply_octets};
 
@@ -31,7 +31,7 @@ fn push_flags_line(
     number: u32,
     one: &Listed,
 ) -> Result<(), Memory>
-    ensures { (meanings : Meanings) → OnOk result (pending.new ≡ pending.old ++ reply_octets meanings (flags_reply by_uid false (record { number = number; listed = one.now }) one.now.flags)) }
+    ensures { (oracles : Oracles) → OnOk result (pending.new ≡ pending.old ++ reply_octets oracles (flags_reply by_uid false (record { number = number; listed = one.now }) one.now.flags)) }
 {
     let front = if by_uid {
         format!(in alloc; "* {number} FETCH (UID {} ", one.uid)?
@@ -44,7 +44,7 @@ fn push_flags_line(
 }
 
 impl EachMessage for Storing {
-    ghost acts = { λ storing meanings store one. store_one storing.by_uid storing.silent storing.op storing.named one };
+    ghost acts = { λ storing oracles store one. store_one storing.by_uid storing.silent storing.op storing.named one };
 
     ghost may_take = { λ storing. ⊤ };
 

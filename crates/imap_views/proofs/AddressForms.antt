@@ -66,7 +66,7 @@ group_of ts text is =
       is_group = record {
         before = is.before;
         colon = is.named.at;
-        behind = is.behind;
+        following = is.following;
         whole = is.named.whole;
         is_colon = is.named.is_at;
         group = record {
@@ -95,17 +95,17 @@ place_form_walked ts text (inr (inr is)) = let g = group_of ts text is in place_
 
 -- ---- which form stands in a place
 
-pub place_malformed_named : (ts before behind : List TokenValue) → are_blank ts ≡ false → SplitsName ts before behind → ((text : List ℕ) → IsGroupForm ts text → ⊥) → (text : List ℕ) → IsPlaceForm ts text → ⊥
-place_malformed_named ts before behind not_blank s none text (inl blank) = both_ways (are_blank ts) not_blank blank.0
-place_malformed_named ts before behind not_blank s none text (inr (inl is)) = mailbox_no_name ts before behind is.mailbox s is.is_mailbox
-place_malformed_named ts before behind not_blank s none text (inr (inr is)) = none text is
+pub place_malformed_named : (ts before following : List TokenValue) → are_blank ts ≡ false → SplitsName ts before following → ((text : List ℕ) → IsGroupForm ts text → ⊥) → (text : List ℕ) → IsPlaceForm ts text → ⊥
+place_malformed_named ts before following not_blank s none text (inl blank) = both_ways (are_blank ts) not_blank blank.0
+place_malformed_named ts before following not_blank s none text (inr (inl is)) = mailbox_no_name ts before following is.mailbox s is.is_mailbox
+place_malformed_named ts before following not_blank s none text (inr (inr is)) = none text is
 
-pub place_malformed_unnamed : (ts : List TokenValue) → are_blank ts ≡ false → ((before behind : List TokenValue) → SplitsName ts before behind → ⊥) → ((text : List ℕ) → IsMailboxForm ts text → ⊥) → (text : List ℕ) → IsPlaceForm ts text → ⊥
+pub place_malformed_unnamed : (ts : List TokenValue) → are_blank ts ≡ false → ((before following : List TokenValue) → SplitsName ts before following → ⊥) → ((text : List ℕ) → IsMailboxForm ts text → ⊥) → (text : List ℕ) → IsPlaceForm ts text → ⊥
 place_malformed_unnamed ts not_blank unnamed none text (inl blank) = both_ways (are_blank ts) not_blank blank.0
 place_malformed_unnamed ts not_blank unnamed none text (inr (inl is)) = none text is
 place_malformed_unnamed ts not_blank unnamed none text (inr (inr is)) =
     let g = group_of ts text is in
-    unnamed g.is_group.before g.is_group.behind (group_name ts g.name g.members g.is_group)
+    unnamed g.is_group.before g.is_group.following (group_name ts g.name g.members g.is_group)
 
 -- members that are no mailboxes
 pub members_malformed : (ts : List TokenValue) → are_blank ts ≡ false → ((text : List ℕ) → AreDivided IsMailboxForm ts text → ⊥) → (text : List ℕ) → AreMemberForms ts text → ⊥

@@ -61,8 +61,8 @@ contents_ascii ts h = ascii_flat is_ascii_token content (λ t. said_ascii t.kind
 before_token : (ts front : List TokenValue) (t : TokenValue) (back : List TokenValue) → ts ≡ front ++ t ∷ back → AreAsciiTokens ts → AreAsciiTokens front
 before_token ts front t back e h = (pass-parts is_ascii_token front (t ∷ back) (rw (e) at h)).0
 
-behind_token : (ts front : List TokenValue) (t : TokenValue) (back : List TokenValue) → ts ≡ front ++ t ∷ back → AreAsciiTokens ts → AreAsciiTokens back
-behind_token ts front t back e h =
+after_token : (ts front : List TokenValue) (t : TokenValue) (back : List TokenValue) → ts ≡ front ++ t ∷ back → AreAsciiTokens ts → AreAsciiTokens back
+after_token ts front t back e h =
     (and_parts (is_ascii_token t) (list_all is_ascii_token back) (pass-parts is_ascii_token front (t ∷ back) (rw (e) at h)).1).1
 
 -- ---- phrases
@@ -126,19 +126,19 @@ record IsAsciiAddress (a : Address) : Type 0 where
 address_ascii : (ts : List TokenValue) (a : Address) → IsAddress ts a → AreAsciiTokens ts → IsAsciiAddress a
 address_ascii ts a is h = record {
   local = rw (is.local_says) (contents_ascii is.local (before_token ts is.local is.at is.domain is.whole h));
-  domain = rw (is.domain_says) (contents_ascii is.domain (behind_token ts is.local is.at is.domain is.whole h));
+  domain = rw (is.domain_says) (contents_ascii is.domain (after_token ts is.local is.at is.domain is.whole h));
 }
 
 routed_ascii : (ts : List TokenValue) (a : Address) → IsRoutedOrNot ts a → AreAsciiTokens ts → IsAsciiAddress a
 routed_ascii ts a (inl is) h = address_ascii ts a is h
-routed_ascii ts a (inr is) h = address_ascii is.behind a is.is_address (behind_token ts is.route is.colon is.behind is.whole h)
+routed_ascii ts a (inr is) h = address_ascii is.following a is.is_address (after_token ts is.route is.colon is.following is.whole h)
 
 mailbox_ascii : (ts : List TokenValue) (m : MailboxValue) → IsMailbox ts m → AreAsciiTokens ts → IsAsciiAddress m.address
 mailbox_ascii ts m (inl is) h = address_ascii ts m.address is.is_address h
 mailbox_ascii ts m (inr is) h =
     let a = is.angled in
-    let behind = behind_token ts is.before a.open_mark (is.inner ++ a.close_mark ∷ a.after) a.whole h in
-    routed_ascii is.inner m.address is.named.address (pass-parts is_ascii_token is.inner (a.close_mark ∷ a.after) behind).0
+    let following = after_token ts is.before a.open_mark (is.inner ++ a.close_mark ∷ a.after) a.whole h in
+    routed_ascii is.inner m.address is.named.address (pass-parts is_ascii_token is.inner (a.close_mark ∷ a.after) following).0
 
 name_ascii : (ts : List TokenValue) (phrase : Bool) (name : Option (List ℕ)) → IsPhraseName ts phrase name → AreAsciiTokens ts → IfSome name AreAscii
 name_ascii ts false name is h = rw (is) tt
@@ -162,7 +162,7 @@ parts_ascii Says each [] ts text d say h = absurd d
 parts_ascii Says each (p ∷ []) ts text d say h =
     rw (say.2, say.4) (pass-append is_ascii say.0 [] (each p say.0 say.3 (rw (d) at h)) refl)
 parts_ascii Says each (p ∷ n ∷ parts) ts text d say h =
-    rw (say.2) (pass-append is_ascii say.0 say.1 (each p say.0 say.3 (before_token ts p d.0 d.1 d.2 h)) (parts_ascii Says each (n ∷ parts) d.1 say.1 d.4 say.4 (behind_token ts p d.0 d.1 d.2 h)))
+    rw (say.2) (pass-append is_ascii say.0 say.1 (each p say.0 say.3 (before_token ts p d.0 d.1 d.2 h)) (parts_ascii Says each (n ∷ parts) d.1 say.1 d.4 say.4 (after_token ts p d.0 d.1 d.2 h)))
 
 divided_ascii : (Says : List TokenValue → List ℕ → Type 0) → KeepsAscii Says → KeepsAscii (AreDivided Says)
 divided_ascii Says each ts text d h = parts_ascii Says each d.parts ts text d.divided d.say h
@@ -181,9 +181,9 @@ group_end_ascii = form_ascii (nil ∷ nil ∷ nil ∷ nil ∷ []) (refl, (refl, 
 
 group_ascii : (ts : List TokenValue) (text : List ℕ) → IsGroupForm ts text → AreAsciiTokens ts → AreAscii text
 group_ascii ts text is h =
-    let start = group_start_ascii (plain_text is.before) (plain_ascii is.before (before_token ts is.before is.named.at is.behind is.named.whole h)) in
-    let behind = behind_token ts is.before is.named.at is.behind is.named.whole h in
-    let members = members_ascii is.inner is.members is.are_members (before_token is.behind is.inner is.ended.at is.after is.ended.whole behind) in
+    let start = group_start_ascii (plain_text is.before) (plain_ascii is.before (before_token ts is.before is.named.at is.following is.named.whole h)) in
+    let following = after_token ts is.before is.named.at is.following is.named.whole h in
+    let members = members_ascii is.inner is.members is.are_members (before_token is.following is.inner is.ended.at is.after is.ended.whole following) in
     rw (is.text_is) (pass-append is_ascii (group_start (plain_text is.before)) (is.members ++ group_end) start (pass-append is_ascii is.members group_end members group_end_ascii))
 
 place_ascii : (ts : List TokenValue) (text : List ℕ) → IsPlaceForm ts text → AreAsciiTokens ts → AreAscii text

@@ -30,15 +30,15 @@ all_raws_ascii header raws has h = rw (has.raws_are) (raws_ascii header has.fiel
 
 body_ascii : (raw : List ℕ) (f : FieldParts) → HasParts raw f → AreAscii raw → AreAscii f.body
 body_ascii raw f is h =
-    let behind_name = pass-parts is_ascii f.name (f.white ++ 58 ∷ (f.body ++ f.ending)) (rw (is.spelled) at h) in
-    let behind_white = pass-parts is_ascii f.white (58 ∷ (f.body ++ f.ending)) behind_name.1 in
-    (pass-parts is_ascii f.body f.ending behind_white.1).0
+    let after_name = pass-parts is_ascii f.name (f.white ++ 58 ∷ (f.body ++ f.ending)) (rw (is.spelled) at h) in
+    let following_white = pass-parts is_ascii f.white (58 ∷ (f.body ++ f.ending)) after_name.1 in
+    (pass-parts is_ascii f.body f.ending following_white.1).0
 
 value_ascii : (raw value : List ℕ) (f : FieldParts) → HasParts raw f → HasValue f.body value → AreAscii raw → AreAscii value
 value_ascii raw value f is has h =
     let plain : AreAscii (unfolded f.body) = rw (unfolded-folded f.body is.body) (pass_filter is_ascii (λ x. not (is_line_end x)) f.body (body_ascii raw f is h)) in
-    let behind = pass-parts is_ascii has.lead (value ++ has.trail) (rw (has.whole) at plain) in
-    (pass-parts is_ascii value has.trail behind.1).0
+    let following = pass-parts is_ascii has.lead (value ++ has.trail) (rw (has.whole) at plain) in
+    (pass-parts is_ascii value has.trail following.1).0
 
 some_ascii : (text : List ℕ) (value : Option (List ℕ)) → value ≡ Some text → AreAscii text → IfSome value AreAscii
 some_ascii text value e h = rw (e) h

@@ -14,9 +14,9 @@ use Rattle.param_grammar.specs.declared.ParamKind.{ParamKind}
 use Rattle.param_grammar.specs.declared.Piece.{Piece}
 use Rattle.param_grammar.specs.Bodies.{inner, unquoted, is_filled, IsPiece, ArePieces, solid}
 use Rattle.address_grammar.specs.Addresses.{quoted_string}
-use Rattle.imap_views.specs.Strings.{before_mark, behind_mark}
+use Rattle.imap_views.specs.Strings.{before_mark, after_mark}
 use Rattle.imap_views.specs.Parts.{HasPieces, value_said, pair_of, pairs_of, TypeValue, usual_type, IsTypeSaid, IsTypeBy, IsDispositionBy, IsSoleAtom, IsEncodingBy, PartValue, SaysPart}
-use Rattle.imap_views.proofs.AsciiTexts.{AreAscii, AreAllAscii, pass_filter, quoted_ascii, parentheses_ascii, listed_ascii, before_ascii, behind_ascii}
+use Rattle.imap_views.proofs.AsciiTexts.{AreAscii, AreAllAscii, pass_filter, quoted_ascii, parentheses_ascii, listed_ascii, before_ascii, following_ascii}
 use Rattle.imap_views.proofs.AsciiFields.{first_ascii}
 use Rattle.imap_views.proofs.AsciiAddresses.{is_ascii_token, AreAsciiTokens, tokens_ascii}
 
@@ -67,9 +67,9 @@ value_ascii (x ∷ octets) h = by (x == 34)
 
 pair_ascii : (piece : Piece) → AreAscii piece.written → AreAscii (pair_of piece)
 pair_ascii piece h =
-    pass-append is_ascii (quoted_string (before_mark 61 piece.written)) (32 ∷ quoted_string (value_said (behind_mark 61 piece.written)))
+    pass-append is_ascii (quoted_string (before_mark 61 piece.written)) (32 ∷ quoted_string (value_said (after_mark 61 piece.written)))
     (quoted_ascii (before_mark 61 piece.written) (before_ascii 61 piece.written h))
-    (quoted_ascii (value_said (behind_mark 61 piece.written)) (value_ascii (behind_mark 61 piece.written) (behind_ascii 61 piece.written h)))
+    (quoted_ascii (value_said (after_mark 61 piece.written)) (value_ascii (after_mark 61 piece.written) (following_ascii 61 piece.written h)))
 
 all_pairs : (pieces : List Piece) → AreAsciiPieces pieces → AreAllAscii (map pair_of pieces)
 all_pairs [] h = tt

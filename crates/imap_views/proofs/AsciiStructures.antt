@@ -17,10 +17,10 @@ use Rattle.surrogate_rope.specs.Served.{IsShownOf, shown_octets, shown_outlines}
 use Rattle.surrogate_rope.specs.declared.shown.Shown.{Shown}
 use Rattle.surrogate_rope.specs.declared.shown.Shown.TheVariants.{Whole, Rope}
 use Rattle.address_grammar.specs.Addresses.{quoted_string}
-use Rattle.imap_views.specs.Strings.{nil, nstring, before_mark, behind_mark}
+use Rattle.imap_views.specs.Strings.{nil, nstring, before_mark, after_mark}
 use Rattle.imap_views.specs.Parts.{PartValue, main_type, sub_type}
-use Rattle.imap_views.specs.Structures.{Seen, ended_lines, header_at, content_at, behind_spaces, where_extended, basic_words, size_of, lines_in, text_lines, part_extension, leaf_form, message_form, multipart_extension, multipart_form, FormRelation, AreForms, IsShapedForm, IsPartAt, IsForm, HasStructure}
-use Rattle.imap_views.proofs.AsciiTexts.{AreAscii, AreAllAscii, quoted_ascii, nstring_ascii, parentheses_ascii, spaced_ascii, before_ascii, behind_ascii}
+use Rattle.imap_views.specs.Structures.{Seen, ended_lines, header_at, content_at, after_spaces, where_extended, basic_words, size_of, lines_in, text_lines, part_extension, leaf_form, message_form, multipart_extension, multipart_form, FormRelation, AreForms, IsShapedForm, IsPartAt, IsForm, HasStructure}
+use Rattle.imap_views.proofs.AsciiTexts.{AreAscii, AreAllAscii, quoted_ascii, nstring_ascii, parentheses_ascii, spaced_ascii, before_ascii, following_ascii}
 use Rattle.imap_views.proofs.AsciiFields.{joined_ascii, all_raws_ascii}
 use Rattle.imap_views.proofs.AsciiParts.{IsAsciiPart, part_ascii}
 use Rattle.imap_views.proofs.AsciiViews.{has_envelope_ascii}
@@ -28,9 +28,9 @@ use Rattle.imap_views.proofs.TreeHeaders.{HasHeader, tree_headers}
 
 -- ---- one part
 
-spaces_ascii : (texts : List (List ℕ)) → AreAllAscii texts → AreAscii (behind_spaces texts)
+spaces_ascii : (texts : List (List ℕ)) → AreAllAscii texts → AreAscii (after_spaces texts)
 spaces_ascii [] h = refl
-spaces_ascii (text ∷ texts) h = pass-append is_ascii text (behind_spaces texts) h.0 (spaces_ascii texts h.1)
+spaces_ascii (text ∷ texts) h = pass-append is_ascii text (after_spaces texts) h.0 (spaces_ascii texts h.1)
 
 extended_ascii : (seen : Seen) (text : List ℕ) → AreAscii text → AreAscii (where_extended seen text)
 extended_ascii seen text h = by seen.extended
@@ -44,7 +44,7 @@ basic_ascii part size is =
     spaced_ascii (main_type part.typed.main ∷ sub_type part.typed.main ∷ part.typed.params ∷ nstring part.id ∷ nstring part.description ∷ quoted_string part.encoding ∷ decimal size ∷ []) (
       quoted_ascii (before_mark 47 part.typed.main) (before_ascii 47 part.typed.main is.main),
       (
-        quoted_ascii (behind_mark 47 part.typed.main) (behind_ascii 47 part.typed.main is.main),
+        quoted_ascii (after_mark 47 part.typed.main) (following_ascii 47 part.typed.main is.main),
         (
           is.params,
           (
@@ -58,12 +58,12 @@ basic_ascii part size is =
 text_lines_ascii : (seen : Seen) (outline : Outline) (part : PartValue) → AreAscii (text_lines seen outline part)
 text_lines_ascii seen outline part = by (starts_with nat_eq part.typed.main (codes "text/"))
   where
-    by : (b : Bool) → AreAscii (cond b (behind_spaces (lines_in seen outline ∷ [])) [])
+    by : (b : Bool) → AreAscii (cond b (after_spaces (lines_in seen outline ∷ [])) [])
     by true = spaces_ascii (lines_in seen outline ∷ []) (ascii-decimal (ended_lines (content_at seen outline)), tt)
     by false = refl
 
 part_extension_ascii : (seen : Seen) (part : PartValue) → IsAsciiPart part → AreAscii (part_extension seen part)
-part_extension_ascii seen part is = extended_ascii seen (behind_spaces (nil ∷ part.disposition ∷ nil ∷ nil ∷ [])) (spaces_ascii (nil ∷ part.disposition ∷ nil ∷ nil ∷ []) (refl, (is.disposition, (refl, (refl, tt)))))
+part_extension_ascii seen part is = extended_ascii seen (after_spaces (nil ∷ part.disposition ∷ nil ∷ nil ∷ [])) (spaces_ascii (nil ∷ part.disposition ∷ nil ∷ nil ∷ []) (refl, (is.disposition, (refl, (refl, tt)))))
 
 leaf_ascii : (seen : Seen) (outline : Outline) (part : PartValue) → IsAsciiPart part → AreAscii (leaf_form seen outline part)
 leaf_ascii seen outline part is =
@@ -73,18 +73,18 @@ leaf_ascii seen outline part is =
 
 message_ascii : (seen : Seen) (outline : Outline) (part : PartValue) (envelope body : List ℕ) → IsAsciiPart part → AreAscii envelope → AreAscii body → AreAscii (message_form seen outline part envelope body)
 message_ascii seen outline part envelope body is e b =
-    let words = behind_spaces (envelope ∷ body ∷ lines_in seen outline ∷ []) in
+    let words = after_spaces (envelope ∷ body ∷ lines_in seen outline ∷ []) in
     parentheses_ascii (basic_words part (size_of outline) ++ (words ++ part_extension seen part))
     (pass-append is_ascii (basic_words part (size_of outline)) (words ++ part_extension seen part) (basic_ascii part (size_of outline) is)
     (pass-append is_ascii words (part_extension seen part) (spaces_ascii (envelope ∷ body ∷ lines_in seen outline ∷ []) (e, (b, (ascii-decimal (ended_lines (content_at seen outline)), tt)))) (part_extension_ascii seen part is)))
 
 multipart_ascii : (seen : Seen) (part : PartValue) (parts : List ℕ) → IsAsciiPart part → AreAscii parts → AreAscii (multipart_form seen part parts)
 multipart_ascii seen part parts is h =
-    let words = behind_spaces (sub_type part.typed.main ∷ []) in
+    let words = after_spaces (sub_type part.typed.main ∷ []) in
     let more = part.typed.params ∷ part.disposition ∷ nil ∷ nil ∷ [] in
-    let extension = extended_ascii seen (behind_spaces more) (spaces_ascii more (is.params, (is.disposition, (refl, (refl, tt))))) in
+    let extension = extended_ascii seen (after_spaces more) (spaces_ascii more (is.params, (is.disposition, (refl, (refl, tt))))) in
     parentheses_ascii (parts ++ (words ++ multipart_extension seen part)) (pass-append is_ascii parts (words ++ multipart_extension seen part) h
-    (pass-append is_ascii words (multipart_extension seen part) (spaces_ascii (sub_type part.typed.main ∷ []) (quoted_ascii (behind_mark 47 part.typed.main) (behind_ascii 47 part.typed.main is.main), tt)) extension))
+    (pass-append is_ascii words (multipart_extension seen part) (spaces_ascii (sub_type part.typed.main ∷ []) (quoted_ascii (after_mark 47 part.typed.main) (following_ascii 47 part.typed.main is.main), tt)) extension))
 
 -- ---- parts in parts
 

@@ -5,7 +5,7 @@ use Rattle.std.specs.List.{list_all, flat_map, AllByRecursion}
 use Rattle.mail_wire.specs.Octets.{is_ascii}
 use Rattle.mail_wire.proofs.AllLemmas.{pass-append}
 use Rattle.address_grammar.specs.Addresses.{quoted_octet, quoted_string}
-use Rattle.imap_views.specs.Strings.{nstring, in_parentheses, spaced, listed, before_mark, behind_mark}
+use Rattle.imap_views.specs.Strings.{nstring, in_parentheses, spaced, listed, before_mark, after_mark}
 
 abbrev pub AreAscii : List ℕ → Type 0
 AreAscii octets = list_all is_ascii octets ≡ true
@@ -73,13 +73,13 @@ before_ascii mark (x ∷ octets) h =
     by true first more = refl
     by false first more = and_from (is_ascii x) (list_all is_ascii (before_mark mark octets)) first more
 
-pub behind_ascii : (mark : ℕ) (octets : List ℕ) → AreAscii octets → AreAscii (behind_mark mark octets)
-unfolding behind_mark
-behind_ascii mark [] h = refl
-behind_ascii mark (x ∷ octets) h =
+pub following_ascii : (mark : ℕ) (octets : List ℕ) → AreAscii octets → AreAscii (after_mark mark octets)
+unfolding after_mark
+following_ascii mark [] h = refl
+following_ascii mark (x ∷ octets) h =
     let rest = (and_parts (is_ascii x) (list_all is_ascii octets) h).1 in
-    by (x == mark) rest (behind_ascii mark octets rest)
+    by (x == mark) rest (following_ascii mark octets rest)
   where
-    by : (b : Bool) → AreAscii octets → AreAscii (behind_mark mark octets) → AreAscii (cond b octets (behind_mark mark octets))
+    by : (b : Bool) → AreAscii octets → AreAscii (after_mark mark octets) → AreAscii (cond b octets (after_mark mark octets))
     by true rest more = rest
     by false rest more = more

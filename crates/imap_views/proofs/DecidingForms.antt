@@ -36,7 +36,7 @@ group_given ts name ms is =
       group_start (plain_text is.before) ++ (members.0 ++ group_end),
       record {
         before = is.before;
-        behind = is.behind;
+        following = is.following;
         named = (group_name ts name ms is).splits;
         is_phrase = by.is_phrase;
         inner = by.inner;

@@ -2,15 +2,15 @@
 use Rattle.std.proofs.Common.{◌≡◌, ℕ, List, [], ◌∷◌, ◌++◌, codes, refl, sym, ap, ◌∙◌}
 use Rattle.std.proofs.lemmas.List.{append-nil}
 use Rattle.imap_views.specs.Strings.{AddsText, spaced}
-use Rattle.imap_views.specs.Structures.{behind_spaces}
+use Rattle.imap_views.specs.Structures.{after_spaces}
 use Rattle.imap_views.specs.Envelopes.{IsStringOf, AreAddressesOf, AreAddressesOr, IsEnvelope}
-use Rattle.imap_views.specs.private.Reading.{AddsBehindSpace, HasAllAddresses, HasSenders}
-use Rattle.imap_views.proofs.SpacedLemmas.{behind_put, spaced_one, spaced_more, spaced_put}
+use Rattle.imap_views.specs.private.Reading.{AddsAfterSpace, HasAllAddresses, HasSenders}
+use Rattle.imap_views.proofs.SpacedLemmas.{after_put, spaced_one, spaced_more, spaced_put}
 
 pub senders_put : (raws : List (List ℕ)) (from old a b new : List ℕ) → AreAddressesOf (codes "From") raws from → a ≡ old ++ 32 ∷ from
-    → AddsBehindSpace (AreAddressesOr from (codes "Sender") raws) a b → AddsBehindSpace (AreAddressesOr from (codes "Reply-To") raws) b new → AddsText (HasSenders raws) old new
+    → AddsAfterSpace (AreAddressesOr from (codes "Sender") raws) a b → AddsAfterSpace (AreAddressesOr from (codes "Reply-To") raws) b new → AddsText (HasSenders raws) old new
 senders_put raws from old a b new is_from is_a sender reply_to = (
-  behind_spaces (from ∷ sender.0 ∷ reply_to.0 ∷ []),
+  after_spaces (from ∷ sender.0 ∷ reply_to.0 ∷ []),
   record {
     from = from;
     is_from = is_from;
@@ -20,15 +20,15 @@ senders_put raws from old a b new is_from is_a sender reply_to = (
     is_reply_to = reply_to.1;
     text_is = refl;
   },
-  behind_put old (from ∷ sender.0 ∷ []) reply_to.0 b new (behind_put old (from ∷ []) sender.0 a b (behind_put old [] from old a (sym (append-nil old)) is_a) sender.2) reply_to.2,
+  after_put old (from ∷ sender.0 ∷ []) reply_to.0 b new (after_put old (from ∷ []) sender.0 a b (after_put old [] from old a (sym (append-nil old)) is_a) sender.2) reply_to.2,
 )
 
-pub all_addresses : (raws : List (List ℕ)) (old a b c new : List ℕ) → AddsText (HasSenders raws) old a → AddsBehindSpace (AreAddressesOf (codes "To") raws) a b
-    → AddsBehindSpace (AreAddressesOf (codes "Cc") raws) b c → AddsBehindSpace (AreAddressesOf (codes "Bcc") raws) c new → AddsText (HasAllAddresses raws) old new
+pub all_addresses : (raws : List (List ℕ)) (old a b c new : List ℕ) → AddsText (HasSenders raws) old a → AddsAfterSpace (AreAddressesOf (codes "To") raws) a b
+    → AddsAfterSpace (AreAddressesOf (codes "Cc") raws) b c → AddsAfterSpace (AreAddressesOf (codes "Bcc") raws) c new → AddsText (HasAllAddresses raws) old new
 all_addresses raws old a b c new senders to cc bcc =
     let said = senders.1 in
-    let is_a : a ≡ old ++ behind_spaces (said.from ∷ said.sender ∷ said.reply_to ∷ []) = senders.2 ∙ ap (λ m. old ++ m) said.text_is in (
-      behind_spaces (said.from ∷ said.sender ∷ said.reply_to ∷ to.0 ∷ cc.0 ∷ bcc.0 ∷ []),
+    let is_a : a ≡ old ++ after_spaces (said.from ∷ said.sender ∷ said.reply_to ∷ []) = senders.2 ∙ ap (λ m. old ++ m) said.text_is in (
+      after_spaces (said.from ∷ said.sender ∷ said.reply_to ∷ to.0 ∷ cc.0 ∷ bcc.0 ∷ []),
       record {
         from = said.from;
         is_from = said.is_from;
@@ -44,13 +44,13 @@ all_addresses raws old a b c new senders to cc bcc =
         is_bcc = bcc.1;
         text_is = refl;
       },
-      behind_put old (said.from ∷ said.sender ∷ said.reply_to ∷ to.0 ∷ cc.0 ∷ []) bcc.0 c new (behind_put old (said.from ∷ said.sender ∷ said.reply_to ∷ to.0 ∷ []) cc.0 b c
-          (behind_put old (said.from ∷ said.sender ∷ said.reply_to ∷ []) to.0 a b is_a to.2) cc.2) bcc.2,
+      after_put old (said.from ∷ said.sender ∷ said.reply_to ∷ to.0 ∷ cc.0 ∷ []) bcc.0 c new (after_put old (said.from ∷ said.sender ∷ said.reply_to ∷ to.0 ∷ []) cc.0 b c
+          (after_put old (said.from ∷ said.sender ∷ said.reply_to ∷ []) to.0 a b is_a to.2) cc.2) bcc.2,
     )
 
 pub envelope_made : (raws : List (List ℕ)) (old start a b c d e made : List ℕ) → old ≡ [] → start ≡ old ++ 40 ∷ [] → AddsText (IsStringOf (codes "Date") raws) start a
-    → AddsBehindSpace (IsStringOf (codes "Subject") raws) a b → AddsText (HasAllAddresses raws) b c → AddsBehindSpace (IsStringOf (codes "In-Reply-To") raws) c d
-    → AddsBehindSpace (IsStringOf (codes "Message-ID") raws) d e → made ≡ e ++ 41 ∷ [] → IsEnvelope raws made
+    → AddsAfterSpace (IsStringOf (codes "Subject") raws) a b → AddsText (HasAllAddresses raws) b c → AddsAfterSpace (IsStringOf (codes "In-Reply-To") raws) c d
+    → AddsAfterSpace (IsStringOf (codes "Message-ID") raws) d e → made ≡ e ++ 41 ∷ [] → IsEnvelope raws made
 envelope_made raws old start a b c d e made empty is_start date subject addresses in_reply_to message_id is_made = record {
   date = date.0;
   is_date = date.1;

@@ -15,7 +15,7 @@ use Rattle.imap_views.specs.declared.structures.Seeing.{Seeing}
 use Rattle.imap_views.specs.Envelopes.{HasEnvelope, IsEnvelope}
 use Rattle.imap_views.specs.Parts.{PartValue, SaysPart, sub_type}
 use Rattle.imap_views.specs.Strings.{AddsText, in_parentheses}
-use Rattle.imap_views.specs.Structures.{Seen, AreForms, FormRelation, HasStructure, IsForm, IsMessageForm, IsMultipartForm, IsShapedForm, basic_words, behind_spaces, header_at, lines_in, multipart_extension, part_extension, size_of}
+use Rattle.imap_views.specs.Structures.{Seen, AreForms, FormRelation, HasStructure, IsForm, IsMessageForm, IsMultipartForm, IsShapedForm, basic_words, after_spaces, header_at, lines_in, multipart_extension, part_extension, size_of}
 use Rattle.imap_views.specs.private.Reading.{AreStanding, HasChildren, IsInPlace, IsRead, IsSeeing, IsStanding, part_value, raws_in, seen_by}
 use Rattle.imap_views.proofs.Standing.{shown_stands}
 
@@ -128,7 +128,7 @@ has_envelope octets text header same read is = (
 
 message_text : (old basic envelope body lines extension : List ℕ)
     → (((((((((old ++ 40 ∷ []) ++ basic) ++ 32 ∷ []) ++ envelope) ++ 32 ∷ []) ++ body) ++ 32 ∷ lines) ++ extension) ++ 41 ∷ [])
-    ≡ old ++ in_parentheses (basic ++ (behind_spaces (envelope ∷ body ∷ lines ∷ []) ++ extension))
+    ≡ old ++ in_parentheses (basic ++ (after_spaces (envelope ∷ body ∷ lines ∷ []) ++ extension))
 message_text old basic envelope body lines extension = simp (append_assoc, append-nil)
 
 -- a message: what comes before its body's form, the form, and what follows
@@ -140,7 +140,7 @@ adds_message levels number seen outline child part old before after new envelope
     let basic : List ℕ = basic_words part (size_of outline) in
     let lines : List ℕ = lines_in seen outline in
     let extension : List ℕ = part_extension seen part in (
-      in_parentheses (basic ++ (behind_spaces (envelope ∷ adds.0 ∷ lines ∷ []) ++ extension)),
+      in_parentheses (basic ++ (after_spaces (envelope ∷ adds.0 ∷ lines ∷ []) ++ extension)),
       record { child = child; has_child = is_child; envelope = envelope; is_envelope = is_envelope; body = adds.0; is_body = adds.1; text_is = refl },
       new_is ∙ ap (λ text. ((text ++ 32 ∷ lines) ++ extension) ++ 41 ∷ []) (adds.2 ∙ ap (λ text. text ++ adds.0) before_is) ∙ message_text old basic envelope adds.0 lines extension,
     )
@@ -179,9 +179,9 @@ numbers_are seeing number numbers is within numbers_is =
     ∙ ap (λ all. children_from 0 all number) (sym outlines)
 
 multipart_text : (old parts sub extension : List ℕ)
-    → (((((old ++ 40 ∷ []) ++ parts) ++ 32 ∷ []) ++ sub) ++ extension) ++ 41 ∷ [] ≡ old ++ in_parentheses (parts ++ (behind_spaces (sub ∷ []) ++ extension))
+    → (((((old ++ 40 ∷ []) ++ parts) ++ 32 ∷ []) ++ sub) ++ extension) ++ 41 ∷ [] ≡ old ++ in_parentheses (parts ++ (after_spaces (sub ∷ []) ++ extension))
 multipart_text old parts sub extension =
-    let inside : (((parts ++ 32 ∷ []) ++ sub) ++ extension) ++ 41 ∷ [] ≡ (parts ++ (behind_spaces (sub ∷ []) ++ extension)) ++ 41 ∷ [] =
+    let inside : (((parts ++ 32 ∷ []) ++ sub) ++ extension) ++ 41 ∷ [] ≡ (parts ++ (after_spaces (sub ∷ []) ++ extension)) ++ 41 ∷ [] =
     ap (λ text. text ++ 41 ∷ []) (ap (λ text. text ++ extension) (append_assoc parts (32 ∷ []) sub) ∙ append_assoc parts (32 ∷ sub) extension ∙ ap (λ text. parts ++ 32 ∷ (text ++ extension)) (sym (append-nil sub))) in
     let begun : (((((old ++ 40 ∷ []) ++ parts) ++ 32 ∷ []) ++ sub) ++ extension) ++ 41 ∷ [] ≡ old ++ 40 ∷ ((((parts ++ 32 ∷ []) ++ sub) ++ extension) ++ 41 ∷ []) = simp append_assoc in
     begun ∙ ap (λ text. old ++ 40 ∷ text) inside
@@ -195,7 +195,7 @@ adds_multipart levels number seen digest part numbers at old begun after new num
     let extension : List ℕ = multipart_extension seen part in
     let are : AreForms (IsForm levels seen) (is_digest_type part.typed.main) (children_from 0 seen.outlines number) forms.0 =
     subst (λ all. AreForms (IsForm levels seen) (is_digest_type part.typed.main) all forms.0) numbers_is (subst (λ b. AreForms (IsForm levels seen) b (take at numbers) forms.0) digest_is forms.1) in (
-      in_parentheses (forms.0 ++ (behind_spaces (sub ∷ []) ++ extension)),
+      in_parentheses (forms.0 ++ (after_spaces (sub ∷ []) ++ extension)),
       record { parts = forms.0; are_parts = are; text_is = refl },
       new_is ∙ ap (λ text. (((text ++ 32 ∷ []) ++ sub) ++ extension) ++ 41 ∷ []) (forms.2 ∙ ap (λ text. text ++ forms.0) begun_is) ∙ multipart_text old forms.0 sub extension,
     )

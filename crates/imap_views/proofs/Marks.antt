@@ -2,7 +2,7 @@
 use Rattle.std.proofs.Common.{◌≡◌, ℕ, ◌==◌, true, not, List, [], ◌∷◌, ◌++◌, refl, ap, ◌∙◌}
 use Rattle.std.proofs.lemmas.Bool.{and_parts, not-true, cond-true, cond-false, eq-eqb}
 use Rattle.encoded_words.specs.private.Parts.{lacks}
-use Rattle.imap_views.specs.Strings.{before_mark, behind_mark}
+use Rattle.imap_views.specs.Strings.{before_mark, after_mark}
 
 pub before_found : (mark : ℕ) (front rest : List ℕ) → lacks mark front ≡ true → before_mark mark (front ++ mark ∷ rest) ≡ front
 unfolding before_mark
@@ -11,12 +11,12 @@ before_found mark (x ∷ front) rest h =
     let parts = and_parts (not (x == mark)) (lacks mark front) h in
     cond-false _ _ _ (not-true (x == mark) parts.0) ∙ ap (λ r. x ∷ r) (before_found mark front rest parts.1)
 
-pub behind_found : (mark : ℕ) (front rest : List ℕ) → lacks mark front ≡ true → behind_mark mark (front ++ mark ∷ rest) ≡ rest
-unfolding behind_mark
-behind_found mark [] rest h = cond-true _ _ _ (eq-eqb mark mark refl)
-behind_found mark (x ∷ front) rest h =
+pub after_found : (mark : ℕ) (front rest : List ℕ) → lacks mark front ≡ true → after_mark mark (front ++ mark ∷ rest) ≡ rest
+unfolding after_mark
+after_found mark [] rest h = cond-true _ _ _ (eq-eqb mark mark refl)
+after_found mark (x ∷ front) rest h =
     let parts = and_parts (not (x == mark)) (lacks mark front) h in
-    cond-false _ _ _ (not-true (x == mark) parts.0) ∙ behind_found mark front rest parts.1
+    cond-false _ _ _ (not-true (x == mark) parts.0) ∙ after_found mark front rest parts.1
 
 pub before_missing : (mark : ℕ) (octets : List ℕ) → lacks mark octets ≡ true → before_mark mark octets ≡ octets
 unfolding before_mark
@@ -25,9 +25,9 @@ before_missing mark (x ∷ octets) h =
     let parts = and_parts (not (x == mark)) (lacks mark octets) h in
     cond-false _ _ _ (not-true (x == mark) parts.0) ∙ ap (λ r. x ∷ r) (before_missing mark octets parts.1)
 
-pub behind_missing : (mark : ℕ) (octets : List ℕ) → lacks mark octets ≡ true → behind_mark mark octets ≡ []
-unfolding behind_mark
-behind_missing mark [] h = refl
-behind_missing mark (x ∷ octets) h =
+pub after_missing : (mark : ℕ) (octets : List ℕ) → lacks mark octets ≡ true → after_mark mark octets ≡ []
+unfolding after_mark
+after_missing mark [] h = refl
+after_missing mark (x ∷ octets) h =
     let parts = and_parts (not (x == mark)) (lacks mark octets) h in
-    cond-false _ _ _ (not-true (x == mark) parts.0) ∙ behind_missing mark octets parts.1
+    cond-false _ _ _ (not-true (x == mark) parts.0) ∙ after_missing mark octets parts.1

@@ -34,8 +34,8 @@ members_once ts a b (inr p) (inr q) = divided_once IsMailboxForm mailbox_form_wa
 
 group_form_once : (ts : List TokenValue) (a b : List ℕ) → IsGroupForm ts a → IsGroupForm ts b → a ≡ b
 group_form_once ts a b p q =
-    let cut = splits_once 58 ts p.before p.behind q.before q.behind p.named q.named in
-    let end = splits_once 59 q.behind p.inner p.after q.inner q.after (subst (λ behind. SplitsAt 59 behind p.inner p.after) cut.rest p.ended) q.ended in
+    let cut = splits_once 58 ts p.before p.following q.before q.following p.named q.named in
+    let end = splits_once 59 q.following p.inner p.after q.inner q.after (subst (λ following. SplitsAt 59 following p.inner p.after) cut.rest p.ended) q.ended in
     let members : p.members ≡ q.members = members_once q.inner p.members q.members (subst (λ inner. AreMemberForms inner p.members) end.front p.are_members) q.are_members in
     p.text_is ∙ ap (λ before. group_start (plain_text before) ++ (p.members ++ group_end)) cut.front
     ∙ ap (λ members. group_start (plain_text q.before) ++ (members ++ group_end)) members ∙ sym q.text_is
@@ -48,7 +48,7 @@ group_not_blank ts text is blank = let group = group_of ts text is in element_no
 not_both : (ts : List TokenValue) (a b : List ℕ) → IsMailboxForm ts a → IsGroupForm ts b → ⊥
 not_both ts a b p q =
     let group = group_of ts b q in
-    mailbox_no_name ts group.is_group.before group.is_group.behind p.mailbox (group_name ts group.name group.members group.is_group) p.is_mailbox
+    mailbox_no_name ts group.is_group.before group.is_group.following p.mailbox (group_name ts group.name group.members group.is_group) p.is_mailbox
 
 pub place_form_once : SaysOnce IsPlaceForm
 place_form_once ts a b (inl p) (inl q) = p.1 ∙ sym q.1

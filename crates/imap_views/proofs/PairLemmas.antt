@@ -8,8 +8,8 @@ use Rattle.param_grammar.specs.Places.{IsPlaced, ArePlaced, no_piece, piece_in}
 use Rattle.param_grammar.proofs.PlaceLemmas.{ArePlaced-at, ArePlaced-length}
 use Rattle.imap_views.specs.Strings.{spaced}
 use Rattle.imap_views.specs.Parts.{pair_of, pairs_of}
-use Rattle.imap_views.specs.Structures.{behind_spaces}
-use Rattle.imap_views.proofs.SpacedLemmas.{spaced_behind}
+use Rattle.imap_views.specs.Structures.{after_spaces}
+use Rattle.imap_views.proofs.SpacedLemmas.{spaced_after}
 
 -- a piece at the first place, and at the others
 abbrev pub PlacedFirst : List ℕ → Place → List Place → List Piece → Type 0
@@ -22,10 +22,10 @@ placed_first text places others first pieces e are = subst (λ ps. ArePlaced tex
 pub record PairsGo (text : List ℕ) (places others : List Place) (k : ℕ) (made : List ℕ) : Type 0 where
   pub some : (pieces : List Piece) × ArePlaced text others pieces
   pub goes : (pieces : List Piece) → ArePlaced text places pieces
-      → (piece : Piece) × (more : List Piece) × ArePlaced text others more × (pieces ≡ piece ∷ more) × (made ++ behind_spaces (map pair_of (drop k more)) ≡ 40 ∷ spaced (map pair_of pieces))
+      → (piece : Piece) × (more : List Piece) × ArePlaced text others more × (pieces ≡ piece ∷ more) × (made ++ after_spaces (map pair_of (drop k more)) ≡ 40 ∷ spaced (map pair_of pieces))
 
-pair_begun : (piece : Piece) (more : List Piece) (opened made : List ℕ) → opened ≡ 40 ∷ [] → made ≡ opened ++ pair_of piece → made ++ behind_spaces (map pair_of more) ≡ 40 ∷ spaced (map pair_of (piece ∷ more))
-pair_begun piece more opened made is_opened is_made = rw (is_made, is_opened, spaced_behind) refl
+pair_begun : (piece : Piece) (more : List Piece) (opened made : List ℕ) → opened ≡ 40 ∷ [] → made ≡ opened ++ pair_of piece → made ++ after_spaces (map pair_of more) ≡ 40 ∷ spaced (map pair_of (piece ∷ more))
+pair_begun piece more opened made is_opened is_made = rw (is_made, is_opened, spaced_after) refl
 
 pub PairsGo-begun : (text : List ℕ) (places others : List Place) (first : Place) (opened made : List ℕ) → ((pieces : List Piece) × ArePlaced text places pieces) → places ≡ first ∷ others → opened ≡ 40 ∷ []
     → ((piece : Piece) → IsPlaced text first piece → made ≡ opened ++ pair_of piece) → PairsGo text places others 0 made
@@ -52,13 +52,13 @@ PairsGo-turn text places others k made between new d go below apart puts = recor
       let g = go.goes pieces are in
       let at = ArePlaced-at text others g.1 k d g.2 below in
       let within : k < length g.1 = omega (arith, below, ArePlaced-length text others g.1 g.2) in
-      let rest = behind_spaces (map pair_of (drop (k + 1) g.1)) in (
+      let rest = after_spaces (map pair_of (drop (k + 1) g.1)) in (
         g.0,
         g.1,
         g.2,
         g.3,
         seam made between new (pair_of (piece_in g.1 k)) rest apart (puts (piece_in g.1 k) at)
-            ∙ ap (λ ps. made ++ behind_spaces (map pair_of ps)) (sym (drop_more g.1 k no_piece within)) ∙ g.4,
+            ∙ ap (λ ps. made ++ after_spaces (map pair_of ps)) (sym (drop_more g.1 k no_piece within)) ∙ g.4,
       );
 }
 
@@ -70,5 +70,5 @@ pub PairsGo-end : (text : List ℕ) (places others : List Place) (k : ℕ) (made
 PairsGo-end text places others k made last go past put pieces are =
     let g = go.goes pieces are in
     let end : length g.1 ≤ k = omega (arith, past, ArePlaced-length text others g.1 g.2) in
-    let whole : made ≡ 40 ∷ spaced (map pair_of pieces) = sym (append-nil made) ∙ ap (λ ps. made ++ behind_spaces (map pair_of ps)) (sym (drop_of_length-le g.1 end)) ∙ g.4 in
+    let whole : made ≡ 40 ∷ spaced (map pair_of pieces) = sym (append-nil made) ∙ ap (λ ps. made ++ after_spaces (map pair_of ps)) (sym (drop_of_length-le g.1 end)) ∙ g.4 in
     closed g.0 g.1 made last (whole ∙ ap (λ ps. 40 ∷ spaced (map pair_of ps)) g.3) put ∙ ap pairs_of (sym g.3)

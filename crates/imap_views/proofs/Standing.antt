@@ -317,18 +317,18 @@ with_stand octets all extended levels parent depth number at lines entities is s
       within = omega arith;
       has_block = block;
     } in
-    let behind = among_back all number (is.entity ∷ []) is.inner (λ n low. (parent_other n (omega arith), tt)) here in
-    (outline_of is.entity, place, inner head.content_lines behind (among_children all number is.entity is.inner (parent_other number (omega arith)) here))
+    let following = among_back all number (is.entity ∷ []) is.inner (λ n low. (parent_other n (omega arith), tt)) here in
+    (outline_of is.entity, place, inner head.content_lines following (among_children all number is.entity is.inner (parent_other number (omega arith)) here))
 
 entity_stands : (levels : ℕ) (octets : List ℕ) (all : List Entity) (extended : Bool) → StandsIn octets all (IsEntity levels octets) (IsStanding (suc levels) (seen_of octets all extended))
 unfolding StandsIn IsEntity
 entity_stands zero octets all extended = λ parent digest number at lines entities is stand others among.
-    with_stand octets all extended zero parent (depth_max + 1) number at lines entities is.0 stand others among (λ content behind children. rw is.1 tt)
+    with_stand octets all extended zero parent (depth_max + 1) number at lines entities is.0 stand others among (λ content following children. rw is.1 tt)
 entity_stands (suc levels) octets all extended = λ parent digest number at lines entities is stand others among.
     with_stand octets all extended (suc levels) parent _ number at lines entities is.0 stand others among
-    (λ content behind children.
+    (λ content following children.
     opened_stand octets all (IsEntity levels octets) (IsStanding (suc levels) (seen_of octets all extended)) (entity_parents levels octets) (entity_stands levels octets all extended) is.1 number
-    is.0.entity.body is.0.content is.0.entity.shape is.0.inner is.3 content behind children)
+    is.0.entity.body is.0.content is.0.entity.shape is.0.inner is.3 content following children)
 
 -- the whole message of a tree stands
 pub tree_stands : (octets : List ℕ) (entities : List Entity) (extended : Bool) → HasTree octets entities → IsStanding (depth_max + 1) (seen_of octets entities extended) 0

@@ -1,6 +1,7 @@
 -- The addresses of an envelope (RFC 3501, 7.4.2), over the lists of RFC 5322, 3.4.
 use Rattle.std.specs.Prelude.{◌≡◌, ℕ, ◌⊎◌, Bool, true, false, List, [], ◌∷◌, ◌++◌, map, Option, Some, None}
 use Rattle.std.specs.List.{flat_map}
+use Rattle.mail_wire.specs.Characters.{colon, semicolon, less_than}
 use Rattle.encoded_words.specs.PhraseUnits.{PhraseItem, Content, Separator, PhraseWord, phrase_words}
 use Rattle.field_tokens.specs.declared.TokenKind.{TokenKind}
 use Rattle.field_tokens.specs.declared.TokenKind.TheVariants.{Atom, Quoted, Literal, Special, Gap, Comment}
@@ -32,7 +33,8 @@ plain_text tokens = flat_map (λ (w : PhraseWord). w.octets ++ w.gap) (plain_wor
 -- The name of a mailbox is the phrase before its angle bracket, where there is a phrase.
 abbrev pub IsPhraseName : List TokenValue → Bool → Option (List ℕ) → Type 0
 IsPhraseName tokens false name = name ≡ None
-IsPhraseName tokens true name = (phrase : List TokenValue) × (behind : List TokenValue) × SplitsAt 60 tokens phrase behind × (name ≡ Some (plain_text phrase))
+IsPhraseName tokens true name =
+    (phrase : List TokenValue) × (following : List TokenValue) × SplitsAt less_than tokens phrase following × (name ≡ Some (plain_text phrase))
 
 -- (name NIL local domain)
 abbrev pub address_form : Option (List ℕ) → Address → List ℕ
@@ -61,12 +63,12 @@ group_end = in_parentheses (spaced (nil ∷ nil ∷ nil ∷ nil ∷ []))
 -- the tokens are a group, and this is its form: its start, its members and its end
 pub record IsGroupForm (tokens : List TokenValue) (text : List ℕ) : Type 0 where
   pub before : List TokenValue
-  pub behind : List TokenValue
-  pub named : SplitsAt 58 tokens before behind
+  pub following : List TokenValue
+  pub named : SplitsAt colon tokens before following
   pub is_phrase : IsPhrase before
   pub inner : List TokenValue
   pub after : List TokenValue
-  pub ended : SplitsAt 59 behind inner after
+  pub ended : SplitsAt semicolon following inner after
   pub nothing_after : are_blank after ≡ true
   pub members : List ℕ
   pub are_members : AreMemberForms inner members

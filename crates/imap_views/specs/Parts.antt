@@ -1,5 +1,6 @@
 -- What a part says of itself in its header block (RFC 2045, 5 and 6.1; RFC 2046, 5.1.5; RFC 2183).
 use Rattle.std.specs.Prelude.{◌≡◌, ℕ, ◌⊎◌, ◌==◌, Bool, if◌then◌else◌, List, [], ◌∷◌, ◌++◌, map, codes, Option, Some, None}
+use Rattle.mail_wire.specs.Characters.{space, quote, slash, equals_sign}
 use Rattle.field_tokens.specs.declared.Style.TheVariants.{Mime}
 use Rattle.field_tokens.specs.declared.TokenKind.TheVariants.{Atom}
 use Rattle.field_tokens.specs.Tokens.{TokenValue, HasTokenValues}
@@ -12,7 +13,7 @@ use Rattle.param_grammar.specs.Bodies.{HasBody, inner, unquoted}
 use Rattle.param_grammar.specs.Joining.{ParamValue, AreParams}
 use Rattle.mime_tree.specs.Openings.{IsFirstValue}
 use Rattle.address_grammar.specs.Addresses.{quoted_string}
-use Rattle.imap_views.specs.Strings.{nil, in_parentheses, listed, before_mark, behind_mark}
+use Rattle.imap_views.specs.Strings.{nil, in_parentheses, listed, before_mark, after_mark}
 
 -- ---- parameters
 
@@ -30,11 +31,11 @@ IsNoField kind text = (main : List ℕ) (pieces : List Piece) → ¬ HasPieces k
 -- a value as it is written, and what a quoted one holds
 abbrev pub value_said : List ℕ → List ℕ
 value_said [] = []
-value_said (x ∷ octets) = if x == 34 then unquoted (inner (x ∷ octets)) else x ∷ octets
+value_said (x ∷ octets) = if x == quote then unquoted (inner (x ∷ octets)) else x ∷ octets
 
 -- the name of a parameter as it is written, with stars and number, and its value
 abbrev pub pair_of : Piece → List ℕ
-pair_of piece = quoted_string (before_mark 61 piece.written) ++ 32 ∷ quoted_string (value_said (behind_mark 61 piece.written))
+pair_of piece = quoted_string (before_mark equals_sign piece.written) ++ space ∷ quoted_string (value_said (after_mark equals_sign piece.written))
 
 -- The parameters of a part as a list of names and values, or NIL (RFC 3501, 7.4.2).
 abbrev pub pairs_of : List Piece → List ℕ
@@ -49,7 +50,7 @@ pub record TypeValue : Type 0 where
 
 -- The parameters of a part that doesn't say its type: charset us-ascii (RFC 2045, 5.2).
 abbrev pub usual_params : List ℕ
-usual_params = in_parentheses (quoted_string (codes "charset") ++ 32 ∷ quoted_string (codes "us-ascii"))
+usual_params = in_parentheses (quoted_string (codes "charset") ++ space ∷ quoted_string (codes "us-ascii"))
 
 -- what a part is that doesn't say it: text, and inside a digest a message
 abbrev pub usual_type : Bool → TypeValue
@@ -72,7 +73,7 @@ IsTypeBy digest (Some text) said = IsTypeSaid text said ⊎ (IsNoField Content t
 
 -- (main parameters)
 abbrev pub disposition_form : List ℕ → List Piece → List ℕ
-disposition_form main pieces = in_parentheses (quoted_string main ++ 32 ∷ pairs_of pieces)
+disposition_form main pieces = in_parentheses (quoted_string main ++ space ∷ pairs_of pieces)
 
 -- a disposition, and NIL where there is none or a malformed one
 abbrev pub IsDispositionBy : Option (List ℕ) → List ℕ → Type 0
@@ -121,8 +122,8 @@ pub record SaysPart (digest : Bool) (raws : List (List ℕ)) (part : PartValue) 
 
 -- type subtype parameters id description encoding
 abbrev pub main_type : List ℕ → List ℕ
-main_type main = quoted_string (before_mark 47 main)
+main_type main = quoted_string (before_mark slash main)
 
 -- The subtype of a part, as a quoted string (RFC 3501, 7.4.2).
 abbrev pub sub_type : List ℕ → List ℕ
-sub_type main = quoted_string (behind_mark 47 main)
+sub_type main = quoted_string (after_mark slash main)

@@ -1,6 +1,7 @@
 -- Structures of messages, BODY and BODYSTRUCTURE (RFC 3501, 7.4.2), over the tree of a message's entities.
 use Rattle.std.specs.Prelude.{◌≡◌, ℕ, zero, suc, ◌+◌, ◌-◌, Bool, false, if◌then◌else◌, List, [], ◌∷◌, ◌++◌, codes, decimal, Some, slice_get, slice_range, nat_eq}
 use Rattle.std.specs.List.{starts_with}
+use Rattle.mail_wire.specs.Characters.{space}
 use Rattle.mail_wire.specs.Lines.{is_crlf}
 use Rattle.mime_tree.specs.declared.entity.Shape.{Shape}
 use Rattle.mime_tree.specs.declared.entity.Shape.TheVariants.{Leaf, Multipart, Message}
@@ -35,9 +36,9 @@ abbrev pub content_at : Seen → Outline → List ℕ
 content_at seen outline = slice_range seen.octets outline.body outline.end
 
 -- the texts, each behind a space
-abbrev pub behind_spaces : List (List ℕ) → List ℕ
-behind_spaces [] = []
-behind_spaces (text ∷ texts) = 32 ∷ (text ++ behind_spaces texts)
+abbrev pub after_spaces : List (List ℕ) → List ℕ
+after_spaces [] = []
+after_spaces (text ∷ texts) = space ∷ (text ++ after_spaces texts)
 
 -- The text in BODYSTRUCTURE, and nothing in BODY (RFC 3501, 7.4.2).
 abbrev pub where_extended : Seen → List ℕ → List ℕ
@@ -59,11 +60,11 @@ lines_in seen outline = decimal (ended_lines (content_at seen outline))
 
 -- a text tells its lines, too
 abbrev pub text_lines : Seen → Outline → PartValue → List ℕ
-text_lines seen outline part = if starts_with nat_eq part.typed.main (codes "text/") then behind_spaces (lines_in seen outline ∷ []) else []
+text_lines seen outline part = if starts_with nat_eq part.typed.main (codes "text/") then after_spaces (lines_in seen outline ∷ []) else []
 
 -- digest of the content, disposition, language and location
 abbrev pub part_extension : Seen → PartValue → List ℕ
-part_extension seen part = where_extended seen (behind_spaces (nil ∷ part.disposition ∷ nil ∷ nil ∷ []))
+part_extension seen part = where_extended seen (after_spaces (nil ∷ part.disposition ∷ nil ∷ nil ∷ []))
 
 -- The structure of a part without parts: its basic fields, the lines of a text, and the extension data (RFC 3501, 7.4.2).
 abbrev pub leaf_form : Seen → Outline → PartValue → List ℕ
@@ -72,15 +73,15 @@ leaf_form seen outline part = in_parentheses (basic_words part (size_of outline)
 -- The structure of a part that is a message: basic fields, its envelope, its body, its lines, and the extension data (RFC 3501, 7.4.2).
 abbrev pub message_form : Seen → Outline → PartValue → List ℕ → List ℕ → List ℕ
 message_form seen outline part envelope body =
-    in_parentheses (basic_words part (size_of outline) ++ (behind_spaces (envelope ∷ body ∷ lines_in seen outline ∷ []) ++ part_extension seen part))
+    in_parentheses (basic_words part (size_of outline) ++ (after_spaces (envelope ∷ body ∷ lines_in seen outline ∷ []) ++ part_extension seen part))
 
 -- parameters, disposition, language and location
 abbrev pub multipart_extension : Seen → PartValue → List ℕ
-multipart_extension seen part = where_extended seen (behind_spaces (part.typed.params ∷ part.disposition ∷ nil ∷ nil ∷ []))
+multipart_extension seen part = where_extended seen (after_spaces (part.typed.params ∷ part.disposition ∷ nil ∷ nil ∷ []))
 
 -- The structure of a multipart: those of its parts, its subtype, and the extension data (RFC 3501, 7.4.2).
 abbrev pub multipart_form : Seen → PartValue → List ℕ → List ℕ
-multipart_form seen part parts = in_parentheses (parts ++ (behind_spaces (sub_type part.typed.main ∷ []) ++ multipart_extension seen part))
+multipart_form seen part parts = in_parentheses (parts ++ (after_spaces (sub_type part.typed.main ∷ []) ++ multipart_extension seen part))
 
 -- ---- parts in parts
 

@@ -82,9 +82,9 @@ fn push_mailboxes(
     ensures malformed { result ≡ Err AddressFault.Malformed → (text : List ℕ) → ¬ AreDivided IsMailboxForm (values_of lexemes.entry) text }
 {
     let mut rest = lexemes;
-    while let Some((part, behind)) = split_place(rest) {
+    while let Some((part, following)) = split_place(rest) {
         push_mailbox(alloc, made, part)?;
-        rest = behind;
+        rest = following;
     }
     push_mailbox(alloc, made, rest)
 }
@@ -126,13 +126,13 @@ fn push_group(
     alloc: Global,
     made: &mut Octets,
     name: Lexemes<'_, '_>,
-    behind: Lexemes<'_, '_>,
+    following: Lexemes<'_, '_>,
 ) -> Result<(), AddressFault>
-    ensures ok { OnOk result ((tokens : List TokenValue) → SplitsAt 58 tokens (values_of name.entry) (values_of behind.entry) → AddsText (IsGroupForm tokens) made.old made.new) }
+    ensures ok { OnOk result ((tokens : List TokenValue) → SplitsAt 58 tokens (values_of name.entry) (values_of following.entry) → AddsText (IsGroupForm tokens) made.old made.new) }
     ensures malformed { result ≡ Err AddressFault.Malformed
-        → (tokens : List TokenValue) (text : List ℕ) → SplitsAt 58 tokens (values_of name.entry) (values_of behind.entry) → ¬ IsGroupForm tokens text }
+        → (tokens : List TokenValue) (text : List ℕ) → SplitsAt 58 tokens (values_of name.entry) (values_of following.entry) → ¬ IsGroupForm tokens text }
 {
-    let Some((inner, after)) = split_at_mark(behind, b';') else {
+    let Some((inner, after)) = split_at_mark(following, b';') else {
         return Err(AddressFault::Malformed);
     };
     if !are_blank(after) || !is_phrase(name) {
@@ -161,7 +161,7 @@ fn push_place(
         return Ok(());
     }
     match split_name(lexemes) {
-        Some((name, behind)) => push_group(alloc, made, name, behind),
+        Some((name, following)) => push_group(alloc, made, name, following),
         None => push_mailbox(alloc, made, lexemes),
     }
 }
@@ -176,9 +176,9 @@ fn push_places(
     ensures malformed { result ≡ Err AddressFault.Malformed → (text : List ℕ) → ¬ AreDivided IsPlaceForm (values_of lexemes.entry) text }
 {
     let mut rest = lexemes;
-    while let Some((place, behind)) = split_place(rest) {
+    while let Some((place, following)) = split_place(rest) {
         push_place(alloc, made, place)?;
-        rest = behind;
+        rest = following;
     }
     push_place(alloc, made, rest)
 }

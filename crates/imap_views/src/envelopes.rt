@@ -3,11 +3,11 @@ ghost use Rattle.std.specs.Prelude.{◌≡◌, ◌++◌, [], IfOk, OnOk, OnErr};
 ghost use Rattle.imap_views.specs.Envelopes.{AreAddressesOf, AreAddressesOr, HasEnvelope, IsEnvelope, IsStringOf};
 ghost use Rattle.imap_views.specs.Fields.{HasSomeBlock};
 ghost use Rattle.imap_views.specs.Strings.{AddsText};
-ghost use Rattle.imap_views.specs.private.Reading.{AddsBehindSpace, HasAllAddresses, HasSenders, IsRead, raws_in};
+ghost use Rattle.imap_views.specs.private.Reading.{AddsAfterSpace, HasAllAddresses, HasSenders, IsRead, raws_in};
 
 use crate::addresses::addresses_form;
 use crate::headers::{Header, read_header};
-use crate::strings::{push_behind_space, push_nstring, slice_of};
+use crate::strings::{push_after_space, push_nstring, slice_of};
 use mail_wire::{Memory, Octets};
 use std::alloc::Global;
 
@@ -26,14 +26,14 @@ fn push_string_of(
 }
 
 // The same, behind a space.
-fn push_string_behind(
+fn push_string_after(
     alloc: Global,
     made: &mut Octets,
     header: &Header<'_>,
     name: &[u8],
 ) -> Result<(), Memory>
     requires { IsRead header.now }
-    ensures { OnOk result (AddsBehindSpace (IsStringOf name.now (raws_in header.now)) made.old made.new) }
+    ensures { OnOk result (AddsAfterSpace (IsStringOf name.now (raws_in header.now)) made.old made.new) }
 {
     made.push(b' ')?;
     push_string_of(alloc, made, header, name)
@@ -73,10 +73,10 @@ fn push_addresses_of(
     name: &[u8],
 ) -> Result<(), Memory>
     requires { IsRead header.now }
-    ensures { OnOk result (AddsBehindSpace (AreAddressesOf name.now (raws_in header.now)) made.old made.new) }
+    ensures { OnOk result (AddsAfterSpace (AreAddressesOf name.now (raws_in header.now)) made.old made.new) }
 {
     let addresses = addresses_of(alloc, header, name)?;
-    push_behind_space(made, addresses.as_slice())
+    push_after_space(made, addresses.as_slice())
 }
 
 // The same, or these where there is no such field.
@@ -88,10 +88,10 @@ fn push_addresses_or(
     name: &[u8],
 ) -> Result<(), Memory>
     requires { IsRead header.now }
-    ensures { OnOk result (AddsBehindSpace (AreAddressesOr from.now name.now (raws_in header.now)) made.old made.new) }
+    ensures { OnOk result (AddsAfterSpace (AreAddressesOr from.now name.now (raws_in header.now)) made.old made.new) }
 {
     let addresses = addresses_or(alloc, from, header, name)?;
-    push_behind_space(made, addresses.as_slice())
+    push_after_space(made, addresses.as_slice())
 }
 
 // Puts the author, the sender and the address for replies last, behind spaces.
@@ -100,7 +100,7 @@ fn push_senders(alloc: Global, made: &mut Octets, header: &Header<'_>) -> Result
     ensures { OnOk result (AddsText (HasSenders (raws_in header.now)) made.old made.new) }
 {
     let from = addresses_of(alloc, header, b"From")?;
-    push_behind_space(made, from.as_slice())?;
+    push_after_space(made, from.as_slice())?;
     push_addresses_or(alloc, made, from.as_slice(), header, b"Sender")?;
     push_addresses_or(alloc, made, from.as_slice(), header, b"Reply-To")
 }
@@ -124,10 +124,10 @@ fn push_envelope(alloc: Global, made: &mut Octets, header: &Header<'_>) -> Resul
 {
     made.push(b'(')?;
     push_string_of(alloc, made, header, b"Date")?;
-    push_string_behind(alloc, made, header, b"Subject")?;
+    push_string_after(alloc, made, header, b"Subject")?;
     push_all_addresses(alloc, made, header)?;
-    push_string_behind(alloc, made, header, b"In-Reply-To")?;
-    push_string_behind(alloc, made, header, b"Message-ID")?;
+    push_string_after(alloc, made, header, b"In-Reply-To")?;
+    push_string_after(alloc, made, header, b"Message-ID")?;
     made.push(b')')
 }
 

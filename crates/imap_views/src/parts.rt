@@ -7,7 +7,7 @@ ghost use Rattle.imap_views.specs.private.Reading.{IsRead, part_value, raws_in};
 
 use crate::headers::Header;
 use crate::params::{disposition_of, encoding_of, type_of};
-use crate::strings::{push_behind_space, push_nstring, push_number, slice_of, split_mark};
+use crate::strings::{push_after_space, push_nstring, push_number, slice_of, split_mark};
 use address_grammar::push_quoted_string;
 use mail_wire::{Memory, Octets};
 use std::alloc::Global;
@@ -108,7 +108,7 @@ pub fn push_basic_words(
     push_main_type(made, part.main.as_slice())?;
     made.push(b' ')?;
     push_sub_type(made, part.main.as_slice())?;
-    push_behind_space(made, part.params.as_slice())?;
+    push_after_space(made, part.params.as_slice())?;
     made.push(b' ')?;
     push_nstring(made, slice_of(&part.id))?;
     made.push(b' ')?;

@@ -14,20 +14,20 @@ pub fn plain_phrase(alloc: Global, lexemes: Lexemes<'_, '_>) -> Result<Octets, M
 {
     let mut made = Octets::new(alloc);
     let mut is_first = true;
-    let mut is_apart = false;
+    let mut has_space_before = false;
     let mut rest = lexemes;
-    while let Some((lexeme, behind)) = rest.split_first() {
+    while let Some((lexeme, following)) = rest.split_first() {
         if is_blank(lexeme) {
-            is_apart = !is_first;
+            has_space_before = !is_first;
         } else {
-            if is_apart {
+            if has_space_before {
                 made.push(b' ')?;
             }
             push_content(&mut made, lexeme)?;
             is_first = false;
-            is_apart = false;
+            has_space_before = false;
         }
-        rest = behind;
+        rest = following;
     }
     Ok(made)
 }

@@ -2,7 +2,7 @@
 ghost use Rattle.std.specs.Prelude.{◌≡◌, ◌++◌, ◌∷◌, [], decimal, OnOk, IfOk};
 ghost use Rattle.std.specs.Option.{option_copied};
 ghost use Rattle.encoded_words.specs.private.Parts.{lacks};
-ghost use Rattle.imap_views.specs.Strings.{nstring, before_mark, behind_mark};
+ghost use Rattle.imap_views.specs.Strings.{nstring, before_mark, after_mark};
 
 use address_grammar::push_quoted_string;
 use encoded_words::split_at_byte;
@@ -20,7 +20,7 @@ pub fn push_nstring(made: &mut Octets, content: Option<&[u8]>) -> Result<(), Mem
 }
 
 /// Puts a space and a text last.
-pub fn push_behind_space(made: &mut Octets, text: &[u8]) -> Result<(), Memory>
+pub fn push_after_space(made: &mut Octets, text: &[u8]) -> Result<(), Memory>
     ensures { OnOk result (made.new ≡ made.old ++ 32 ∷ text.now) }
 {
     made.push(b' ')?;
@@ -48,10 +48,10 @@ pub fn slice_of(text: &Option<Octets>) -> Option<&[u8]>
 /// What stands before the first such octet, and what stands behind it.
 pub fn split_mark(octets: &[u8], mark: u8) -> (&[u8], &[u8])
     ensures before { result.0.now ≡ before_mark mark octets.now }
-    ensures behind { result.1.now ≡ behind_mark mark octets.now }
+    ensures following { result.1.now ≡ after_mark mark octets.now }
 {
     match split_at_byte(octets, mark) {
-        Some((before, behind)) => (before, behind),
+        Some((before, following)) => (before, following),
         None => (octets, &[]),
     }
 }

@@ -13,7 +13,7 @@ use crate::envelopes::envelope_of;
 use crate::headers::read_header;
 use crate::parts::{PartWords, push_basic_words, push_sub_type, read_part};
 use crate::ranges;
-use crate::strings::{push_behind_space, push_number};
+use crate::strings::{push_after_space, push_number};
 use mail_wire::{Items, Memory, Octets, PIECE, Span};
 use mime_tree::Shape;
 use std::alloc::Global;
@@ -155,7 +155,7 @@ fn push_part_extension(
         return Ok(());
     }
     made.push_slice(b" NIL")?;
-    push_behind_space(made, part.disposition.as_slice())?;
+    push_after_space(made, part.disposition.as_slice())?;
     made.push_slice(b" NIL NIL")
 }
 
@@ -170,8 +170,8 @@ fn push_multipart_extension(
     if !seeing.extended {
         return Ok(());
     }
-    push_behind_space(made, part.params.as_slice())?;
-    push_behind_space(made, part.disposition.as_slice())?;
+    push_after_space(made, part.params.as_slice())?;
+    push_after_space(made, part.disposition.as_slice())?;
     made.push_slice(b" NIL NIL")
 }
 

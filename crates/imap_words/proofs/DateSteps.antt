@@ -31,9 +31,9 @@ pub both_viable : {V W : Type 0} {P : List ℕ → V → Type 0} {F : List ℕ �
 both_viable {P} {F} first second = then_viable F (λ _. P) first (λ _. second)
 
 -- what is left is read by one call
-pub by_call : {T V : Type 0} {P Q : List ℕ → V → Type 0} {text rest : List ℕ} (value : T → V) (behind : T → List ℕ) (r : Result T Stop) → Continues P text Q rest
-    → MatchResult r (λ x. Reads Q never rest (value x) (behind x)) (λ stop. StopsReading Q never rest stop) → MatchResult r (λ x. Reads P never text (value x) (behind x)) (λ stop. StopsReading P never text stop)
-by_call value behind r so found = MatchResult-weaker r found (λ x. so.reads never (value x) (behind x)) (λ stop. so.stops never stop)
+pub by_call : {T V : Type 0} {P Q : List ℕ → V → Type 0} {text rest : List ℕ} (value : T → V) (following : T → List ℕ) (r : Result T Stop) → Continues P text Q rest
+    → MatchResult r (λ x. Reads Q never rest (value x) (following x)) (λ stop. StopsReading Q never rest stop) → MatchResult r (λ x. Reads P never text (value x) (following x)) (λ stop. StopsReading P never text stop)
+by_call value following r so found = MatchResult-weaker r found (λ x. so.reads never (value x) (following x)) (λ stop. so.stops never stop)
 
 pub open_viable : {V : Type 0} (P : List ℕ → V → Type 0) (text : List ℕ) → length text ≡ 0 → IsViable P [] → IsViable P text
 open_viable P text e some = subst (λ z. IsViable P z) (sym (no_octets text e)) some
@@ -72,8 +72,8 @@ four_viable = both_viable two_viable two_viable
 pub day_viable : IsViable IsDateDayFixed []
 day_viable = record { rest = two_viable.rest; value = two_viable.value; is_word = inr two_viable.is_word }
 
-pub behind_space : (text : List ℕ) (x : ℕ) (others : List ℕ) → text ≡ x ∷ others → x ≡ 32 → Continues IsDateDayFixed text IsDigit others
-behind_space text x others e space =
+pub after_space : (text : List ℕ) (x : ℕ) (others : List ℕ) → text ≡ x ∷ others → x ≡ 32 → Continues IsDateDayFixed text IsDigit others
+after_space text x others e space =
     let at : text ≡ 32 ∷ others = e ∙ ap (λ z. z ∷ others) space in
     let chosen : Continues IsDateDayFixed text (After IsSpace IsDigit) text
     = subst (λ z. Continues IsDateDayFixed z (After IsSpace IsDigit) z) (sym at) (left_continues (After IsSpace IsDigit) IsTwoDigits 32 others (seq_never IsDigit (λ _. IsDigit) 32 (digit_never 32 space_no_digit))) in
@@ -87,14 +87,14 @@ without_space text x others e other = subst (λ z. Continues IsDateDayFixed z Is
 pub zone_viable : IsViable IsZone []
 zone_viable = both_viable (record { rest = 43 ∷ []; value = 43; is_word = inl (refl, refl) }) four_viable
 
-pub behind_plus : (text : List ℕ) (x : ℕ) (others : List ℕ) → text ≡ x ∷ others → x ≡ 43 → Continues IsZone text IsFourDigits others
-behind_plus text x others e plus =
+pub after_plus : (text : List ℕ) (x : ℕ) (others : List ℕ) → text ≡ x ∷ others → x ≡ 43 → Continues IsZone text IsFourDigits others
+after_plus text x others e plus =
     let at : text ≡ 43 ∷ others = e ∙ ap (λ z. z ∷ others) plus in
     let sign = left_reads (IsOctet 43) (IsOctet 45) never 43 others others 43 (octet_never 45 43 (λ bad. absurd (omega (arith, bad)))) (octet_reads 43 others) in
     after (begins IsZone text) (subst (λ z. Reads (Or (IsOctet 43) (IsOctet 45)) never z 43 others) (sym at) sign)
 
-pub behind_minus : (text : List ℕ) (x : ℕ) (others : List ℕ) → text ≡ x ∷ others → x ≡ 45 → Continues IsZone text IsFourDigits others
-behind_minus text x others e minus =
+pub after_minus : (text : List ℕ) (x : ℕ) (others : List ℕ) → text ≡ x ∷ others → x ≡ 45 → Continues IsZone text IsFourDigits others
+after_minus text x others e minus =
     let at : text ≡ 45 ∷ others = e ∙ ap (λ z. z ∷ others) minus in
     let sign = left_reads (IsOctet 45) (IsOctet 43) never 45 others others 45 (octet_never 43 45 (λ bad. absurd (omega (arith, bad)))) (octet_reads 45 others) in
     after (begins IsZone text) (subst (λ z. Reads (Or (IsOctet 43) (IsOctet 45)) never z 45 others) (sym at) (swap_reads (IsOctet 45) (IsOctet 43) never (45 ∷ others) others 45 sign))
@@ -108,17 +108,17 @@ sign_fails text x xs e plus minus = rw e (fails_first IsZone never x xs zone_via
 
 -- ---- a time
 
-pub behind_minute : IsViable (After (IsOctet 58) IsTwoDigits) []
-behind_minute = both_viable (octet_viable 58) two_viable
+pub after_minute : IsViable (After (IsOctet 58) IsTwoDigits) []
+after_minute = both_viable (octet_viable 58) two_viable
 
-pub behind_colon : IsViable (After IsTwoDigits (After (IsOctet 58) IsTwoDigits)) []
-behind_colon = both_viable two_viable behind_minute
+pub after_colon : IsViable (After IsTwoDigits (After (IsOctet 58) IsTwoDigits)) []
+after_colon = both_viable two_viable after_minute
 
-pub behind_hour : IsViable (After (IsOctet 58) (After IsTwoDigits (After (IsOctet 58) IsTwoDigits))) []
-behind_hour = both_viable (octet_viable 58) behind_colon
+pub after_hour : IsViable (After (IsOctet 58) (After IsTwoDigits (After (IsOctet 58) IsTwoDigits))) []
+after_hour = both_viable (octet_viable 58) after_colon
 
 pub time_viable : IsViable IsTime []
-time_viable = both_viable two_viable behind_hour
+time_viable = both_viable two_viable after_hour
 
 -- ---- a date with its time
 
@@ -129,29 +129,29 @@ month_viable = let table : IsTable months = is_table _ _ refl refl in record {
   is_word = record { entry = table.some; known = table.known; word = table.each table.some table.known; says = refl };
 }
 
-pub behind_time : IsViable (After IsSpace IsZone) []
-behind_time = both_viable (octet_viable 32) zone_viable
+pub after_time : IsViable (After IsSpace IsZone) []
+after_time = both_viable (octet_viable 32) zone_viable
 
-pub behind_year_space : IsViable (After IsTime (After IsSpace IsZone)) []
-behind_year_space = both_viable time_viable behind_time
+pub after_year_space : IsViable (After IsTime (After IsSpace IsZone)) []
+after_year_space = both_viable time_viable after_time
 
-pub behind_year : IsViable (After IsSpace (After IsTime (After IsSpace IsZone))) []
-behind_year = both_viable (octet_viable 32) behind_year_space
+pub after_year : IsViable (After IsSpace (After IsTime (After IsSpace IsZone))) []
+after_year = both_viable (octet_viable 32) after_year_space
 
-pub behind_month_dash : IsViable (After IsFourDigits (After IsSpace (After IsTime (After IsSpace IsZone)))) []
-behind_month_dash = both_viable four_viable behind_year
+pub after_month_dash : IsViable (After IsFourDigits (After IsSpace (After IsTime (After IsSpace IsZone)))) []
+after_month_dash = both_viable four_viable after_year
 
-pub behind_month : IsViable (After (IsOctet 45) (After IsFourDigits (After IsSpace (After IsTime (After IsSpace IsZone))))) []
-behind_month = both_viable (octet_viable 45) behind_month_dash
+pub after_month : IsViable (After (IsOctet 45) (After IsFourDigits (After IsSpace (After IsTime (After IsSpace IsZone))))) []
+after_month = both_viable (octet_viable 45) after_month_dash
 
-pub behind_day_dash : IsViable (After (IsWordOf months) (After (IsOctet 45) (After IsFourDigits (After IsSpace (After IsTime (After IsSpace IsZone)))))) []
-behind_day_dash = both_viable month_viable behind_month
+pub after_day_dash : IsViable (After (IsWordOf months) (After (IsOctet 45) (After IsFourDigits (After IsSpace (After IsTime (After IsSpace IsZone)))))) []
+after_day_dash = both_viable month_viable after_month
 
-pub behind_day : IsViable (After (IsOctet 45) (After (IsWordOf months) (After (IsOctet 45) (After IsFourDigits (After IsSpace (After IsTime (After IsSpace IsZone))))))) []
-behind_day = both_viable (octet_viable 45) behind_day_dash
+pub after_day : IsViable (After (IsOctet 45) (After (IsWordOf months) (After (IsOctet 45) (After IsFourDigits (After IsSpace (After IsTime (After IsSpace IsZone))))))) []
+after_day = both_viable (octet_viable 45) after_day_dash
 
 date_viable : IsViable IsDateTimeText []
-date_viable = both_viable day_viable behind_day
+date_viable = both_viable day_viable after_day
 
 -- ---- what stands between the quotes
 

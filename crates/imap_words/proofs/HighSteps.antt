@@ -50,8 +50,8 @@ abbrev pub AndFourth : ℕ → List ℕ → ℕ → Type 0
 AndFourth x = After (Second x) (After IsUtf8Tail IsUtf8Tail)
 
 -- by the first octet
-abbrev pub Behind : ℕ → List ℕ → ℕ → Type 0
-Behind x octets v = ((194 ≤ x) × (x < 224) × Second x octets v) ⊎ (((224 ≤ x) × (x < 240) × AndThird x octets v) ⊎ ((240 ≤ x) × (x ≤ 244) × AndFourth x octets v))
+abbrev pub Following : ℕ → List ℕ → ℕ → Type 0
+Following x octets v = ((194 ≤ x) × (x < 224) × Second x octets v) ⊎ (((224 ≤ x) × (x < 240) × AndThird x octets v) ⊎ ((240 ≤ x) × (x ≤ 244) × AndFourth x octets v))
 
 after_octet : {V : Type 0} (c x : ℕ) (Q : List ℕ → V → Type 0) (octets : List ℕ) (v : V) → After (IsOctet c) Q (x ∷ octets) v → (x ≡ c) × Q octets v
 after_octet c x Q octets v is =
@@ -84,7 +84,7 @@ module _ (x : ℕ) (octets : List ℕ) (v : ℕ) where
   abbrev pub Alone : ℕ → ℕ → Type 0
   Alone low high = IsBetween low high octets v
 
-  pub put_apart : IsHighChar (x ∷ octets) v → Behind x octets v
+  pub put_apart : IsHighChar (x ∷ octets) v → Following x octets v
   put_apart (inl two) =
       let at = after_between 194 223 x IsUtf8Tail octets v two in
       inl (at.0, omega (arith, at.1), bounds 128 191 x Alone (least_plain x (λ e. omega (arith, e, at.1)) (λ e. omega (arith, e, at.1))) (greatest_plain x (λ e. omega (arith, e, at.1)) (λ e. omega (arith, e, at.1))) at.2)
@@ -190,14 +190,14 @@ high_fails text x xs e none = rw e (fails_first IsHighChar never x xs high_viabl
 -- ---- the steps
 
 module _ (x : ℕ) (xs : List ℕ) where
-  led : (Q : List ℕ → ℕ → Type 0) → ((octets : List ℕ) (v : ℕ) → Behind x octets v → Q octets v) → ((octets : List ℕ) (v : ℕ) → Q octets v → IsHighChar (x ∷ octets) v) → Continues IsHighChar (x ∷ xs) Q xs
+  led : (Q : List ℕ → ℕ → Type 0) → ((octets : List ℕ) (v : ℕ) → Following x octets v → Q octets v) → ((octets : List ℕ) (v : ℕ) → Q octets v → IsHighChar (x ∷ octets) v) → Continues IsHighChar (x ∷ xs) Q xs
   led Q to from = onwards (same_at IsHighChar (After (IsOctet x) Q) x xs into out) (octet_reads x xs) (λ _. never_avoids _)
     where
       into : (a b : List ℕ) (v : ℕ) (more : List ℕ) → IsHighChar a v → a ++ b ≡ x ∷ more → After (IsOctet x) Q a v
       into [] b v more is e = absurd (high_never 0 (λ l h. omega (arith, l)) [] (0 ∷ []) v [] is refl)
       into (y ∷ a) b v more is e =
           let same : y ≡ x = cc e in
-          record { value = x; front = x ∷ []; back = a; whole = ap (λ z. z ∷ a) same; first = (refl, refl); second = to a v (subst (λ z. Behind z a v) same (put_apart y a v is)) }
+          record { value = x; front = x ∷ []; back = a; whole = ap (λ z. z ∷ a) same; first = (refl, refl); second = to a v (subst (λ z. Following z a v) same (put_apart y a v is)) }
 
       out : (a : List ℕ) (v : ℕ) → After (IsOctet x) Q a v → IsHighChar a v
       out a v is = subst (λ z. IsHighChar z v) (sym (is.whole ∙ ap (λ z. z ++ is.back) is.first.0)) (from is.back v is.second)

@@ -15,7 +15,7 @@ use Rattle.imap_words.specs.Languages.{Then, After, Or, Is, IsOctet, IsBetween, 
 use Rattle.imap_words.specs.Reading.{always, never, Reads, StopsReading}
 use Rattle.imap_words.specs.Tokens.{IsNumber32, IsNonZero, IsRunOf, IsImapAtom, IsTag, is_digit, is_atom_char, is_astring_char, is_list_char, is_tag_char, is_name_char, is_quoted_text, is_quoted_special, IsSpace, passes}
 use Rattle.imap_words.specs.Keywords.{Named, IsWordOf, upper}
-use Rattle.imap_words.specs.Strings.{HeadValue, whole, literal, IsHead, IsNameHead, behind_head, behind_name_head, head_value, IsHeader, IsNameHeader, IsPositive, IsQuoted, IsQuotedName, QuotedChar, text, escaped, high, IsQuotedChar, quoted_spelling, IsHighChar, IsUtf8Three, IsUtf8Four, IsUtf8Tail}
+use Rattle.imap_words.specs.Strings.{HeadValue, whole, literal, IsHead, IsNameHead, after_head, after_name_head, head_value, IsHeader, IsNameHeader, IsPositive, IsQuoted, IsQuotedName, QuotedChar, text, escaped, high, IsQuotedChar, quoted_spelling, IsHighChar, IsUtf8Three, IsUtf8Four, IsUtf8Tail}
 use Rattle.imap_words.specs.Sets.{IsSeqNumber, IsSeqRange, IsSetAndSpace}
 use Rattle.imap_words.specs.Dates.{IsDigit, IsTwoDigits, IsFourDigits, IsDateDayFixed, IsTime, IsZone, IsDateTimeText, IsDateTime, months}
 use Rattle.imap_words.specs.declared.stop.Stop.{Stop}
@@ -53,11 +53,11 @@ none_more x [] flat none = none_one x
 none_more x (y ∷ xs) flat none = first_line-other x y xs (not_crlf x y flat) ∙ ap (option_map (begun_with x)) none
 
 -- octets without CR before a text end no line in it
-pub open_behind : (a b : List ℕ) → IsFlat a → first_line b ≡ None → first_line (a ++ b) ≡ None
-open_behind [] b flat none = none
-open_behind (x ∷ a) b flat none =
+pub open_after : (a b : List ℕ) → IsFlat a → first_line b ≡ None → first_line (a ++ b) ≡ None
+open_after [] b flat none = none
+open_after (x ∷ a) b flat none =
     let parts = and_parts (no_return x) (list_all no_return a) flat in
-    none_more x (a ++ b) parts.0 (open_behind a b parts.1 none)
+    none_more x (a ++ b) parts.0 (open_after a b parts.1 none)
 
 -- ---- words without CR
 
@@ -67,10 +67,10 @@ Flat {V} P = (a : List ℕ) (v : V) → P a v → IsFlat a
 module _ {V : Type 0} (P : List ℕ → V → Type 0) (flat : Flat P) where
   pub flat_open : (octets : List ℕ) → IsViable P octets → first_line octets ≡ None
   flat_open octets v =
-      subst (λ z. first_line z ≡ None) (append-nil octets) (open_behind octets [] (pass-front no_return octets v.rest (flat (octets ++ v.rest) v.value v.is_word)) none_here)
+      subst (λ z. first_line z ≡ None) (append-nil octets) (open_after octets [] (pass-front no_return octets v.rest (flat (octets ++ v.rest) v.value v.is_word)) none_here)
 
   pub flat_joins : (p : V → ℕ → Bool) (octets rest : List ℕ) (v : V) → Reads P p octets v rest → first_line rest ≡ None → first_line octets ≡ None
-  flat_joins p octets rest v r none = subst (λ z. first_line z ≡ None) (sym r.whole) (open_behind r.word rest (flat r.word v r.is_word) none)
+  flat_joins p octets rest v r none = subst (λ z. first_line z ≡ None) (sym r.whole) (open_after r.word rest (flat r.word v r.is_word) none)
 
 pub is_flat : {V : Type 0} (v : V) → Flat (Is v)
 is_flat v a w is = subst IsFlat (sym is.0) refl
@@ -336,10 +336,10 @@ pub set_open : (octets : List ℕ) → StopsReading IsSetAndSpace never octets M
 set_open octets v = flat_open IsSetAndSpace set_flat octets v
 
 -- a string that was read whole
-head_joins : (k : Kind) (H : List ℕ → HeadValue → Type 0) → ((a v : List ℕ) → H a (whole v) → IsFlat a) → (octets rest : List ℕ) (head : Head) (v : List ℕ) → Reads H (behind_head k) octets (head_value head) rest → head ≡ Whole v
+head_joins : (k : Kind) (H : List ℕ → HeadValue → Type 0) → ((a v : List ℕ) → H a (whole v) → IsFlat a) → (octets rest : List ℕ) (head : Head) (v : List ℕ) → Reads H (after_head k) octets (head_value head) rest → head ≡ Whole v
     → first_line rest ≡ None → first_line octets ≡ None
 head_joins k H flat octets rest head v r is none =
-    subst (λ z. first_line z ≡ None) (sym r.whole) (open_behind r.word rest (flat r.word v (subst (λ z. H r.word (head_value z)) is r.is_word)) none)
+    subst (λ z. first_line z ≡ None) (sym r.whole) (open_after r.word rest (flat r.word v (subst (λ z. H r.word (head_value z)) is r.is_word)) none)
 
 heads_flat : (k : Kind) (Q : List ℕ → List ℕ → Type 0) (N : List ℕ → ℕ → Type 0) → Flat Q → (a v : List ℕ) → Or (Then (IsRunOf (passes k)) (λ v. Is (whole v))) (Or (Then Q (λ v. Is (whole v))) (Then N (λ n. Is (literal n)))) a (whole v) → IsFlat a
 heads_flat k Q N flat a v (inl run) = then_flat (IsRunOf (passes k)) _ (run_flat (passes k) (kind_ok k)) (λ u. is_flat (whole u)) a (whole v) run
@@ -349,11 +349,11 @@ heads_flat k Q N flat a v (inr (inr header)) = absurd (other header.value header
     other : (n : ℕ) → whole v ≡ literal n → ⊥
     other n e = cc e
 
-pub astring_joins : (utf8 : Bool) (octets rest : List ℕ) (head : Head) (v : List ℕ) → Reads (IsHead utf8 kind.Astring) (behind_head kind.Astring) octets (head_value head) rest → head ≡ Whole v → first_line rest ≡ None → first_line octets ≡ None
+pub astring_joins : (utf8 : Bool) (octets rest : List ℕ) (head : Head) (v : List ℕ) → Reads (IsHead utf8 kind.Astring) (after_head kind.Astring) octets (head_value head) rest → head ≡ Whole v → first_line rest ≡ None → first_line octets ≡ None
 astring_joins utf8 octets rest head v r is none = head_joins kind.Astring (IsHead utf8 kind.Astring) (heads_flat kind.Astring (IsQuoted utf8) IsHeader (quoted_flat utf8)) octets rest head v r is none
 
-pub pattern_joins : (utf8 : Bool) (octets rest : List ℕ) (head : Head) (v : List ℕ) → Reads (IsHead utf8 kind.ListMailbox) (behind_head kind.ListMailbox) octets (head_value head) rest → head ≡ Whole v → first_line rest ≡ None → first_line octets ≡ None
+pub pattern_joins : (utf8 : Bool) (octets rest : List ℕ) (head : Head) (v : List ℕ) → Reads (IsHead utf8 kind.ListMailbox) (after_head kind.ListMailbox) octets (head_value head) rest → head ≡ Whole v → first_line rest ≡ None → first_line octets ≡ None
 pattern_joins utf8 octets rest head v r is none = head_joins kind.ListMailbox (IsHead utf8 kind.ListMailbox) (heads_flat kind.ListMailbox (IsQuoted utf8) IsHeader (quoted_flat utf8)) octets rest head v r is none
 
-pub name_joins : (octets rest : List ℕ) (head : Head) (v : List ℕ) → Reads IsNameHead behind_name_head octets (head_value head) rest → head ≡ Whole v → first_line rest ≡ None → first_line octets ≡ None
+pub name_joins : (octets rest : List ℕ) (head : Head) (v : List ℕ) → Reads IsNameHead after_name_head octets (head_value head) rest → head ≡ Whole v → first_line rest ≡ None → first_line octets ≡ None
 name_joins octets rest head v r is none = head_joins kind.NameAstring IsNameHead (heads_flat kind.NameAstring IsQuotedName IsNameHeader name_flat) octets rest head v r is none

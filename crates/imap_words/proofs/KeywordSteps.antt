@@ -51,7 +51,7 @@ module _ {V : Type 0} (table : List (Named V)) where
   word_more text len found best t all =
       front_viable text t (subst (λ z. SomeBegins table (map upper z)) (take_all len text (omega (arith, all))) (best_begins text len found best t))
 
-  module _ (later : V → ℕ → Bool) (text : List ℕ) (len : ℕ) (tells : TellsLonger table later) (short : len < length text) where
+  module _ (later : V → ℕ → Bool) (text : List ℕ) (len : ℕ) (observed : TellsLonger table later) (short : len < length text) where
     -- an octet more, and no word begins so
     longer_none : (found : Option V) → IsBest table text len found → (y : ℕ) → get_or text len 0 ≡ y → (entry : Named V) (c : List ℕ) → Contains table entry → entry.word ≡ (map upper (take len text) ++ upper y ∷ []) ++ c → ⊥
     longer_none found best y same entry c known spelled =
@@ -61,7 +61,7 @@ module _ {V : Type 0} (table : List (Named V)) where
     -- a shorter word, behind which a longer one goes on
     shorter_goes : (a : List ℕ) (y : ℕ) (c rest : List ℕ) (w : V) → take len text ≡ a ++ y ∷ c → IsWordOf table a w → (entry : Named V) → Contains table entry → entry.word ≡ map upper (take len text) ++ rest → later w y ≡ true
     shorter_goes a y c rest w s is entry known spelled =
-        subst (λ z. later z y ≡ true) (sym is.says) (tells is.entry y is.known (
+        subst (λ z. later z y ≡ true) (sym is.says) (observed is.entry y is.known (
           entry,
           map upper c ++ rest,
           known,

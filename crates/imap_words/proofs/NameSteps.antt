@@ -33,8 +33,8 @@ one_is_digit : is_digit 49 ≡ true
 unfolding is_digit
 one_is_digit = refl
 
-behind_zeros : (front : List ℕ) → IsNumber32 front 0 → IsViable IsPositive front
-behind_zeros front is = record {
+after_zeros : (front : List ℕ) → IsNumber32 front 0 → IsViable IsPositive front
+after_zeros front is = record {
   rest = 49 ∷ [];
   value = 1;
   is_word = record {
@@ -53,7 +53,7 @@ positive_with front viable = by_value viable.value viable.is_word
   where
     by_value : (v : ℕ) → IsNumber32 (front ++ viable.rest) v → IsViable IsPositive front
     by_value zero is =
-        let more = behind_zeros (front ++ viable.rest) is in
+        let more = after_zeros (front ++ viable.rest) is in
         record { rest = viable.rest ++ more.rest; value = more.value; is_word = subst (λ z. IsPositive z more.value) (append_assoc front viable.rest more.rest) more.is_word }
     by_value (suc v) is = record { rest = viable.rest; value = suc v; is_word = record { is_number = is; some = omega arith } }
 
@@ -85,7 +85,7 @@ positive_reads octets rest v r some = record {
 pub zero_open : (octets rest : List ℕ) (v : ℕ) → Reads IsNumber32 (always is_digit) octets v rest → v ≡ 0 → length rest ≡ 0 → IsViable IsPositive octets
 zero_open octets rest v r is_zero none =
     let all : octets ≡ r.word = r.whole ∙ (ap (λ z. r.word ++ z) (no_octets rest none) ∙ append-nil r.word) in
-    subst (λ z. IsViable IsPositive z) (sym all) (behind_zeros r.word (subst (λ z. IsNumber32 r.word z) is_zero r.is_word))
+    subst (λ z. IsViable IsPositive z) (sym all) (after_zeros r.word (subst (λ z. IsNumber32 r.word z) is_zero r.is_word))
 
 pub zero_stops : (octets rest : List ℕ) (v : ℕ) → Reads IsNumber32 (always is_digit) octets v rest → v ≡ 0 → (length rest ≡ 0 → ⊥) → FailsAt IsPositive (always is_digit) octets (length rest)
 zero_stops octets [] v r is_zero some = absurd (some refl)
@@ -95,7 +95,7 @@ zero_stops octets (y ∷ back) v r is_zero some = record {
   back = back;
   whole = r.whole;
   left_is = refl;
-  viable = behind_zeros r.word (subst (λ z. IsNumber32 r.word z) is_zero r.is_word);
+  viable = after_zeros r.word (subst (λ z. IsNumber32 r.word z) is_zero r.is_word);
   hopeless = λ more a b w is e. elim (r.only (y ∷ more) a b w is.is_number refl e) [
     | inl same ↦ absurd (omega (arith, is.some, same.1, is_zero))
     | inr begin ↦ begin
@@ -256,8 +256,8 @@ rest_name_never begun x at_quote at_other a b v more is e = by_step (to_step fal
         let one = further.first in
         let rest = further.second in
         let value : v ≡ begun ++ (further.value ++ rest.0) = rest.2 ∙ append_assoc begun further.value rest.0 in
-        let behind = (all_append is_name_char begun (further.value ++ rest.0) (subst (λ z. list_all is_name_char z ≡ true) value is.is_name.passes)).1 in
-        let all = (all_append is_name_char further.value rest.0 behind).0 in
+        let following = (all_append is_name_char begun (further.value ++ rest.0) (subst (λ z. list_all is_name_char z ≡ true) value is.is_name.passes)).1 in
+        let all = (all_append is_name_char further.value rest.0 following).0 in
         by_item further.front (further.back ++ b) one.item one.is (subst (λ z. list_all is_name_char z ≡ true) one.value_is all)
         (ap (λ z. z ++ (further.back ++ b)) (sym one.spelled) ∙ (sym (append_assoc further.front further.back b) ∙ (ap (λ z. z ++ b) (sym further.whole) ∙ e)))
 
@@ -306,13 +306,13 @@ module _ (begun : List ℕ) (all : list_all is_name_char begun ≡ true) where
       by_step a b v more name e (inr further) =
           let rest = further.second in
           let value : v ≡ begun ++ (further.value ++ rest.0) = rest.2 ∙ append_assoc begun further.value rest.0 in
-          let behind = (all_append is_name_char begun (further.value ++ rest.0) (subst (λ z. list_all is_name_char z ≡ true) value name.passes)).1 in
+          let following = (all_append is_name_char begun (further.value ++ rest.0) (subst (λ z. list_all is_name_char z ≡ true) value name.passes)).1 in
           record {
             value = further.value;
             front = further.front;
             back = further.back;
             whole = further.whole;
-            first = record { is_one = further.first; is_name = (all_append is_name_char further.value rest.0 behind).0 };
+            first = record { is_one = further.first; is_name = (all_append is_name_char further.value rest.0 following).0 };
             second = record { is_rest = rest; is_name = name };
           }
 
@@ -355,12 +355,12 @@ module _ (begun : List ℕ) (all : list_all is_name_char begun ≡ true) where
       → StopsReading (IsOneQuoted false) never rest stop → StopsReading IsQuotedName never octets stop
   name_char_stops octets rest x others stop so e other may stops = (further_at octets rest x others so e other).stops never stop (further_stops rest stop (name_stops rest x others stop e may stops))
 
-  pub name_char_reads : (octets rest : List ℕ) (x : ℕ) (others behind after : List ℕ) → Continues IsQuotedName octets (IsRestName begun) rest → rest ≡ x ∷ others → (x ≡ 34 → ⊥) → is_name_char x ≡ true
-      → PutsSaid (IsOneQuoted false) rest behind begun after → (list_all is_name_char after ≡ true) × Continues IsQuotedName octets (IsRestName after) behind
-  name_char_reads octets rest x others behind after so e other may says =
-      let r = name_reads rest behind says.said x others e may says.reads in (
+  pub name_char_reads : (octets rest : List ℕ) (x : ℕ) (others following after : List ℕ) → Continues IsQuotedName octets (IsRestName begun) rest → rest ≡ x ∷ others → (x ≡ 34 → ⊥) → is_name_char x ≡ true
+      → PutsSaid (IsOneQuoted false) rest following begun after → (list_all is_name_char after ≡ true) × Continues IsQuotedName octets (IsRestName after) following
+  name_char_reads octets rest x others following after so e other may says =
+      let r = name_reads rest following says.said x others e may says.reads in (
         subst (λ z. list_all is_name_char z ≡ true) (sym says.put) (all_join is_name_char begun says.said all r.is_word.is_name),
-        subst (λ z. Continues IsQuotedName octets (IsRestName z) behind) (sym says.put) (onwards (further_at octets rest x others so e other) r (λ _. never_avoids _)),
+        subst (λ z. Continues IsQuotedName octets (IsRestName z) following) (sym says.put) (onwards (further_at octets rest x others so e other) r (λ _. never_avoids _)),
       )
 
   pub name_open : (octets rest : List ℕ) → Continues IsQuotedName octets (IsRestName begun) rest → length rest ≡ 0 → StopsReading IsQuotedName never octets More

@@ -263,10 +263,10 @@ module _ (utf8 : Bool) where
       → StopsReading (IsOneQuoted utf8) never rest stop → StopsReading (IsQuoted utf8) never octets stop
   further_stops octets rest begun x others stop so e other stops = ends_at never never stop (further octets rest begun x others so e other) stops (λ _. never_avoids _) (λ said. rest_viable (begun ++ said))
 
-  pub further_reads : (octets rest begun : List ℕ) (x : ℕ) (others behind after : List ℕ) → Continues (IsQuoted utf8) octets (IsRestQuoted utf8 begun) rest → rest ≡ x ∷ others → (x ≡ 34 → ⊥)
-      → PutsSaid (IsOneQuoted utf8) rest behind begun after → Continues (IsQuoted utf8) octets (IsRestQuoted utf8 after) behind
-  further_reads octets rest begun x others behind after so e other says =
-      subst (λ z. Continues (IsQuoted utf8) octets (IsRestQuoted utf8 z) behind) (sym says.put) (onwards (further octets rest begun x others so e other) says.reads (λ _. never_avoids _))
+  pub further_reads : (octets rest begun : List ℕ) (x : ℕ) (others following after : List ℕ) → Continues (IsQuoted utf8) octets (IsRestQuoted utf8 begun) rest → rest ≡ x ∷ others → (x ≡ 34 → ⊥)
+      → PutsSaid (IsOneQuoted utf8) rest following begun after → Continues (IsQuoted utf8) octets (IsRestQuoted utf8 after) following
+  further_reads octets rest begun x others following after so e other says =
+      subst (λ z. Continues (IsQuoted utf8) octets (IsRestQuoted utf8 z) following) (sym says.put) (onwards (further octets rest begun x others so e other) says.reads (λ _. never_avoids _))
 
   pub quoted_open : (octets rest begun : List ℕ) → Continues (IsQuoted utf8) octets (IsRestQuoted utf8 begun) rest → length rest ≡ 0 → StopsReading (IsQuoted utf8) never octets More
   quoted_open octets rest begun so e = so.stops never More (subst (λ z. IsViable (IsRestQuoted utf8 begun) z) (sym (no_octets rest e)) (rest_viable begun))

@@ -7,7 +7,7 @@ use Rattle.imap_words.specs.declared.stop.Stop.{Stop}
 use Rattle.imap_words.specs.declared.stop.Stop.TheVariants.{More}
 use Rattle.imap_words.specs.Going.{Continues}
 use Rattle.imap_words.specs.Tokens.{IsNonZero, IsSpace, is_digit}
-use Rattle.imap_words.specs.Sets.{IsSeqNumber, IsSeqRange, behind_range}
+use Rattle.imap_words.specs.Sets.{IsSeqNumber, IsSeqRange, after_range}
 use Rattle.imap_words.proofs.Passing.{no_octets}
 use Rattle.imap_words.proofs.Composing.{Avoids, NeverAt}
 use Rattle.imap_words.proofs.TokenSteps.{octet_viable, number_never}
@@ -64,68 +64,68 @@ colon_no_digit : is_digit 58 ≡ false
 unfolding is_digit
 colon_no_digit = refl
 
-digit_behind : (b : List ℕ) → BeginsIn is_digit b → BeginsIn behind_range b
-digit_behind [] h = h
-digit_behind (x ∷ b) h = or_left (is_digit x) _ h
+digit_after : (b : List ℕ) → BeginsIn is_digit b → BeginsIn after_range b
+digit_after [] h = h
+digit_after (x ∷ b) h = or_left (is_digit x) _ h
 
-last_hands : (first : Option ℕ) → Hands is_digit (always behind_range) (MaybeLast first)
-last_hands first a b w (inl is) begin = digit_behind b (subst (λ z. BeginsIn is_digit (z ++ b)) is.0 begin)
+last_hands : (first : Option ℕ) → Hands is_digit (always after_range) (MaybeLast first)
+last_hands first a b w (inl is) begin = digit_after b (subst (λ z. BeginsIn is_digit (z ++ b)) is.0 begin)
 last_hands first a b w (inr is) begin = absurd (then_avoids is_digit (IsOctet 58) (λ _. Then IsSeqNumber (λ last. Is (first, last))) (octet_avoids is_digit 58 colon_no_digit) a b w is begin)
 
 last_viable : (first : Option ℕ) → IsViable (MaybeLast first) []
 last_viable first = record { rest = []; value = (first, first); is_word = inl (refl, refl) }
 
-pub first_number_stops : (text : List ℕ) (stop : Stop) → StopsReading IsSeqNumber (always is_digit) text stop → StopsReading IsSeqRange (always behind_range) text stop
-first_number_stops text stop stops = both_stop IsSeqNumber MaybeLast (always is_digit) (always behind_range) text stop stops last_hands last_viable
+pub first_number_stops : (text : List ℕ) (stop : Stop) → StopsReading IsSeqNumber (always is_digit) text stop → StopsReading IsSeqRange (always after_range) text stop
+first_number_stops text stop stops = both_stop IsSeqNumber MaybeLast (always is_digit) (always after_range) text stop stops last_hands last_viable
 
 pub range_open : (text rest : List ℕ) (first : Option ℕ) → Reads IsSeqNumber (always is_digit) text first rest → length rest ≡ 0 → IsViable IsSeqRange text
-range_open text rest first r e = second_stops IsSeqNumber MaybeLast (always is_digit) (always behind_range) text rest first More r last_hands (subst (λ z. IsViable (MaybeLast first) z) (sym (no_octets rest e)) (last_viable first))
+range_open text rest first r e = second_stops IsSeqNumber MaybeLast (always is_digit) (always after_range) text rest first More r last_hands (subst (λ z. IsViable (MaybeLast first) z) (sym (no_octets rest e)) (last_viable first))
 
 pub range_alone : (text rest : List ℕ) (first : Option ℕ) (x : ℕ) (others : List ℕ) → Reads IsSeqNumber (always is_digit) text first rest → rest ≡ x ∷ others → (x ≡ 58 → ⊥)
-    → Reads IsSeqRange (always behind_range) text (first, first) rest
+    → Reads IsSeqRange (always after_range) text (first, first) rest
 range_alone text rest first x others r e other =
-    both_read IsSeqNumber MaybeLast (always is_digit) (always behind_range) text rest rest first (first, first) r last_hands
-    (subst (λ z. Reads (MaybeLast first) (always behind_range) z (first, first) z) (sym e) (nothing_reads (first, first) (Last first) (always behind_range) x others (then_never 58 x _ other)))
+    both_read IsSeqNumber MaybeLast (always is_digit) (always after_range) text rest rest first (first, first) r last_hands
+    (subst (λ z. Reads (MaybeLast first) (always after_range) z (first, first) z) (sym e) (nothing_reads (first, first) (Last first) (always after_range) x others (then_never 58 x _ other)))
 
 last_begun : (first : Option ℕ) (rest : List ℕ) (x : ℕ) (others : List ℕ) → rest ≡ x ∷ others → x ≡ 58 → Continues (Last first) rest (Then IsSeqNumber (λ last. Is (first, last))) others
 last_begun first rest x others e colon = onwards (begins (Last first) rest) (octet_at rest x 58 others e colon) (λ _. never_avoids _)
 
 pub last_stops : (text rest : List ℕ) (first : Option ℕ) (x : ℕ) (others : List ℕ) (stop : Stop) → Reads IsSeqNumber (always is_digit) text first rest → rest ≡ x ∷ others → x ≡ 58
-    → StopsReading IsSeqNumber (always is_digit) others stop → StopsReading IsSeqRange (always behind_range) text stop
+    → StopsReading IsSeqNumber (always is_digit) others stop → StopsReading IsSeqRange (always after_range) text stop
 unfolding is_digit
 last_stops text rest first x others stop r e colon stops =
-    second_stops IsSeqNumber MaybeLast (always is_digit) (always behind_range) text rest first stop r last_hands
-    (subst (λ z. StopsReading (MaybeLast first) (always behind_range) z stop) (sym at) (something_stops (first, first) (Last first) (always behind_range) 58 others stop refl
-    (subst (λ z. StopsReading (Last first) (always behind_range) z stop) at ((last_begun first rest x others e colon).stops (always behind_range) stop
-    (mapped_stops IsSeqNumber (λ last. (first, last)) (always is_digit) (always behind_range) others stop (λ u. digit_behind) stops)))))
+    second_stops IsSeqNumber MaybeLast (always is_digit) (always after_range) text rest first stop r last_hands
+    (subst (λ z. StopsReading (MaybeLast first) (always after_range) z stop) (sym at) (something_stops (first, first) (Last first) (always after_range) 58 others stop refl
+    (subst (λ z. StopsReading (Last first) (always after_range) z stop) at ((last_begun first rest x others e colon).stops (always after_range) stop
+    (mapped_stops IsSeqNumber (λ last. (first, last)) (always is_digit) (always after_range) others stop (λ u. digit_after) stops)))))
   where
     at : rest ≡ 58 ∷ others
     at = e ∙ ap (λ z. z ∷ others) colon
 
 pub range_reads : (text rest mid : List ℕ) (first last : Option ℕ) (x : ℕ) (others : List ℕ) → Reads IsSeqNumber (always is_digit) text first rest → rest ≡ x ∷ others → x ≡ 58
-    → Reads IsSeqNumber (always is_digit) others last mid → Reads IsSeqRange (always behind_range) text (first, last) mid
+    → Reads IsSeqNumber (always is_digit) others last mid → Reads IsSeqRange (always after_range) text (first, last) mid
 unfolding is_digit
 range_reads text rest mid first last x others r e colon second =
-    both_read IsSeqNumber MaybeLast (always is_digit) (always behind_range) text rest mid first (first, last) r last_hands
-    (subst (λ z. Reads (MaybeLast first) (always behind_range) z (first, last) mid) (sym at) (something_reads (first, first) (Last first) (always behind_range) 58 others (first, last) mid refl
-    (subst (λ z. Reads (Last first) (always behind_range) z (first, last) mid) at ((last_begun first rest x others e colon).reads (always behind_range) (first, last) mid
-    (mapped_reads IsSeqNumber (λ last. (first, last)) (always is_digit) (always behind_range) others mid last (λ u. digit_behind) second)))))
+    both_read IsSeqNumber MaybeLast (always is_digit) (always after_range) text rest mid first (first, last) r last_hands
+    (subst (λ z. Reads (MaybeLast first) (always after_range) z (first, last) mid) (sym at) (something_reads (first, first) (Last first) (always after_range) 58 others (first, last) mid refl
+    (subst (λ z. Reads (Last first) (always after_range) z (first, last) mid) at ((last_begun first rest x others e colon).reads (always after_range) (first, last) mid
+    (mapped_reads IsSeqNumber (λ last. (first, last)) (always is_digit) (always after_range) others mid last (λ u. digit_after) second)))))
   where
     at : rest ≡ 58 ∷ others
     at = e ∙ ap (λ z. z ∷ others) colon
 
 -- ---- a set
 
-comma_ends : behind_range 44 ≡ false
+comma_ends : after_range 44 ≡ false
 unfolding is_digit
 comma_ends = refl
 
-space_ends : behind_range 32 ≡ false
+space_ends : after_range 32 ≡ false
 unfolding is_digit
 space_ends = refl
 
-pub comma_avoids : Avoids behind_range (IsOctet 44)
-comma_avoids = octet_avoids behind_range 44 comma_ends
+pub comma_avoids : Avoids after_range (IsOctet 44)
+comma_avoids = octet_avoids after_range 44 comma_ends
 
-pub space_avoids : Avoids behind_range IsSpace
-space_avoids = octet_avoids behind_range 32 space_ends
+pub space_avoids : Avoids after_range IsSpace
+space_avoids = octet_avoids after_range 32 space_ends

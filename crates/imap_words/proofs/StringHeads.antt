@@ -7,7 +7,7 @@ use Rattle.imap_words.specs.declared.tokens.Kind.{Kind}
 use Rattle.imap_words.specs.declared.tokens.Kind.TheVariants.{Astring, ListMailbox, NameAstring}
 use Rattle.imap_words.specs.Going.{Continues}
 use Rattle.imap_words.specs.Tokens.{IsRunOf, passes, is_atom_char, is_astring_char, is_list_char, is_name_char}
-use Rattle.imap_words.specs.Strings.{HeadValue, whole, literal, IsHeader, IsQuoted, behind_head, BeginsNoString}
+use Rattle.imap_words.specs.Strings.{HeadValue, whole, literal, IsHeader, IsQuoted, after_head, BeginsNoString}
 use Rattle.imap_words.proofs.Passing.{no_octets}
 use Rattle.imap_words.proofs.Composing.{NeverAt, fails_first}
 use Rattle.imap_words.proofs.RunSteps.{run_never}
@@ -73,33 +73,33 @@ module _ (Q : List ℕ → List ℕ → Type 0) (H : List ℕ → ℕ → Type 0
         never_at a b v more (inl quoted) same = seq_never Q (λ v. Is (whole v)) x (q_never x no_quote) a b v more quoted same
         never_at a b v more (inr header) same = seq_never H (λ n. Is (literal n)) x (h_never x no_brace) a b v more header same
 
-    never_over : (u : ℕ) (b : List ℕ) → BeginsIn (never u) b → BeginsIn (behind_head kind (literal u)) b
+    never_over : (u : ℕ) (b : List ℕ) → BeginsIn (never u) b → BeginsIn (after_head kind (literal u)) b
     never_over u [] h = h
     never_over u (y ∷ b) h = h
 
-    quoted_over : (u b : List ℕ) → BeginsIn (never u) b → BeginsIn (behind_head kind (whole u)) b
+    quoted_over : (u b : List ℕ) → BeginsIn (never u) b → BeginsIn (after_head kind (whole u)) b
     quoted_over u [] h = absurd h
     quoted_over u (y ∷ b) h = cc h
 
-    pub literal_stops : (stop : Stop) → x ≡ 123 → StopsReading H never text stop → StopsReading (Heads Q H kind) (behind_head kind) text stop
-    literal_stops stop brace stops = (head_literal brace).stops (behind_head kind) stop (mapped_stops H literal never (behind_head kind) text stop never_over stops)
+    pub literal_stops : (stop : Stop) → x ≡ 123 → StopsReading H never text stop → StopsReading (Heads Q H kind) (after_head kind) text stop
+    literal_stops stop brace stops = (head_literal brace).stops (after_head kind) stop (mapped_stops H literal never (after_head kind) text stop never_over stops)
 
-    pub literal_reads : (n : ℕ) (rest : List ℕ) → x ≡ 123 → Reads H never text n rest → Reads (Heads Q H kind) (behind_head kind) text (literal n) rest
-    literal_reads n rest brace r = (head_literal brace).reads (behind_head kind) (literal n) rest (mapped_reads H literal never (behind_head kind) text rest n never_over r)
+    pub literal_reads : (n : ℕ) (rest : List ℕ) → x ≡ 123 → Reads H never text n rest → Reads (Heads Q H kind) (after_head kind) text (literal n) rest
+    literal_reads n rest brace r = (head_literal brace).reads (after_head kind) (literal n) rest (mapped_reads H literal never (after_head kind) text rest n never_over r)
 
-    pub quoted_stops : (stop : Stop) → x ≡ 34 → StopsReading Q never text stop → StopsReading (Heads Q H kind) (behind_head kind) text stop
-    quoted_stops stop quote stops = (head_quoted quote).stops (behind_head kind) stop (mapped_stops Q whole never (behind_head kind) text stop quoted_over stops)
+    pub quoted_stops : (stop : Stop) → x ≡ 34 → StopsReading Q never text stop → StopsReading (Heads Q H kind) (after_head kind) text stop
+    quoted_stops stop quote stops = (head_quoted quote).stops (after_head kind) stop (mapped_stops Q whole never (after_head kind) text stop quoted_over stops)
 
-    pub quoted_reads : (v rest : List ℕ) → x ≡ 34 → Reads Q never text v rest → Reads (Heads Q H kind) (behind_head kind) text (whole v) rest
-    quoted_reads v rest quote r = (head_quoted quote).reads (behind_head kind) (whole v) rest (mapped_reads Q whole never (behind_head kind) text rest v quoted_over r)
+    pub quoted_reads : (v rest : List ℕ) → x ≡ 34 → Reads Q never text v rest → Reads (Heads Q H kind) (after_head kind) text (whole v) rest
+    quoted_reads v rest quote r = (head_quoted quote).reads (after_head kind) (whole v) rest (mapped_reads Q whole never (after_head kind) text rest v quoted_over r)
 
-    pub plain_stops : (stop : Stop) → (x ≡ 123 → ⊥) → (x ≡ 34 → ⊥) → StopsReading (IsRunOf (passes kind)) (always (passes kind)) text stop → StopsReading (Heads Q H kind) (behind_head kind) text stop
-    plain_stops stop b q stops = (head_plain b q).stops (behind_head kind) stop (mapped_stops (IsRunOf (passes kind)) whole (always (passes kind)) (behind_head kind) text stop (λ u b h. h) stops)
+    pub plain_stops : (stop : Stop) → (x ≡ 123 → ⊥) → (x ≡ 34 → ⊥) → StopsReading (IsRunOf (passes kind)) (always (passes kind)) text stop → StopsReading (Heads Q H kind) (after_head kind) text stop
+    plain_stops stop b q stops = (head_plain b q).stops (after_head kind) stop (mapped_stops (IsRunOf (passes kind)) whole (always (passes kind)) (after_head kind) text stop (λ u b h. h) stops)
 
-    pub plain_reads : (v rest octets : List ℕ) → (x ≡ 123 → ⊥) → (x ≡ 34 → ⊥) → Reads (IsRunOf (passes kind)) (always (passes kind)) text v rest → octets ≡ v → Reads (Heads Q H kind) (behind_head kind) text (whole octets) rest
+    pub plain_reads : (v rest octets : List ℕ) → (x ≡ 123 → ⊥) → (x ≡ 34 → ⊥) → Reads (IsRunOf (passes kind)) (always (passes kind)) text v rest → octets ≡ v → Reads (Heads Q H kind) (after_head kind) text (whole octets) rest
     plain_reads v rest octets b q r same =
-        subst (λ z. Reads (Heads Q H kind) (behind_head kind) text (whole z) rest) (sym same)
-        ((head_plain b q).reads (behind_head kind) (whole v) rest (mapped_reads (IsRunOf (passes kind)) whole (always (passes kind)) (behind_head kind) text rest v (λ u b h. h) r))
+        subst (λ z. Reads (Heads Q H kind) (after_head kind) text (whole z) rest) (sym same)
+        ((head_plain b q).reads (after_head kind) (whole v) rest (mapped_reads (IsRunOf (passes kind)) whole (always (passes kind)) (after_head kind) text rest v (λ u b h. h) r))
 
 pub astring_starts : BeginsNoString Astring
 unfolding is_atom_char is_astring_char

@@ -1,5 +1,6 @@
 -- Dates with times (RFC 3501, 9).
 use Rattle.std.specs.Prelude.{◌≡◌, ℕ, true, List, [], ◌∷◌, codes}
+use Rattle.mail_wire.specs.Characters.{plus, dash, colon}
 use Rattle.imap_words.specs.Languages.{Then, After, Or, Is, IsOctet, SaysItself}
 use Rattle.imap_words.specs.Tokens.{IsSpace, IsDoubleQuote, is_digit}
 use Rattle.imap_words.specs.Keywords.{Named, IsWordOf}
@@ -30,16 +31,16 @@ months =
 
 -- time = 2DIGIT ":" 2DIGIT ":" 2DIGIT ; Hours minutes seconds
 abbrev pub IsTime : List ℕ → ℕ → Type 0
-IsTime = After IsTwoDigits (After (IsOctet 58) (After IsTwoDigits (After (IsOctet 58) IsTwoDigits)))
+IsTime = After IsTwoDigits (After (IsOctet colon) (After IsTwoDigits (After (IsOctet colon) IsTwoDigits)))
 
 -- zone = ("+" / "-") 4DIGIT
 abbrev pub IsZone : List ℕ → ℕ → Type 0
-IsZone = After (Or (IsOctet 43) (IsOctet 45)) IsFourDigits
+IsZone = After (Or (IsOctet plus) (IsOctet dash)) IsFourDigits
 
 -- date-day-fixed "-" date-month "-" date-year SP time SP zone
 abbrev pub IsDateTimeText : List ℕ → ℕ → Type 0
 IsDateTimeText =
-    After IsDateDayFixed (After (IsOctet 45) (After (IsWordOf months) (After (IsOctet 45) (After IsFourDigits (After IsSpace (After IsTime (After IsSpace IsZone)))))))
+    After IsDateDayFixed (After (IsOctet dash) (After (IsWordOf months) (After (IsOctet dash) (After IsFourDigits (After IsSpace (After IsTime (After IsSpace IsZone)))))))
 
 -- date-time = DQUOTE date-day-fixed "-" date-month "-" date-year SP time SP zone DQUOTE
 -- It stands for what is written between the quotes.

@@ -1,6 +1,7 @@
 -- Strings (RFC 3501, 4.3 and 9; RFC 6855, 3; RFC 3629, 4), and names of fields (RFC 5322, 2.2).
 use Rattle.std.specs.Prelude.{◌≡◌, ℕ, ◌<◌, ◌==◌, Bool, true, false, List, [], ◌∷◌, ◌++◌, if◌then◌else◌}
 use Rattle.std.specs.List.{All, flat_map}
+use Rattle.mail_wire.specs.Characters.{quote, backslash, left_brace, right_brace, tilde}
 use Rattle.imap_words.specs.Languages.{Then, After, Or, Is, IsOctet, IsBetween, IsCounted}
 use Rattle.imap_words.specs.declared.tokens.Kind.{Kind}
 use Rattle.imap_words.specs.declared.tokens.Kind.TheVariants.{NameAstring}
@@ -64,7 +65,7 @@ IsQuotedChar utf8 (high octets) = (utf8 ≡ true) × ((x : ℕ) × IsHighChar oc
 -- The octets of a character in a quoted string, a backslash before it where it is quoted (RFC 3501, 9).
 abbrev pub quoted_spelling : QuotedChar → List ℕ
 quoted_spelling (text x) = x ∷ []
-quoted_spelling (escaped x) = 92 ∷ x ∷ []
+quoted_spelling (escaped x) = backslash ∷ x ∷ []
 quoted_spelling (high octets) = octets
 
 -- The octets that a character of a quoted string means, without a backslash before it.
@@ -97,18 +98,18 @@ pub record PutsSaid (P : List ℕ → List ℕ → Type 0) (text rest before aft
 pub record IsQuoted (utf8 : Bool) (octets value : List ℕ) : Type 0 where
   pub items : List QuotedChar
   pub each : All (IsQuotedChar utf8) items
-  pub spelled : octets ≡ 34 ∷ (flat_map quoted_spelling items ++ 34 ∷ [])
+  pub spelled : octets ≡ quote ∷ (flat_map quoted_spelling items ++ quote ∷ [])
   pub value_is : value ≡ flat_map quoted_octets items
 
 -- ---- literals
 
 -- the front of a literal: "{" number "}" CRLF
 abbrev pub IsHeader : List ℕ → ℕ → Type 0
-IsHeader = After (IsOctet 123) (Then IsNumber32 (λ n. After (IsOctet 125) (After IsCrlf (Is n))))
+IsHeader = After (IsOctet left_brace) (Then IsNumber32 (λ n. After (IsOctet right_brace) (After IsCrlf (Is n))))
 
 -- the front of a literal8: "~{" number "}" CRLF (RFC 6855, 4)
 abbrev pub IsHeader8 : List ℕ → ℕ → Type 0
-IsHeader8 = After (IsOctet 126) IsHeader
+IsHeader8 = After (IsOctet tilde) IsHeader
 
 -- literal = "{" number "}" CRLF *CHAR8 ; Number represents the number of CHAR8s
 -- This server takes any octets.
@@ -151,12 +152,12 @@ IsHead utf8 kind =
 
 -- a run of this kind begins neither as a literal does nor as a quoted string
 abbrev pub BeginsNoString : Kind → Type 0
-BeginsNoString kind = (passes kind 123 ≡ false) × (passes kind 34 ≡ false)
+BeginsNoString kind = (passes kind left_brace ≡ false) × (passes kind quote ≡ false)
 
 -- what may go on behind it: a run
-abbrev pub behind_head : Kind → HeadValue → ℕ → Bool
-behind_head kind (whole v) = passes kind
-behind_head kind (literal n) = λ x. false
+abbrev pub after_head : Kind → HeadValue → ℕ → Bool
+after_head kind (whole v) = passes kind
+after_head kind (literal n) = λ x. false
 
 -- what is left of a string behind its head
 abbrev pub BodyOf : HeadValue → List ℕ → List ℕ → Type 0
@@ -184,8 +185,8 @@ IsNameHead =
     Or (Then (IsRunOf (passes NameAstring)) (λ v. Is (whole v))) (Or (Then IsQuotedName (λ v. Is (whole v))) (Then IsNameHeader (λ n. Is (literal n))))
 
 -- The octet would go on with the beginning of a field's name.
-abbrev pub behind_name_head : HeadValue → ℕ → Bool
-behind_name_head = behind_head NameAstring
+abbrev pub after_name_head : HeadValue → ℕ → Bool
+after_name_head = after_head NameAstring
 
 -- What follows the beginning of a field's name: nothing, or the octets of the literal, which are a name.
 abbrev pub NameBodyOf : HeadValue → List ℕ → List ℕ → Type 0

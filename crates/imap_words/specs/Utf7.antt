@@ -3,6 +3,7 @@ use Rattle.std.specs.Prelude.{◌≡◌, ℕ, ◌/◌, ◌%◌, ◌==◌, nat_le
 use Rattle.std.specs.List.{flat_map, list_all}
 use Rattle.std.specs.Char.Escape.{encode_utf16}
 use Rattle.std.specs.Str.{chars, encode_utf8_all, all_scalars}
+use Rattle.mail_wire.specs.Characters.{ampersand, dash, equals_sign}
 use Rattle.base64.specs.Rfc4648.{encode}
 
 -- printable US-ASCII characters, octets 0x20 to 0x7e
@@ -23,26 +24,26 @@ utf16_octets run = flat_map char_octets run
 
 -- modified BASE64: "," in place of "/", and without padding
 abbrev pub modified_base64 : List ℕ → List ℕ
-modified_base64 octets = encode (codes "ABCDEFGHIJKLMNOPQRSTUVWXYZabcdefghijklmnopqrstuvwxyz0123456789+,") 61 false octets
+modified_base64 octets = encode (codes "ABCDEFGHIJKLMNOPQRSTUVWXYZabcdefghijklmnopqrstuvwxyz0123456789+,") equals_sign false octets
 
 -- octets of UTF-16 between "&" and "-"; none are written as nothing
 abbrev pub shifted : List ℕ → List ℕ
 shifted [] = []
-shifted (x ∷ octets) = 38 ∷ (modified_base64 (x ∷ octets) ++ 45 ∷ [])
+shifted (x ∷ octets) = ampersand ∷ (modified_base64 (x ∷ octets) ++ dash ∷ [])
 
 -- "&" is represented by "&-", and every other printable character by itself
 abbrev pub unshifted : ℕ → List ℕ
-unshifted c = if c == 38 then 38 ∷ 45 ∷ [] else c ∷ []
+unshifted c = if c == ampersand then ampersand ∷ dash ∷ [] else c ∷ []
 
 -- Characters that aren't printable are shifted, in runs as long as can be. The octets of some stand before the others.
-abbrev pub written_behind : (octets : List ℕ) → List ℕ → List ℕ
-written_behind octets [] = shifted octets
-written_behind octets (c ∷ cs) =
-    if is_printable c then shifted octets ++ (unshifted c ++ written_behind [] cs) else written_behind (octets ++ char_octets c) cs
+abbrev pub written_after : (octets : List ℕ) → List ℕ → List ℕ
+written_after octets [] = shifted octets
+written_after octets (c ∷ cs) =
+    if is_printable c then shifted octets ++ (unshifted c ++ written_after [] cs) else written_after (octets ++ char_octets c) cs
 
 -- a name in modified UTF-7
 abbrev pub modified_utf7 : List ℕ → List ℕ
-modified_utf7 name = written_behind [] (chars name)
+modified_utf7 name = written_after [] (chars name)
 
 -- ---- words of the reader's own contracts
 
@@ -56,11 +57,11 @@ encoded cs = encode_utf8_all cs
 
 -- Any octet but `-`, which ends a shift (RFC 3501, 5.1.3).
 abbrev pub is_no_dash : ℕ → Bool
-is_no_dash x = not (x == 45)
+is_no_dash x = not (x == dash)
 
 -- what stands between "&" and "-", and for which characters
 abbrev pub IsShift : List ℕ → List ℕ → Type 0
-IsShift symbols cs = ((symbols ≡ []) × (cs ≡ 38 ∷ [])) ⊎ ((0 < length symbols) × AreScalars cs × (symbols ≡ modified_base64 (utf16_octets cs)))
+IsShift symbols cs = ((symbols ≡ []) × (cs ≡ ampersand ∷ [])) ⊎ ((0 < length symbols) × AreScalars cs × (symbols ≡ modified_base64 (utf16_octets cs)))
 
 -- No `-` stands in the text.
 abbrev pub has_no_dash : List ℕ → Bool

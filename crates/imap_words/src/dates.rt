@@ -123,9 +123,9 @@ fn date_text(text: &[u8]) -> Result<(u8, &[u8]), Stop>
 pub fn date_time(text: &[u8]) -> Result<(&[u8], &[u8]), Stop>
     ensures { MatchResult result (λ x. Reads IsDateTime never text.now x.0.now x.1.now) (λ stop. StopsReading IsDateTime never text.now stop) }
 {
-    let behind_open = octet(b'"', text)?;
-    let (_, behind) = date_text(behind_open)?;
-    let (date, behind) = behind_open.split_at(behind_open.len() - behind.len());
-    let rest = octet(b'"', behind)?;
+    let after_open = octet(b'"', text)?;
+    let (_, following) = date_text(after_open)?;
+    let (date, following) = after_open.split_at(after_open.len() - following.len());
+    let rest = octet(b'"', following)?;
     Ok((date, rest))
 }

@@ -1,7 +1,7 @@
 //! Readers of sets of messages.
 ghost use Rattle.std.specs.Prelude.{◌≡◌, ℕ, MatchResult};
 ghost use Rattle.imap_words.specs.Reading.{Reads, StopsReading, never, always};
-ghost use Rattle.imap_words.specs.Sets.{IsSeqNumber, IsSeqRange, IsSetAndSpace, behind_range};
+ghost use Rattle.imap_words.specs.Sets.{IsSeqNumber, IsSeqRange, IsSetAndSpace, after_range};
 ghost use Rattle.imap_words.specs.Tokens.{is_digit};
 
 use crate::stop::Stop;
@@ -25,7 +25,7 @@ fn seq_number(text: &[u8]) -> Result<(Option<u32>, &[u8]), Stop>
 
 // Reads a number alone, or a range.
 fn seq_range(text: &[u8]) -> Result<((Option<u32>, Option<u32>), &[u8]), Stop>
-    ensures { MatchResult result (λ x. Reads IsSeqRange (always behind_range) text.now x.0 x.1.now) (λ stop. StopsReading IsSeqRange (always behind_range) text.now stop) }
+    ensures { MatchResult result (λ x. Reads IsSeqRange (always after_range) text.now x.0 x.1.now) (λ stop. StopsReading IsSeqRange (always after_range) text.now stop) }
 {
     let (first, rest) = seq_number(text)?;
     let Some((octet, others)) = rest.split_first() else {
@@ -46,22 +46,22 @@ pub fn set_and_space(
 ) -> Result<(Items<(Option<u32>, Option<u32>)>, &[u8]), Stop>
     ensures { MatchResult result (λ x. Reads IsSetAndSpace never text.now x.0 x.1.now) (λ stop. StopsReading IsSetAndSpace never text.now stop) }
 {
-    let (first, behind_first) = seq_range(text)?;
+    let (first, after_first) = seq_range(text)?;
     let mut ranges = Items::new(alloc);
     let Ok(()) = ranges.push(first) else {
         return Err(Stop::Memory);
     };
-    let mut rest = behind_first;
+    let mut rest = after_first;
     while let Some((separator, others)) = rest.split_first() {
         if *separator != b',' {
-            let behind = octet(b' ', rest)?;
-            return Ok((ranges, behind));
+            let following = octet(b' ', rest)?;
+            return Ok((ranges, following));
         }
-        let (range, behind) = seq_range(others)?;
+        let (range, following) = seq_range(others)?;
         let Ok(()) = ranges.push(range) else {
             return Err(Stop::Memory);
         };
-        rest = behind;
+        rest = following;
     }
     Err(Stop::More)
 }

@@ -4,7 +4,7 @@ ghost use Rattle.mail_wire.specs.Lines.{first_line};
 ghost use Rattle.imap_words.specs.declared.stop.Stop.TheVariants.{More};
 ghost use Rattle.imap_words.specs.Reading.{Reads, StopsReading, always, never};
 ghost use Rattle.imap_words.specs.Languages.{IsBetween, SaysItself};
-ghost use Rattle.imap_words.specs.Strings.{IsHeader, IsHeader8, IsPositive, IsNameHeader, IsHighChar, IsQuoted, IsQuotedName, IsHead, IsSpecial, IsOneQuoted, PutsSaid, IsNameHead, BeginsNoString, behind_head, behind_name_head, head_value, least_second as least_second_of, greatest_second as greatest_second_of};
+ghost use Rattle.imap_words.specs.Strings.{IsHeader, IsHeader8, IsPositive, IsNameHeader, IsHighChar, IsQuoted, IsQuotedName, IsHead, IsSpecial, IsOneQuoted, PutsSaid, IsNameHead, BeginsNoString, after_head, after_name_head, head_value, least_second as least_second_of, greatest_second as greatest_second_of};
 ghost use Rattle.imap_words.specs.Tokens.{is_digit, is_quoted_special as is_quoted_special_of, is_quoted_text as is_quoted_text_of};
 
 use crate::stop::Stop;
@@ -25,10 +25,10 @@ pub fn header(text: &[u8]) -> Result<(u32, &[u8]), Stop>
     ensures more { result ≡ Err More → first_line text.now ≡ None }
     ensures reads { MatchResult result (λ x. Reads IsHeader never text.now x.0 x.1.now) (λ stop. StopsReading IsHeader never text.now stop) }
 {
-    let behind_open = octet(b'{', text)?;
-    let (size, behind_size) = number(behind_open)?;
-    let behind_close = octet(b'}', behind_size)?;
-    let rest = line_end(behind_close)?;
+    let after_open = octet(b'{', text)?;
+    let (size, after_size) = number(after_open)?;
+    let after_close = octet(b'}', after_size)?;
+    let rest = line_end(after_close)?;
     Ok((size, rest))
 }
 
@@ -52,10 +52,10 @@ fn name_header(text: &[u8]) -> Result<(u32, &[u8]), Stop>
     ensures more { result ≡ Err More → first_line text.now ≡ None }
     ensures reads { MatchResult result (λ x. Reads IsNameHeader never text.now x.0 x.1.now) (λ stop. StopsReading IsNameHeader never text.now stop) }
 {
-    let behind_open = octet(b'{', text)?;
-    let (size, behind_size) = positive(behind_open)?;
-    let behind_close = octet(b'}', behind_size)?;
-    let rest = line_end(behind_close)?;
+    let after_open = octet(b'{', text)?;
+    let (size, after_size) = positive(after_open)?;
+    let after_close = octet(b'}', after_size)?;
+    let rest = line_end(after_close)?;
     Ok((size, rest))
 }
 
@@ -65,8 +65,8 @@ pub fn header8(text: &[u8]) -> Result<(u32, &[u8]), Stop>
     ensures more { result ≡ Err More → first_line text.now ≡ None }
     ensures reads { MatchResult result (λ x. Reads IsHeader8 never text.now x.0 x.1.now) (λ stop. StopsReading IsHeader8 never text.now stop) }
 {
-    let behind_tilde = octet(b'~', text)?;
-    let (size, rest) = header(behind_tilde)?;
+    let after_tilde = octet(b'~', text)?;
+    let (size, rest) = header(after_tilde)?;
     Ok((size, rest))
 }
 
@@ -124,16 +124,16 @@ fn high_char(text: &[u8]) -> Result<(&[u8], &[u8]), Stop>
     if *first > 244 {
         return Err(Stop::Bad(text.len()));
     }
-    let (_, behind_second) = between(least_second(*first), greatest_second(*first), others)?;
+    let (_, after_second) = between(least_second(*first), greatest_second(*first), others)?;
     if *first < 224 {
-        return Ok(text.split_at(text.len() - behind_second.len()));
+        return Ok(text.split_at(text.len() - after_second.len()));
     }
-    let (_, behind_third) = between(128, 191, behind_second)?;
+    let (_, after_third) = between(128, 191, after_second)?;
     if *first < 240 {
-        return Ok(text.split_at(text.len() - behind_third.len()));
+        return Ok(text.split_at(text.len() - after_third.len()));
     }
-    let (_, behind_fourth) = between(128, 191, behind_third)?;
-    Ok(text.split_at(text.len() - behind_fourth.len()))
+    let (_, after_fourth) = between(128, 191, after_third)?;
+    Ok(text.split_at(text.len() - after_fourth.len()))
 }
 
 // ---- quoted strings
@@ -246,7 +246,7 @@ pub fn string_head(
 ) -> Result<(Head, &[u8]), Stop>
     requires { BeginsNoString kind }
     ensures more { result ≡ Err More → first_line text.now ≡ None }
-    ensures reads { MatchResult result (λ x. Reads (IsHead utf8 kind) (behind_head kind) text.now (head_value x.0) x.1.now) (λ stop. StopsReading (IsHead utf8 kind) (behind_head kind) text.now stop) }
+    ensures reads { MatchResult result (λ x. Reads (IsHead utf8 kind) (after_head kind) text.now (head_value x.0) x.1.now) (λ stop. StopsReading (IsHead utf8 kind) (after_head kind) text.now stop) }
 {
     let Some((first, _)) = text.split_first() else {
         return Err(Stop::More);
@@ -271,7 +271,7 @@ pub fn string_head(
 #[tactic(auto, using(crate::proofs::InLine::no_octet, crate::proofs::InLine::quoted_name_open))]
 pub fn name_head(alloc: Global, text: &[u8]) -> Result<(Head, &[u8]), Stop>
     ensures more { result ≡ Err More → first_line text.now ≡ None }
-    ensures reads { MatchResult result (λ x. Reads IsNameHead behind_name_head text.now (head_value x.0) x.1.now) (λ stop. StopsReading IsNameHead behind_name_head text.now stop) }
+    ensures reads { MatchResult result (λ x. Reads IsNameHead after_name_head text.now (head_value x.0) x.1.now) (λ stop. StopsReading IsNameHead after_name_head text.now stop) }
 {
     let Some((first, _)) = text.split_first() else {
         return Err(Stop::More);

@@ -60,8 +60,8 @@ pub fn line_end(text: &[u8]) -> Result<&[u8], Stop>
     ensures more { result ≡ Err More → first_line text.now ≡ None }
     ensures reads { MatchResult result (λ rest. Reads IsCrlf never text.now 10 rest.now) (λ stop. StopsReading IsCrlf never text.now stop) }
 {
-    let behind_return = octet(b'\r', text)?;
-    let rest = line_feed(behind_return)?;
+    let after_return = octet(b'\r', text)?;
+    let rest = line_feed(after_return)?;
     Ok(rest)
 }
 

@@ -168,7 +168,7 @@ fn find_dash(text: &[u8]) -> Option<usize>
 
 // What stands before the first `-`, and what follows it.
 fn split_run(text: &[u8]) -> Option<(&[u8], &[u8])>
-    ensures found { (run behind : List ℕ) → has_no_dash run ≡ true → text.now ≡ run ++ 45 ∷ behind → IsSomeAnd result (λ r. (r.0.now ≡ run) × (r.1.now ≡ behind)) }
+    ensures found { (run following : List ℕ) → has_no_dash run ≡ true → text.now ≡ run ++ 45 ∷ following → IsSomeAnd result (λ r. (r.0.now ≡ run) × (r.1.now ≡ following)) }
     ensures shorter { IfSome result (λ r. length r.1.now < length text.now) }
 {
     let at = find_dash(text)?;
@@ -187,13 +187,13 @@ fn likely_name(alloc: Global, text: &[u8]) -> Result<Option<String>, Memory>
             rest = others;
             continue;
         }
-        let Some((run, behind)) = split_run(others) else {
+        let Some((run, following)) = split_run(others) else {
             return Ok(None);
         };
         if !push_shift(alloc, &mut name, run)? {
             return Ok(None);
         }
-        rest = behind;
+        rest = following;
     }
     Ok(Some(name))
 }

@@ -21,14 +21,14 @@ first_of old new a b (n, is) =
     (min n (length a), is ∙ ap (λ l. old ++ l) (sym (take-append-le (min n (length a)) a b short ∙ take_min n a)))
 
 -- the whole text, and a first part of more
-pub first_behind : (old mid new a b : List ℕ) → mid ≡ old ++ a → PutsFirst mid new b → PutsFirst old new (a ++ b)
-first_behind old mid new a b at (n, is) =
+pub first_after : (old mid new a b : List ℕ) → mid ≡ old ++ a → PutsFirst mid new b → PutsFirst old new (a ++ b)
+first_after old mid new a b at (n, is) =
     (length a + n, is ∙ ap (λ l. l ++ take n b) at ∙ append_assoc old a (take n b) ∙ ap (λ l. old ++ l) (sym (take-append-add a b n)))
 
 -- a text, and what comes behind it
-pub puts_behind : {T : Type 0} (old mid new a b : List ℕ) (result : Result T Memory) → mid ≡ old ++ a → PutsText mid new result b → PutsText old new result (a ++ b)
-puts_behind old mid new a b (Ok done) at is = is ∙ ap (λ l. l ++ b) at ∙ append_assoc old a b
-puts_behind old mid new a b (Err memory) at is = first_behind old mid new a b at is
+pub puts_after : {T : Type 0} (old mid new a b : List ℕ) (result : Result T Memory) → mid ≡ old ++ a → PutsText mid new result b → PutsText old new result (a ++ b)
+puts_after old mid new a b (Ok done) at is = is ∙ ap (λ l. l ++ b) at ∙ append_assoc old a b
+puts_after old mid new a b (Err memory) at is = first_after old mid new a b at is
 
 -- the parts before a place, and those from there on
 parts_split : {X : Type 0} (f : X → List ℕ) (parts : List X) (i : ℕ) → flat_map f (take i parts) ++ flat_map f (drop i parts) ≡ flat_map f parts
@@ -38,7 +38,7 @@ parts_split f parts i = sym (flat_map-append f (take i parts) (drop i parts)) �
 pub first_parts : {X : Type 0} (f : X → List ℕ) (parts : List X) (i : ℕ) (x : X) (old mid new : List ℕ) → i < length parts
     → mid ≡ old ++ flat_map f (take i parts) → x ≡ get_or parts i x → PutsFirst mid new (f x) → PutsFirst old new (flat_map f parts)
 first_parts f parts i x old mid new within at is first =
-    let upto = first_behind old mid new (flat_map f (take i parts)) (f x) at first in
+    let upto = first_after old mid new (flat_map f (take i parts)) (f x) at first in
     let more : flat_map f (take i parts) ++ f x ≡ flat_map f (take (i + 1) parts) =
     ap (λ l. flat_map f (take i parts) ++ l) (sym (append-nil (f x))) ∙ sym (flat_map-append f (take i parts) (x ∷ []))
     ∙ ap (λ y. flat_map f (take i parts ++ y ∷ [])) is ∙ ap (flat_map f) (sym (take_more parts i x within)) in
@@ -66,17 +66,17 @@ pub queue_text : (path : List ℕ) (count : ℕ) (rest : List ℕ) → (7 ∷ (o
 queue_text path count rest = ap (λ l. 7 ∷ l) (append_assoc (octet_list path) (number count) rest)
 
 -- a message: what stands before its octets, and they
-pub message_behind : (folder flags : ℕ) (date octets : List ℕ)
+pub message_after : (folder flags : ℕ) (date octets : List ℕ)
     → (4 ∷ (number folder ++ flags ∷ (octet_list date ++ number (length octets)))) ++ octets ≡ fields_of (records.Message folder flags date octets)
-message_behind folder flags date octets =
+message_after folder flags date octets =
     ap (λ l. 4 ∷ l) (append_assoc (number folder) (flags ∷ (octet_list date ++ number (length octets))) octets
     ∙ ap (λ l. number folder ++ flags ∷ l) (append_assoc (octet_list date) (number (length octets)) octets))
 
 -- a waiting message: what stands before its octets, and they
-pub queue_behind : (path : List ℕ) (addresses : List (List ℕ)) (octets : List ℕ)
+pub queue_following : (path : List ℕ) (addresses : List (List ℕ)) (octets : List ℕ)
     → (7 ∷ (octet_list path ++ (number (length addresses) ++ (flat_map octet_list addresses ++ number (length octets))))) ++ octets
     ≡ fields_of (records.Queue path addresses octets)
-queue_behind path addresses octets =
+queue_following path addresses octets =
     let count = number (length addresses) in
     let lists = flat_map octet_list addresses in
     let len = number (length octets) in

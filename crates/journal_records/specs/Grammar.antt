@@ -4,6 +4,7 @@ use Rattle.std.specs.List.{All, list_any}
 use Rattle.std.specs.Char.{is_control}
 use Rattle.std.specs.Str.{chars}
 use Rattle.unicode_normalization.specs.Forms.{is_nfc, nfc}
+use Rattle.mail_wire.specs.Characters.{space, percent, asterisk, plus, dash}
 use Rattle.mail_wire.specs.Numbers.{is_digit}
 use Rattle.mail_wire.specs.Octets.{same_name}
 use Rattle.journal_records.specs.declared.limits.TheConstants.{NAME_MAX}
@@ -17,8 +18,8 @@ date_shape = codes "d9-aaa-9999 99:99:99 +9999"
 unfoldable pub fits_letter : ℕ → ℕ → Bool
 fits_letter letter x =
     if letter == 57 then is_digit x
-    else if letter == 100 then (is_digit x || x == 32)
-    else if letter == 43 then (x == 43 || x == 45)
+    else if letter == 100 then (is_digit x || x == space)
+    else if letter == plus then (x == plus || x == dash)
     else if letter == 97 then true
     else x == letter
 
@@ -35,7 +36,7 @@ pub record IsDate (date : List ℕ) : Type 0 where
 
 -- a character that a folder's name may have: no control, no `*` and no `%`
 abbrev pub IsNameChar : ℕ → Type 0
-IsNameChar c = (is_control c ≡ false) × (c ≢ 42) × (c ≢ 37)
+IsNameChar c = (is_control c ≡ false) × (c ≢ asterisk) × (c ≢ percent)
 
 -- the name of a folder, in UTF-8 and NFC (UAX #15)
 pub record IsFolderName (name : List ℕ) : Type 0 where

@@ -4,5 +4,5 @@ pub mod ChainLemmas
 pub mod SameMessages
 pub mod QueueLemmas
 pub mod ListingLemmas
-pub mod ParcelLemmas
+pub mod BatchLemmas
 pub mod DateLemmas

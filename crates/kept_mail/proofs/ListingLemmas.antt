@@ -16,12 +16,12 @@ abbrev pub listed_at : List Message → ℕ → List ℕ → List Listed
 listed_at all uid [] = []
 listed_at all uid (id ∷ ids) = option_to_list (listed_one (slice_get all id) id uid) ++ listed_at all (uid + 1) ids
 
-slice_get-seam : (before : List Message) (m : Message) (behind : List Message) → slice_get (before ++ m ∷ behind) (length before) ≡ Some m
-slice_get-seam [] m behind = refl
-slice_get-seam (x ∷ before) m behind = slice_get-seam before m behind
+slice_get-seam : (before : List Message) (m : Message) (following : List Message) → slice_get (before ++ m ∷ following) (length before) ≡ Some m
+slice_get-seam [] m following = refl
+slice_get-seam (x ∷ before) m following = slice_get-seam before m following
 
-shown : (m : Message) (id uid : ℕ) (behind : List Listed) → cond m.live (record { id = id; uid = uid; flags = m.flags } ∷ behind) behind ≡ option_to_list (listed_one (Some m) id uid) ++ behind
-shown m id uid behind =
+shown : (m : Message) (id uid : ℕ) (following : List Listed) → cond m.live (record { id = id; uid = uid; flags = m.flags } ∷ following) following ≡ option_to_list (listed_one (Some m) id uid) ++ following
+shown m id uid following =
     elim (cases_Bool m.live) [
       | inl live ↦ rw live refl
       | inr dead ↦ rw dead refl

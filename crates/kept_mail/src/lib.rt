@@ -3,6 +3,7 @@
 #![tactic(auto)]
 
 mod accounts;
+mod batches;
 mod checks;
 mod contents;
 mod delivery;
@@ -11,9 +12,11 @@ mod kept;
 mod limits;
 mod messages;
 mod names;
-mod parcels;
 
 pub use accounts::{has_password, put_account, reserve_account};
+pub use batches::{
+    Batch, is_for_nobody, parts_of, put_batch, put_entry, reserve_delivery, settle_at, waiting_of,
+};
 pub use checks::{
     account_fits, are_live, are_too_many, has_room, is_live, is_unsettled, message_fits,
 };
@@ -26,6 +29,3 @@ pub use kept::{
 pub use limits::{MESSAGE_MAX, RECIPIENTS_MAX, THINGS_MAX, limits_are_these};
 pub use messages::{list_back, put_flags, take_away};
 pub use names::{number_of, put_first, take_back};
-pub use parcels::{
-    Parcel, is_for_nobody, parts_of, put_entry, put_parcel, reserve_delivery, settle_at, waiting_of,
-};

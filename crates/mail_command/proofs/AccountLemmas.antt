@@ -43,7 +43,7 @@ address_is_path =
     let local = local_written (codes "a") in
     let dotted = dotted_again labels (omega arith) in
     let says = dotted_contents labels in
-    let behind = rw (says) at (dotted_writes (dotted_tokens labels) dotted (dotted_shapes labels refl) (mark 62 ∷ []) (62 ∷ []) refl ([], refl, (62, refl, refl), refl)) in
+    let following = rw (says) at (dotted_writes (dotted_tokens labels) dotted (dotted_shapes labels refl) (mark 62 ∷ []) (62 ∷ []) refl ([], refl, (62, refl, refl), refl)) in
     record {
       tokens = mark 60 ∷ (local.0 ++ mark 64 ∷ (dotted_tokens labels ++ mark 62 ∷ []));
       has_tokens = record {
@@ -52,7 +52,7 @@ address_is_path =
           codes "a@example.org>",
           refl,
           (60, refl, refl),
-          local.1.writes.are_tokens (mark 64 ∷ (dotted_tokens labels ++ mark 62 ∷ [])) (codes "@example.org>") refl (codes "example.org>", refl, (64, refl, refl), behind),
+          local.1.writes.are_tokens (mark 64 ∷ (dotted_tokens labels ++ mark 62 ∷ [])) (codes "@example.org>") refl (codes "example.org>", refl, (64, refl, refl), following),
         );
       };
       is_path = record {
@@ -65,7 +65,7 @@ address_is_path =
           whole = ap (λ r. mark 60 ∷ r) (sym (append_assoc local.0 (mark 64 ∷ dotted_tokens labels) (mark 62 ∷ [])));
           opens = refl;
           closes = refl;
-          behind = refl;
+          following = refl;
         };
         nothing_before = refl;
         holds = record {

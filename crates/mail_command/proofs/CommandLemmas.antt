@@ -1,6 +1,6 @@
 -- What a command's words say, and what that leaves to the others.
 use Rattle.std.proofs.Common.{◌≡◌, ℕ, List, [], ◌∷◌, Option, refl, sym, subst, ◌∙◌, inl, inr, codes}
-use Rattle.mail_wire.specs.Telling.{Telling}
+use Rattle.mail_wire.specs.WireState.{WireState}
 use Rattle.mail_wire.proofs.Moving.{Gives-nil, GivesPrefix-nil}
 use Rattle.address_grammar.specs.declared.Address.{Address}
 use Rattle.kept_mail.specs.Kept.{Kept}
@@ -41,8 +41,8 @@ none_opens words none (OfDomain name is) = none.domain name is
 none_opens words none (OfRelay host is) = none.relay host is
 
 -- memory was wanting for the words
-pub not_begun : (refusal : Kept → Option StoreFault) (one : Record) (octets : Option (List ℕ)) (a : Telling) → RunsAdding refusal one octets octets a a 3
+pub not_begun : (refusal : Kept → Option StoreFault) (one : Record) (octets : Option (List ℕ)) (a : WireState) → RunsAdding refusal one octets octets a a 3
 not_begun refusal one octets a = Broken (inl (inr refl)) (InJournal (Gives-nil a) (left_alone octets))
 
-pub refusal_unbegun : (a : Telling) → RefusesWords a a 3
+pub refusal_unbegun : (a : WireState) → RefusesWords a a 3
 refusal_unbegun a = BrokenOff (GivesPrefix-nil a words_refused) (inr refl)

@@ -3,9 +3,9 @@ use Rattle.std.proofs.Common.{◌≡◌, ℕ, List, [], ◌++◌, length, Option
 use Rattle.std.specs.Prelude.{IfSome}
 use Rattle.std.proofs.lemmas.Option.{IfSome_then}
 use Rattle.mail_wire.proofs.KeeperLemmas.{HasKeeperCause-fine, KeepsOn-more, KeepsOn-of}
-use Rattle.mail_wire.specs.KeeperTelling.{KeeperTelling}
+use Rattle.mail_wire.specs.KeeperState.{KeeperState}
 use Rattle.mail_wire.specs.Keeping.{HasKeeperCause}
-use Rattle.mail_wire.specs.Telling.{Telling}
+use Rattle.mail_wire.specs.WireState.{WireState}
 use Rattle.mail_wire.specs.declared.outside.Fault.{Fault}
 use Rattle.mail_wire.specs.declared.outside.Fault.TheVariants as fault
 use Rattle.journal_records.specs.Spelling.{journal}
@@ -17,7 +17,7 @@ use Rattle.mail_store.specs.Following.{records_of, Follows}
 use Rattle.mail_store.specs.StoreState.{StoreState}
 use Rattle.mail_store.specs.declared.opening.OpenFault.{OpenFault}
 use Rattle.mail_store.specs.declared.opening.OpenFault.TheVariants as faults
-use Rattle.mail_store.proofs.CatchLemmas.{behind_journal, end_changed}
+use Rattle.mail_store.proofs.CatchLemmas.{after_journal, end_changed}
 use Rattle.mail_store.proofs.FollowLemmas.{followed}
 use Rattle.session_core.specs.Acts.{Act, changes_in}
 use Rattle.session_core.specs.Around.{Around}
@@ -26,16 +26,16 @@ use Rattle.session_core.specs.Done.{IsDone}
 use Rattle.session_core.specs.Keeps.{Keeps, answer_of}
 use Rattle.session_core.specs.Protocol.{Protocol}
 use Rattle.session_core.specs.Served.{met_of}
-use Rattle.session_core.specs.Serving.{OfCourse, ServesBy, ServesFrom, course_of}
+use Rattle.session_core.specs.Serving.{OfInstance, ServesBy, ServesFrom, instance_of}
 use Rattle.session_core.specs.declared.desk.Desk.{Desk}
 use Rattle.session_core.specs.declared.desk.Limits.{Limits}
 use Rattle.session_core.specs.declared.serving.Served.{Served}
-use Rattle.session_core.specs.declared.serving.Served.TheVariants as came_to
+use Rattle.session_core.specs.declared.serving.Served.TheVariants as ended_as
 use Rattle.session_core.proofs.CaughtLemmas.{WorksWithin-open}
-use Rattle.session_core.proofs.MeaningLemmas.{meanings_given}
+use Rattle.session_core.proofs.MeaningLemmas.{oracles_given}
 use Rattle.setup_command.proofs.AddingLemmas.{opened_store}
 use Rattle.mail_command.specs.Connections.{GoesOnFrom, ServesNext}
-use Rattle.mail_command.proofs.CourseLemmas.{with_course}
+use Rattle.mail_command.proofs.InstanceLemmas.{with_instance}
 use Rattle.mail_command.proofs.SessionLemmas.{IsLent}
 
 -- ---- the session
@@ -49,14 +49,14 @@ pub record IsReadied (begun : Around) (kept : Option Desk) (limits : Limits) (ol
   pub works : IsOpen begun.desk
   pub limits_are : begun.desk.limits ≡ limits
 
-pub served_next : (protocol : Protocol) (begun done : Around) (reading : Option ℕ) (opened : KeeperTelling) (new : Option (List ℕ)) (a b : Telling) (kept left : Option Desk) (limits : Limits)
-    (old : Option (List ℕ)) (came : Served) → IsLent begun reading opened a → IsReadied begun kept limits old → ServesBy protocol begun done came → done.keeper.octets ≡ new → done.wire ≡ b
-    → IfSome left (λ desk. desk ≡ done.desk) → OfCourse protocol reading (λ course. ServesNext course kept left limits old new a b came)
-served_next protocol begun done reading opened new a b kept left limits old came lent is serves has given left_is =
+pub served_next : (protocol : Protocol) (begun done : Around) (reading : Option ℕ) (opened : KeeperState) (new : Option (List ℕ)) (a b : WireState) (kept left : Option Desk) (limits : Limits)
+    (old : Option (List ℕ)) (advance : Served) → IsLent begun reading opened a → IsReadied begun kept limits old → ServesBy protocol begun done advance → done.keeper.octets ≡ new → done.wire ≡ b
+    → IfSome left (λ desk. desk ≡ done.desk) → OfInstance protocol reading (λ instance. ServesNext instance kept left limits old new a b advance)
+served_next protocol begun done reading opened new a b kept left limits old advance lent is serves has given left_is =
     rw (← lent.clock)
-    (with_course protocol begun.clock (λ course. ServesFrom course begun done came)
-    (λ course. ServesNext course kept left limits old new a b came)
-    (λ course does. record {
+    (with_instance protocol begun.clock (λ instance. ServesFrom instance begun done advance)
+    (λ instance. ServesNext instance kept left limits old new a b advance)
+    (λ instance does. record {
       begun = begun;
       done = done;
       opens = is.opens;
@@ -87,21 +87,21 @@ put_last spelled store after opened new (Some fault.Wire) acts given fine done =
 put_last spelled store after opened new (Some fault.Memory) acts given fine done = record { more = records_of (changes_in done.done); follows = done.follows }
 put_last spelled store after opened new (Some fault.Keeper) acts given fine done = absurd (fine refl)
 
-put_by : (protocol : Protocol) (before now : Around) (came : Served) → ServesBy protocol before now came → ¬ (met_of came ≡ Some fault.Keeper)
+put_by : (protocol : Protocol) (before now : Around) (advance : Served) → ServesBy protocol before now advance → ¬ (met_of advance ≡ Some fault.Keeper)
     → PutLast before.desk.store now.desk.store before.keeper.octets now.keeper.octets
-put_by protocol before now came serves fine =
-    let course = course_of protocol meanings_given.0 (serves.told ++ []) in
-    let lawful = (serves.holds meanings_given.0 meanings_given.1 []).serves.lawful in
-    put_last course.spelled before.desk.store now.desk.store before.keeper.octets now.keeper.octets (met_of came) _ _ fine lawful.done
+put_by protocol before now advance serves fine =
+    let instance = instance_of protocol oracles_given.0 (serves.told ++ []) in
+    let lawful = (serves.holds oracles_given.0 oracles_given.1 []).serves.lawful in
+    put_last instance.spelled before.desk.store now.desk.store before.keeper.octets now.keeper.octets (met_of advance) _ _ fine lawful.done
 
 -- the store has what the keeper begins with, whatever comes behind that
 reads_first : (store after : StoreState) (opened new : Option (List ℕ)) (all more : List Record) → IsStoreOf store opened all → store.end ≡ length (journal all) → Follows store after opened new more
-    → IfSome new (λ has. (behind : List ℕ) → HasReadFirst after (has ++ behind) (all ++ more))
+    → IfSome new (λ has. (following : List ℕ) → HasReadFirst after (has ++ following) (all ++ more))
 reads_first store after opened new all more is end follows =
     let now = followed store after opened new all more is follows in
     let ended = end_changed store after opened new all more end (follows.records, follows.store, follows.journal) in
-    subst (λ (o : Option (List ℕ)). IfSome o (λ has. (behind : List ℕ) → HasReadFirst after (has ++ behind) (all ++ more))) (sym now.holds)
-    (λ behind. behind_journal after (journal (all ++ more)) (all ++ more) behind (record { records = now.records; kept_is = now.kept_is; holds = refl }) ended)
+    subst (λ (o : Option (List ℕ)). IfSome o (λ has. (following : List ℕ) → HasReadFirst after (has ++ following) (all ++ more))) (sym now.holds)
+    (λ following. after_journal after (journal (all ++ more)) (all ++ more) following (record { records = now.records; kept_is = now.kept_is; holds = refl }) ended)
 
 goes_by : (old opened new : Option (List ℕ)) (kept : Option Desk) (store : StoreState) (left : Desk) → IfSome old (λ octets. HasFirst kept octets → OpensTo octets opened store.kept)
     → IfSome opened (λ octets. store.end ≡ length octets) → PutLast store left.store opened new → GoesOnFrom kept (Some left) old new
@@ -109,13 +109,13 @@ goes_by None opened new kept store left opens place put = tt
 goes_by (Some octets) opened new kept store left opens place put = λ first.
     let to = opens first in
     let end : store.end ≡ length (journal to.all) = subst (λ (o : Option (List ℕ)). IfSome o (λ l. store.end ≡ length l)) to.holds place in
-    IfSome_then new {P = λ has. (behind : List ℕ) → HasReadFirst left.store (has ++ behind) (to.all ++ put.more)}
-    (reads_first store left.store opened new to.all put.more (opened_store octets opened store to) end put.follows) (λ has reads behind. (to.all ++ put.more, reads behind))
+    IfSome_then new {P = λ has. (following : List ℕ) → HasReadFirst left.store (has ++ following) (to.all ++ put.more)}
+    (reads_first store left.store opened new to.all put.more (opened_store octets opened store to) end put.follows) (λ has reads following. (to.all ++ put.more, reads following))
 
-pub goes_on : (protocol : Protocol) (before now : Around) (new : Option (List ℕ)) (kept : Option Desk) (limits : Limits) (old : Option (List ℕ)) (came : Served) (left : Desk) → IsReadied before kept limits old
-    → ServesBy protocol before now came → ¬ (met_of came ≡ Some fault.Keeper) → now.keeper.octets ≡ new → left ≡ now.desk → GoesOnFrom kept (Some left) old new
-goes_on protocol before now new kept limits old came left is serves fine has same =
-    rw (same, ← has) (goes_by old before.keeper.octets now.keeper.octets kept before.desk.store now.desk is.opens is.place (put_by protocol before now came serves fine))
+pub goes_on : (protocol : Protocol) (before now : Around) (new : Option (List ℕ)) (kept : Option Desk) (limits : Limits) (old : Option (List ℕ)) (advance : Served) (left : Desk) → IsReadied before kept limits old
+    → ServesBy protocol before now advance → ¬ (met_of advance ≡ Some fault.Keeper) → now.keeper.octets ≡ new → left ≡ now.desk → GoesOnFrom kept (Some left) old new
+goes_on protocol before now new kept limits old advance left is serves fine has same =
+    rw (same, ← has) (goes_by old before.keeper.octets now.keeper.octets kept before.desk.store now.desk is.opens is.place (put_by protocol before now advance serves fine))
 
 -- no desk is kept
 pub goes_nowhere : (kept : Option Desk) (old new : Option (List ℕ)) → GoesOnFrom kept None old new
@@ -124,21 +124,21 @@ goes_nowhere kept (Some had) None = λ first. tt
 goes_nowhere kept (Some had) (Some has) = λ first more. tt
 
 -- the keeper didn't break it off
-pub not_broken : (came : Served) → ¬ (came ≡ came_to.KeeperFault) → ¬ (met_of came ≡ Some fault.Keeper)
-not_broken came_to.Ended fine bad = cc
-not_broken came_to.Limit fine bad = cc
-not_broken came_to.WireFault fine bad = cc
-not_broken came_to.KeeperFault fine bad = fine refl
-not_broken came_to.Memory fine bad = cc
+pub not_broken : (advance : Served) → ¬ (advance ≡ ended_as.KeeperFault) → ¬ (met_of advance ≡ Some fault.Keeper)
+not_broken ended_as.Ended fine bad = cc
+not_broken ended_as.Limit fine bad = cc
+not_broken ended_as.WireFault fine bad = cc
+not_broken ended_as.KeeperFault fine bad = fine refl
+not_broken ended_as.Memory fine bad = cc
 
-pub still_works : (before now : Around) (limits : Limits) (came : Served) (left : Desk) → IsOpen before.desk → before.desk.limits ≡ limits → Keeps before now (met_of came)
-    → ¬ (met_of came ≡ Some fault.Keeper) → left ≡ now.desk → WorksWithin limits left
-still_works before now limits came left works limits_are keeps fine same =
+pub still_works : (before now : Around) (limits : Limits) (advance : Served) (left : Desk) → IsOpen before.desk → before.desk.limits ≡ limits → Keeps before now (met_of advance)
+    → ¬ (met_of advance ≡ Some fault.Keeper) → left ≡ now.desk → WorksWithin limits left
+still_works before now limits advance left works limits_are keeps fine same =
     rw same (WorksWithin-open limits now.desk (keeps.works fine works) (keeps.limits ∙ limits_are))
 
 -- a session's answer is no fault of the opening
-pub served_keeper : {T : Type 0} (begun done : Around) (reading : Option ℕ) (old opened new : KeeperTelling) (a : Telling) (desk : Desk) (came : Served) (result : Result T OpenFault) → IsLent begun reading opened a
-    → HasKeeperCause {E = OpenFault} old opened (Ok desk) faults.Keeper → Keeps begun done (met_of came) → done.keeper ≡ new → (result ≡ Err faults.Keeper → ⊥) → HasKeeperCause old new result faults.Keeper
-served_keeper begun done reading old opened new a desk came result lent opens keeps kept fine =
-    rw (← kept) (HasKeeperCause-fine old done.keeper result faults.Keeper (KeepsOn-more old begun.keeper done.keeper (answer_of (met_of came)) fault.Keeper
+pub served_keeper : {T : Type 0} (begun done : Around) (reading : Option ℕ) (old opened new : KeeperState) (a : WireState) (desk : Desk) (advance : Served) (result : Result T OpenFault) → IsLent begun reading opened a
+    → HasKeeperCause {E = OpenFault} old opened (Ok desk) faults.Keeper → Keeps begun done (met_of advance) → done.keeper ≡ new → (result ≡ Err faults.Keeper → ⊥) → HasKeeperCause old new result faults.Keeper
+served_keeper begun done reading old opened new a desk advance result lent opens keeps kept fine =
+    rw (← kept) (HasKeeperCause-fine old done.keeper result faults.Keeper (KeepsOn-more old begun.keeper done.keeper (answer_of (met_of advance)) fault.Keeper
     (KeepsOn-of {E = OpenFault} old begun.keeper (Ok desk) faults.Keeper (rw lent.keeper opens)) keeps.keeper) fine)

@@ -10,7 +10,7 @@ use Rattle.session_core.specs.Acts.{Act, changes, changes_in}
 use Rattle.session_core.specs.Around.{Around}
 use Rattle.session_core.specs.Doing.{Does}
 use Rattle.session_core.specs.Done.{FailsIn, IsDone, StopsIn, given_by}
-use Rattle.session_core.specs.Meanings.{Meanings}
+use Rattle.session_core.specs.Oracles.{Oracles}
 use Rattle.session_core.proofs.DoneLemmas.{changes_in-append, given_by-append}
 use Rattle.mail_command.specs.Begun.{HasFirstDone}
 use Rattle.mail_command.specs.Protocols.{protocol_for}
@@ -19,11 +19,11 @@ use Rattle.mail_command.specs.declared.roles.Role.TheVariants as role
 use Rattle.mail_command.proofs.BegunLemmas.{first_held}
 
 -- what a list of acts has in front
-parted : {P : Type 0} (acts front behind : List (Act P)) → acts ≡ front ++ behind → changes_in acts ≡ changes_in front ++ changes_in behind
-parted acts front behind is = ap (λ (l : List (Act _)). changes_in l) is ∙ changes_in-append front behind
+parted : {P : Type 0} (acts front following : List (Act P)) → acts ≡ front ++ following → changes_in acts ≡ changes_in front ++ changes_in following
+parted acts front following is = ap (λ (l : List (Act _)). changes_in l) is ∙ changes_in-append front following
 
-spelled_parted : {P : Type 0} (spelled : P → List ℕ) (acts front behind : List (Act P)) → acts ≡ front ++ behind → given_by spelled acts ≡ given_by spelled front ++ given_by spelled behind
-spelled_parted spelled acts front behind is = ap (λ (l : List (Act _)). given_by spelled l) is ∙ given_by-append spelled front behind
+spelled_parted : {P : Type 0} (spelled : P → List ℕ) (acts front following : List (Act P)) → acts ≡ front ++ following → given_by spelled acts ≡ given_by spelled front ++ given_by spelled following
+spelled_parted spelled acts front following is = ap (λ (l : List (Act _)). given_by spelled l) is ∙ given_by-append spelled front following
 
 -- it stopped in what is given
 stopped_given : {P : Type 0} (spelled : P → List ℕ) (old new : StoreState) (had has : Option (List ℕ)) (acts : List (Act P)) (given : List ℕ) → (stops : StopsIn spelled old new had has acts given)
@@ -75,18 +75,18 @@ begun_first spelled old new had has fault.Keeper acts given done =
 -- ---- no session begins with a change
 
 no_change_in : {P : Type 0} (acts done left : List (Act P)) (failing : List Record) → acts ≡ done ++ changes failing ∷ left → changes_in acts ≡ [] → ⊥
-no_change_in acts done left failing is none = nothing_behind (changes_in done) failing (changes_in left) (sym (parted acts done (changes failing ∷ left) is) ∙ none)
+no_change_in acts done left failing is none = nothing_following (changes_in done) failing (changes_in left) (sym (parted acts done (changes failing ∷ left) is) ∙ none)
   where
-    nothing_behind : (front : List (List Record)) (one : List Record) (behind : List (List Record)) → front ++ one ∷ behind ≡ [] → ⊥
-    nothing_behind [] one behind same = cc
-    nothing_behind (x ∷ front) one behind same = cc
+    nothing_following : (front : List (List Record)) (one : List Record) (following : List (List Record)) → front ++ one ∷ following ≡ [] → ⊥
+    nothing_following [] one following same = cc
+    nothing_following (x ∷ front) one following same = cc
 
 opens_unchanged : (one : Role) (store : StoreState) → changes_in ((protocol_for one).opening store) ≡ []
 opens_unchanged role.Pop store = refl
 opens_unchanged role.Smtp store = refl
 opens_unchanged role.Imap store = refl
 
-pub begins_without : (one : Role) (meanings : Meanings) (before now : Around)
-    → Does ((protocol_for one).spelled meanings) before now (Some fault.Keeper) ((protocol_for one).opening before.desk.store) → ⊥
-begins_without one meanings before now does =
+pub begins_without : (one : Role) (oracles : Oracles) (before now : Around)
+    → Does ((protocol_for one).spelled oracles) before now (Some fault.Keeper) ((protocol_for one).opening before.desk.store) → ⊥
+begins_without one oracles before now does =
     no_change_in ((protocol_for one).opening before.desk.store) does.done.done does.done.left does.done.failing does.done.acts_are (opens_unchanged one before.desk.store)

@@ -28,7 +28,7 @@ use Rattle.session_core.specs.Serving.{ServesBy}
 use Rattle.session_core.specs.declared.desk.Limits.{Limits}
 use Rattle.session_core.specs.declared.desk.TheConstants.{LIMITS}
 use Rattle.session_core.specs.declared.serving.Served.TheVariants.{Limit}
-use Rattle.session_core.proofs.MeaningLemmas.{meanings_given}
+use Rattle.session_core.proofs.MeaningLemmas.{oracles_given}
 use Rattle.setup_command.specs.Running.{IsBrokenOff}
 use Rattle.setup_command.specs.Statuses.{status_of}
 use Rattle.mail_command.specs.declared.generating.Sizes.{Sizes}
@@ -97,7 +97,7 @@ consumed input taken (Some xs) (Some ys) same is =
 pub limit_not_reached : (protocol : Protocol) (before now : Around) (input : List ℕ) → before.wire.left ≡ Some input → before.desk.limits ≡ LIMITS → length input < LIMITS.session_max
     → ServesBy protocol before now Limit → ⊥
 limit_not_reached protocol before now input left limits short serves =
-    let up_to = (serves.holds meanings_given.0 meanings_given.1 []).serves.limit refl in
+    let up_to = (serves.holds oracles_given.0 oracles_given.1 []).serves.limit refl in
     let taken = consumed input (taken_of up_to.entries) before.wire.left now.wire.left left up_to.moves.left in
     let full = up_to.full in
     let most : before.desk.limits.session_max ≡ LIMITS.session_max = ap (λ (limits : Limits). limits.session_max) limits in

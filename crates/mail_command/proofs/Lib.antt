@@ -1,6 +1,6 @@
 pub mod TakingLemmas
 pub mod WordsLemmas
-pub mod ApartLemmas
+pub mod StandaloneLemmas
 pub mod CommandLemmas
 pub mod FigureLemmas
 pub mod OutcomeLemmas
@@ -10,7 +10,7 @@ pub mod AccountLemmas
 pub mod MadeLemmas
 pub mod GeneratingLemmas
 pub mod BegunLemmas
-pub mod CourseLemmas
+pub mod InstanceLemmas
 pub mod SessionLemmas
 pub mod RelayLemmas
 pub mod ServeLemmas

@@ -168,8 +168,8 @@ subject_other n small =
 
 -- ---- the message
 
-behind_field : (field octets : List ℕ) → IsOtherField field → IsStored octets → IsStored (field ++ octets)
-behind_field field octets other stored =
+after_field : (field octets : List ℕ) → IsOtherField field → IsStored octets → IsStored (field ++ octets)
+after_field field octets other stored =
     let found = fields_before octets (field ∷ []) stored.entities stored.tree (All-from_recursion IsOtherField (field ∷ []) (other, tt)) in
     record { entities = found.0; tree = rw (append-nil field) at found.1 }
 
@@ -177,7 +177,7 @@ pub generated_stored : (number : ℕ) → number < 2 ^ 64 → IsStored (generate
 generated_stored number small =
     let digits = decimal number in
     let body = digits_stored digits (decimal_digits number small) in
-    let field = behind_field (codes "Subject:" ++ (subject digits ++ crlf)) (crlf ++ (digits ++ crlf)) (subject_other number small) body in
+    let field = after_field (codes "Subject:" ++ (subject digits ++ crlf)) (crlf ++ (digits ++ crlf)) (subject_other number small) body in
     let front = append_assoc digits space_and_e_acute crlf in
     let back = append_assoc digits (space_and_e_acute ++ crlf) (crlf ++ (digits ++ crlf)) in
-    behind_field from_field (codes "Subject: s" ++ (digits ++ (space_and_e_acute ++ (crlf ++ (crlf ++ (digits ++ crlf)))))) from_other (rw (front, back) at field)
+    after_field from_field (codes "Subject: s" ++ (digits ++ (space_and_e_acute ++ (crlf ++ (crlf ++ (digits ++ crlf)))))) from_other (rw (front, back) at field)

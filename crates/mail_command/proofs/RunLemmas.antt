@@ -5,7 +5,7 @@ use Rattle.std.specs.Io.KnownBytes.{Consumes, IsAtEnd}
 use Rattle.std.proofs.lemmas.Option.{IfSome_then}
 use Rattle.mail_wire.specs.declared.outside.Entry.{Entry}
 use Rattle.mail_wire.specs.declared.outside.Entry.TheVariants.{Taken, Given}
-use Rattle.mail_wire.specs.Telling.{Telling}
+use Rattle.mail_wire.specs.WireState.{WireState}
 use Rattle.mail_wire.specs.Transcript.{IsLawful, taken_of, given_of}
 use Rattle.mail_wire.specs.Moves.{Moves, Gives, GivesPrefix}
 use Rattle.mail_wire.proofs.Moving.{Moves-trans, taken_of-append, given_of-append, AreGiven-taken_of}
@@ -34,14 +34,14 @@ takes_quiet : (xs : List Entry) → AreTaken xs → IsLawful (λ taken. []) xs
 takes_quiet xs only before octets after h = AreTaken-given_of before (AreTaken-front before (Taken octets ∷ after) (subst AreTaken h only))
 
 -- Takes, and then gives: what was taken and given in all.
-record TakesAndGives (a c : Telling) (taken given : List ℕ) : Type 0 where
+record TakesAndGives (a c : WireState) (taken given : List ℕ) : Type 0 where
   entries : List Entry
   moves : Moves a c entries
   quiet : IsLawful (λ taken. []) entries
   taken_is : taken_of entries ≡ taken
   given_is : given_of entries ≡ given
 
-takes_and_gives : (a b c : Telling) (taken given : List ℕ) → Takes a b taken → Gives b c given → TakesAndGives a c taken given
+takes_and_gives : (a b c : WireState) (taken given : List ℕ) → Takes a b taken → Gives b c given → TakesAndGives a c taken given
 takes_and_gives a b c taken given takes gives = record {
   entries = takes.entries ++ gives.entries;
   moves = Moves-trans a b c takes.entries gives.entries takes.moves gives.moves;
@@ -73,7 +73,7 @@ prefix_of_each task octets status given whole outcome begins other others also =
     subst (IsPrefixOf given) same.given_is begins
 
 -- a prefix of the outcome of what was taken was given
-breaks_by : (task : Task) (a c : Telling) (taken given : List ℕ) → TakesAndGives a c taken given → length taken ≤ message_max + PIECE → ((status : ℕ) (whole : List ℕ) → Outcome task taken status whole → IsPrefixOf given whole)
+breaks_by : (task : Task) (a c : WireState) (taken given : List ℕ) → TakesAndGives a c taken given → length taken ≤ message_max + PIECE → ((status : ℕ) (whole : List ℕ) → Outcome task taken status whole → IsPrefixOf given whole)
     → IfSome a.left (λ octets. (status : ℕ) (whole : List ℕ) → Outcome task octets status whole → IsPrefixOf given whole) → BreaksOff task a c
 breaks_by task a c taken given both few begun whole = record {
   entries = both.entries;
@@ -85,14 +85,14 @@ breaks_by task a c taken given both few begun whole = record {
 }
 
 -- what was taken is all that was left, or more than a message may have
-enough : (a b : Telling) (taken : List ℕ) → TakesUpTo message_max a b taken → IfSome a.left (λ octets. IsEnough octets taken)
+enough : (a b : WireState) (taken : List ℕ) → TakesUpTo message_max a b taken → IfSome a.left (λ octets. IsEnough octets taken)
 enough a b taken takes = enough_by a.left b.left taken (subst (Consumes a.left b.left) takes.takes.octets_are takes.takes.moves.left) takes.end
 
 all_of : (octets taken : List ℕ) → IsEnough octets taken → length octets ≤ message_max → taken ≡ octets
 all_of octets taken all fits = let len = ap length all.begins in sym (all.whole (omega (arith, length-append taken all.more)))
 
 -- a message was taken, and its outcome given
-answers_all : (task : Task) (a b c : Telling) (taken given : List ℕ) (status : ℕ) → TakesUpTo message_max a b taken → Outcome task taken status given → Gives b c given → AnswersAll task a c status
+answers_all : (task : Task) (a b c : WireState) (taken given : List ℕ) (status : ℕ) → TakesUpTo message_max a b taken → Outcome task taken status given → Gives b c given → AnswersAll task a c status
 answers_all task a b c taken given status takes outcome gives =
     let both = takes_and_gives a b c taken given takes.takes gives in
     record {
@@ -106,13 +106,13 @@ answers_all task a b c taken given status takes outcome gives =
     }
 
 -- nothing was given yet
-pub takes_partly : (task : Task) (a b c : Telling) (taken : List ℕ) → Takes a b taken → length taken ≤ message_max + PIECE → Gives b c [] → BreaksOff task a c
+pub takes_partly : (task : Task) (a b c : WireState) (taken : List ℕ) → Takes a b taken → length taken ≤ message_max + PIECE → Gives b c [] → BreaksOff task a c
 takes_partly task a b c taken takes few none =
     breaks_by task a c taken [] (takes_and_gives a b c taken [] takes none) few (λ status whole outcome. (whole, refl))
     (some_of a.left (λ octets. (status : ℕ) (whole : List ℕ) → Outcome task octets status whole → IsPrefixOf [] whole) (λ octets status whole outcome. (whole, refl)))
 
 -- a message was taken, and its outcome given in part
-answers_partly : (task : Task) (a b c : Telling) (taken given : List ℕ) (status : ℕ) → TakesUpTo message_max a b taken → Outcome task taken status given → GivesPrefix b c given
+answers_partly : (task : Task) (a b c : WireState) (taken given : List ℕ) (status : ℕ) → TakesUpTo message_max a b taken → Outcome task taken status given → GivesPrefix b c given
     → BreaksOff task a c
 answers_partly task a b c taken given status takes outcome gives =
     let begins : IsPrefixOf gives.given given = (gives.missing, sym gives.whole) in
@@ -120,17 +120,17 @@ answers_partly task a b c taken given status takes outcome gives =
     (IfSome_then a.left {P = λ octets. IsEnough octets taken} (enough a b taken takes)
     (λ octets all. prefix_of_each task octets status gives.given given (outcome_whole task octets taken status given all outcome) begins))
 
-breaks_partly : (task : Task) (a b c : Telling) (taken : List ℕ) → TakesUpTo message_max a b taken → BeginsOne (IsOutcome task taken) b c → BreaksOff task a c
+breaks_partly : (task : Task) (a b c : WireState) (taken : List ℕ) → TakesUpTo message_max a b taken → BeginsOne (IsOutcome task taken) b c → BreaksOff task a c
 breaks_partly task a b c taken takes (GivesNone none) = takes_partly task a b c taken takes.takes takes.few none
 breaks_partly task a b c taken takes (GivesPart octets outcome part) = answers_partly task a b c taken octets outcome.0 takes outcome.1 part
 
 -- a message was taken, and this is what giving its outcome answered
-pub answers_by : (task : Task) (a b c : Telling) (taken : List ℕ) (result : Result ℕ Fault) → TakesUpTo message_max a b taken → IfOk result (λ status. GivesOne (Outcome task taken status) b c)
+pub answers_by : (task : Task) (a b c : WireState) (taken : List ℕ) (result : Result ℕ Fault) → TakesUpTo message_max a b taken → IfOk result (λ status. GivesOne (Outcome task taken status) b c)
     → IfOk result (AnswersAll task a c)
 answers_by task a b c taken (Ok status) takes one = answers_all task a b c taken one.octets status takes one.holds one.gives
 answers_by task a b c taken (Err fault) takes one = tt
 
-pub breaks_off_by : (task : Task) (a b c : Telling) (taken : List ℕ) (result : Result ℕ Fault) → TakesUpTo message_max a b taken → OnErr result (BeginsOne (IsOutcome task taken) b c)
+pub breaks_off_by : (task : Task) (a b c : WireState) (taken : List ℕ) (result : Result ℕ Fault) → TakesUpTo message_max a b taken → OnErr result (BeginsOne (IsOutcome task taken) b c)
     → OnErr result (BreaksOff task a c)
 breaks_off_by task a b c taken (Ok status) takes one = tt
 breaks_off_by task a b c taken (Err fault) takes one = breaks_partly task a b c taken takes one
@@ -141,18 +141,18 @@ not_broken status (inl is) (inr memory) = absurd (omega (arith, is, memory))
 not_broken status (inr is) (inl wire) = absurd (omega (arith, is, wire))
 not_broken status (inr is) (inr memory) = absurd (omega (arith, is, memory))
 
-pub fine_by : (task : Task) (b c : Telling) (taken : List ℕ) (result : Result ℕ Fault) → IfOk result (λ status. GivesOne (Outcome task taken status) b c) → IfOk result (λ status. ¬ IsBrokenOff status)
+pub fine_by : (task : Task) (b c : WireState) (taken : List ℕ) (result : Result ℕ Fault) → IfOk result (λ status. GivesOne (Outcome task taken status) b c) → IfOk result (λ status. ¬ IsBrokenOff status)
 fine_by task b c taken (Ok status) one = not_broken status (outcome_fine task taken status one.octets one.holds)
 fine_by task b c taken (Err fault) one = tt
 
 -- the answer is the status of each outcome that the octets have
-pub exact_by : (task : Task) (a c : Telling) (status : ℕ) → AnswersAll task a c status → IsExact task a status
+pub exact_by : (task : Task) (a c : WireState) (status : ℕ) → AnswersAll task a c status → IsExact task a status
 exact_by task a c status answers =
     IfSome_then a.left {P = λ octets. Outcome task octets status (given_of answers.entries)} answers.whole
     (λ octets outcome other others also. inl (outcome_once task octets status other (given_of answers.entries) others outcome also).status_is)
 
 -- a task, by the answer of the function that runs it
-pub runs_task : (task : Task) (a b : Telling) (result : Result ℕ Fault) → IfOk result (AnswersAll task a b) → IfOk result (λ status. ¬ IsBrokenOff status) → OnErr result (BreaksOff task a b)
+pub runs_task : (task : Task) (a b : WireState) (result : Result ℕ Fault) → IfOk result (AnswersAll task a b) → IfOk result (λ status. ¬ IsBrokenOff status) → OnErr result (BreaksOff task a b)
     → (result ≡ Err fault.Keeper → ⊥) → RunsTask task a b (status_of result)
 runs_task task a b (Ok status) answers fine breaks keeper = record {
   answers = λ _. answers;

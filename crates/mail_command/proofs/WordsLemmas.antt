@@ -12,8 +12,8 @@ one_word (w ∷ []) word first one = cc
 one_word (w ∷ v ∷ words) word first one = absurd (omega arith)
 
 -- no number is two
-apart : (n low high : ℕ) → n ≡ low → n ≡ high → low < high → ⊥
-apart n low high one other differ = omega arith
+standalone : (n low high : ℕ) → n ≡ low → n ≡ high → low < high → ⊥
+standalone n low high one other differ = omega arith
 
 -- the octet with which the first word begins
 abbrev initial : List (List ℕ) → ℕ
@@ -26,7 +26,7 @@ initial_is words spelled is = ap initial is
 
 -- words don't begin with two octets
 pub differ_first : (words one other : List (List ℕ)) → words ≡ one → words ≡ other → initial one < initial other → ⊥
-differ_first words one other is also differ = apart (initial words) (initial one) (initial other) (initial_is words one is) (initial_is words other also) differ
+differ_first words one other is also differ = standalone (initial words) (initial one) (initial other) (initial_is words one is) (initial_is words other also) differ
 
 -- no list is one of fewer words, too
 pub fewer : (words a b : List (List ℕ)) → words ≡ a → words ≡ b → length a < length b → ⊥

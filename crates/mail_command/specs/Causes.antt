@@ -2,11 +2,11 @@
 use Rattle.std.specs.Prelude.{◌≡◌, ◌⊎◌, ℕ, ◌<◌, ◌≤◌, List, length, Some}
 use Rattle.address_grammar.specs.declared.Address.{Address}
 use Rattle.mail_wire.specs.Causes.{Rose}
-use Rattle.mail_wire.specs.KeeperTelling.{KeeperTelling}
-use Rattle.mail_wire.specs.Telling.{Telling}
+use Rattle.mail_wire.specs.KeeperState.{KeeperState}
+use Rattle.mail_wire.specs.WireState.{WireState}
 use Rattle.session_core.specs.Around.{Around}
 use Rattle.session_core.specs.declared.serving.Served.{Served}
-use Rattle.session_core.specs.declared.serving.Served.TheVariants as came_to
+use Rattle.session_core.specs.declared.serving.Served.TheVariants as ended_as
 use Rattle.setup_command.specs.Running.{BreaksSessionOff}
 use Rattle.setup_command.specs.WordForms.{IsAccountCommand, IsDomainCommand}
 use Rattle.setup_command.specs.declared.statuses.TheConstants.{KEEPER_FAULT, WANT_OF_MEMORY, WORDS_REFUSED, BAD_JOURNAL, LIMIT_REACHED, MESSAGE_REFUSED, LEFT_QUEUED, ADDING_REFUSED}
@@ -29,7 +29,7 @@ pub record HasStatusWords (words : List (List ℕ)) (status : ℕ) : Type 0 wher
   pub known : status ≤ ADDING_REFUSED
 
 -- Where neither the wire nor the keeper failed, nothing but want of memory breaks a command off.
-abbrev pub IsCompleteRun : (before now : Telling) (keeper kept : KeeperTelling) (status : ℕ) → Type 0
+abbrev pub IsCompleteRun : (before now : WireState) (keeper kept : KeeperState) (status : ℕ) → Type 0
 IsCompleteRun before now keeper kept status =
     ¬ Rose before.faults now.faults → ¬ Rose keeper.faults kept.faults → BreaksSessionOff status → status ≡ WANT_OF_MEMORY
 
@@ -38,4 +38,4 @@ abbrev pub IsCompleteSession : (before now : Around) → Served → Type 0
 IsCompleteSession before now served =
     ¬ Rose before.wire.faults now.wire.faults → ¬ Rose before.keeper.faults now.keeper.faults
     → (octets : List ℕ) → before.wire.left ≡ Some octets → length octets < before.desk.limits.session_max
-    → (served ≡ came_to.Ended) ⊎ (served ≡ came_to.Memory)
+    → (served ≡ ended_as.Ended) ⊎ (served ≡ ended_as.Memory)

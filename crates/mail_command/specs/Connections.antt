@@ -1,10 +1,10 @@
 -- What the call that serves a program's next connection does.
 use Rattle.std.specs.Prelude.{◌≡◌, ℕ, List, ◌++◌, Option, IfSome}
-use Rattle.mail_wire.specs.Telling.{Telling}
+use Rattle.mail_wire.specs.WireState.{WireState}
 use Rattle.mail_store.specs.Answers.{OpensTo}
 use Rattle.session_core.specs.Around.{Around}
 use Rattle.session_core.specs.Desks.{HasFirst, IsNextCache, OpensOrCatchesUp}
-use Rattle.session_core.specs.Serving.{Course, ServesFrom}
+use Rattle.session_core.specs.Serving.{Instance, ServesFrom}
 use Rattle.session_core.specs.declared.desk.Desk.{Desk}
 use Rattle.session_core.specs.declared.desk.Limits.{Limits}
 use Rattle.session_core.specs.declared.serving.Served.{Served}
@@ -12,7 +12,7 @@ use Rattle.session_core.specs.declared.serving.Served.{Served}
 -- A session was served from a desk within these limits, whose cache was that of the desk that was kept. If the journal went on from what
 -- the kept desk had, the session's store was the fold of the whole records of the journal, whoever wrote them, and the keeper held them and
 -- nothing more when it began; whatever it was, no record had gone. What is kept now is the desk as the session left it.
-pub record ServesNext (course : Course) (kept left : Option Desk) (limits : Limits) (old new : Option (List ℕ)) (before now : Telling) (came : Served) : Type 0 where
+pub record ServesNext (instance : Instance) (kept left : Option Desk) (limits : Limits) (old new : Option (List ℕ)) (before now : WireState) (advance : Served) : Type 0 where
   pub begun : Around
   pub done : Around
   pub opens : IfSome old (λ octets. HasFirst kept octets → OpensTo octets begun.keeper.octets begun.desk.store.kept)
@@ -24,7 +24,7 @@ pub record ServesNext (course : Course) (kept left : Option Desk) (limits : Limi
   pub given : done.wire ≡ now
   pub keeper : done.keeper.octets ≡ new
   pub left_is : IfSome left (λ desk. desk ≡ done.desk)
-  pub serves : ServesFrom course begun done came
+  pub serves : ServesFrom instance begun done advance
 
 -- If the journal went on from what the kept desk had, what others put behind it goes on from what the desk has that is kept now.
 abbrev pub GoesOnFrom : Option Desk → Option Desk → Option (List ℕ) → Option (List ℕ) → Type 0

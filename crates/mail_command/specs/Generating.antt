@@ -1,6 +1,7 @@
 -- What `gen` makes and tells.
 use Rattle.std.specs.Prelude.{◌≡◌, ℕ, zero, suc, List, [], ◌∷◌, ◌++◌, length, sum_by, codes, decimal}
 use Rattle.std.specs.List.{AllZip}
+use Rattle.mail_wire.specs.Characters.{space}
 use Rattle.mail_wire.specs.Lines.{crlf}
 use Rattle.surrogate_rope.specs.Layout.{HasSurrogate}
 use Rattle.mail_command.specs.declared.generating.Totals.{Totals}
@@ -8,7 +9,7 @@ use Rattle.mail_command.specs.Checking.{number_line}
 
 -- a space and é
 abbrev pub space_and_e_acute : List ℕ
-space_and_e_acute = 32 ∷ 195 ∷ 169 ∷ []
+space_and_e_acute = space ∷ 195 ∷ 169 ∷ []
 
 -- the message of a number: its sender, its subject, the empty line, and a line of the number
 abbrev pub generated : ℕ → List ℕ

@@ -2,15 +2,15 @@
 use Rattle.std.specs.Prelude.{◌≡◌, ◌≢◌, ℕ, List, [], ◌++◌, codes, decimal, Option, Result, Ok, Err, IfOk, IfSome, ◌==◌, if◌then◌else◌}
 use Rattle.address_grammar.specs.declared.Address.{Address}
 use Rattle.journal_records.specs.Addresses.{WithPaths}
-use Rattle.mail_wire.specs.DialTelling.{DialTelling}
-use Rattle.mail_wire.specs.KeeperTelling.{KeeperTelling}
+use Rattle.mail_wire.specs.DialState.{DialState}
+use Rattle.mail_wire.specs.KeeperState.{KeeperState}
 use Rattle.mail_wire.specs.Lines.{crlf}
 use Rattle.mail_wire.specs.Moves.{Gives, GivesPrefix}
-use Rattle.mail_wire.specs.Telling.{Telling}
+use Rattle.mail_wire.specs.WireState.{WireState}
 use Rattle.mail_wire.specs.declared.outside.Fault.{Fault}
 use Rattle.mail_wire.specs.declared.outside.Fault.TheVariants as fault
 use Rattle.mail_store.specs.Answers.{LeavesRecords}
-use Rattle.relay_choice.specs.declared.letters.Act.{Act as ClientAct}
+use Rattle.relay_choice.specs.declared.mail_objects.Act.{Act as ClientAct}
 use Rattle.relay_choice.specs.declared.replies.Reply.{Reply}
 use Rattle.session_core.specs.Acts.{Act, changes_in}
 use Rattle.session_core.specs.Around.{Around}
@@ -18,7 +18,7 @@ use Rattle.session_core.specs.Desks.{IsOpen}
 use Rattle.session_core.specs.declared.desk.Desk.{Desk}
 use Rattle.session_core.specs.declared.desk.Limits.{Limits}
 use Rattle.relay_session.specs.Dialling.{HasDialCause, RelaysQueue}
-use Rattle.relay_session.specs.Letters.{Mailbag}
+use Rattle.relay_session.specs.MailObjects.{Mailbag}
 use Rattle.relay_session.specs.Relaying.{Carried, HasLeftCause}
 use Rattle.relay_session.specs.declared.ends.RelayEnd.{RelayEnd}
 use Rattle.setup_command.specs.Running.{BreaksSessionOff, HoldsBegun, HoldsStore, IsBrokenOff, IsUnopened, OpensStore}
@@ -26,10 +26,10 @@ use Rattle.setup_command.specs.Statuses.{status_of}
 use Rattle.setup_command.specs.declared.statuses.TheConstants.{DONE, LEFT_QUEUED}
 
 -- what the parts of the outside tell
-pub record OutsideTelling : Type 0 where
-  pub wire : Telling
-  pub keeper : KeeperTelling
-  pub dial : DialTelling
+pub record OutsideState : Type 0 where
+  pub wire : WireState
+  pub keeper : KeeperState
+  pub dial : DialState
   -- the reading of a clock that tells a fixed one
   pub clock : Option ℕ
 
@@ -58,10 +58,10 @@ KeepsFirstOf path_of desk clock octets = (before : Around) × (before.desk ≡ d
 
 -- A desk was opened over the keeper's records, and its queue was relayed to the host, with this answer. Unless the keeper failed, it holds the
 -- journal of the store that came of it; and where it failed, it opens with the old records and the first of the new ones.
-pub record SendsQueue (limits : Limits) (host : List ℕ) (before now : OutsideTelling) (result : Result RelayEnd Fault) : Type 0 where
+pub record SendsQueue (limits : Limits) (host : List ℕ) (before now : OutsideState) (result : Result RelayEnd Fault) : Type 0 where
   pub desk : Desk
   pub after : Desk
-  pub opened : KeeperTelling
+  pub opened : KeeperState
   pub opens : OpensStore before.keeper.octets opened.octets desk.store
   pub works : IsOpen desk
   pub limits_are : desk.limits ≡ limits
@@ -73,7 +73,7 @@ pub record SendsQueue (limits : Limits) (host : List ℕ) (before now : OutsideT
   pub begun : result ≡ Err fault.Keeper → WithPaths (λ path_of. IfSome before.keeper.octets (λ octets. KeepsFirstOf path_of desk before.clock now.keeper.octets))
 
 -- how far the command came that was broken off and ended so
-pub data BreaksRelay (limits : Limits) (host : List ℕ) (before now : OutsideTelling) (ended : ℕ) : Type 0 where
+pub data BreaksRelay (limits : Limits) (host : List ℕ) (before now : OutsideState) (ended : ℕ) : Type 0 where
   -- the journal wasn't opened
   InJournal : Gives before.wire now.wire [] → LeavesRecords before.keeper.octets now.keeper.octets → now.dial ≡ before.dial
       → BreaksRelay limits host before now ended
@@ -86,7 +86,7 @@ pub data BreaksRelay (limits : Limits) (host : List ℕ) (before now : OutsideTe
       → BreaksRelay limits host before now ended
 
 -- what the command does that sends the queue to this host, by its status
-pub data RunsRelay (limits : Limits) (host : List ℕ) (before now : OutsideTelling) (status : ℕ) : Type 0 where
+pub data RunsRelay (limits : Limits) (host : List ℕ) (before now : OutsideState) (status : ℕ) : Type 0 where
   -- the line tells how it ended
   Relayed : (end : RelayEnd) → SendsQueue limits host before now (Ok end) → Gives before.wire now.wire (relay_line end) → status ≡ relay_status end
       → RunsRelay limits host before now status

@@ -3,8 +3,8 @@ use Rattle.std.specs.Prelude.{◌≡◌, ℕ, ◌<◌, ◌≤◌, List, [], ◌�
 use Rattle.address_grammar.specs.declared.Address.{Address}
 use Rattle.setup_command.specs.PlainWords.{is_plain_word}
 use Rattle.setup_command.specs.WordForms.{IsAccountCommand, IsDomainCommand, IsHelpCommand}
-use Rattle.mail_command.specs.declared.apart.Apart.{Apart}
-use Rattle.mail_command.specs.declared.apart.Apart.TheVariants as apart
+use Rattle.mail_command.specs.declared.standalone.Standalone.{Standalone}
+use Rattle.mail_command.specs.declared.standalone.Standalone.TheVariants as standalone
 use Rattle.mail_command.specs.declared.command.Command.{Command}
 use Rattle.mail_command.specs.declared.command.Command.TheVariants as command
 use Rattle.mail_command.specs.declared.roles.Role.{Role}
@@ -73,16 +73,16 @@ pub data OpensJournal (words : List (List ℕ)) : Type 0 where
   OfRelay : (host : List ℕ) → IsRelayCommand words host → OpensJournal words
 
 -- the words of a command that leaves the keeper alone
-abbrev pub IsApart : List (List ℕ) → Apart → Type 0
-IsApart words (apart.Message task.Downgrade) = IsDowngrade words
-IsApart words (apart.Message task.Check) = IsCheck words
-IsApart words (apart.Gen number) = IsGen words number
-IsApart words apart.Help = IsHelpCommand words
+abbrev pub IsStandalone : List (List ℕ) → Standalone → Type 0
+IsStandalone words (standalone.Message task.Downgrade) = IsDowngrade words
+IsStandalone words (standalone.Message task.Check) = IsCheck words
+IsStandalone words (standalone.Gen number) = IsGen words number
+IsStandalone words standalone.Help = IsHelpCommand words
 
 -- the command that the words name
 abbrev pub Names : List (List ℕ) → Option Command → Type 0
 Names words None = IsNoCommand words
-Names words (Some (command.Apart one)) = IsApart words one
+Names words (Some (command.Standalone one)) = IsStandalone words one
 Names words (Some (command.Session role)) = IsSession words role
 Names words (Some (command.Account said)) = IsAccountCommand words said.address said.password
 Names words (Some (command.Domain name)) = IsDomainCommand words (string_bytes name)

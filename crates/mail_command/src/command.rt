@@ -7,7 +7,7 @@ ghost use Rattle.address_grammar.specs.declared.Address.{Address as AddressValue
 ghost use Rattle.journal_records.specs.Addresses.{WithPaths};
 ghost use Rattle.mail_store.specs.Changing.{account_refusal, domain_refusal};
 ghost use Rattle.journal_records.specs.declared.records.Record.TheVariants as records;
-ghost use Rattle.session_core.specs.Serving.{OfCourse};
+ghost use Rattle.session_core.specs.Serving.{OfInstance};
 ghost use Rattle.session_core.specs.declared.desk.TheConstants.{LIMITS};
 ghost use Rattle.setup_command.specs.AddingRuns.{RunsAdding, IsExactAdding};
 ghost use Rattle.setup_command.specs.Running.{IsExactJournal, HasStatusCause};
@@ -20,11 +20,11 @@ ghost use Rattle.mail_command.specs.RelayRuns.{RunsRelay};
 ghost use Rattle.mail_command.specs.Running.{RefusesWords, RunsDowngrade, RunsCheck, RunsGen, RunsSession, GivesHelp};
 ghost use Rattle.mail_command.specs.declared.roles.Role.{Role as RoleValue};
 
-use crate::apart::{Apart, run_apart};
 use crate::relaying::run_relay;
 use crate::roles::{Role, role_named};
 use crate::serving_words::{gen_words, relay_words};
 use crate::sessions::run_session;
+use crate::standalone::{Standalone, run_standalone};
 use crate::tasks::Task;
 use mail_wire::{Clock, Dial, Fault, Keeper, Memory, Wire, Words, give_all};
 use setup_command::{
@@ -36,7 +36,7 @@ use std::alloc::Global;
 /// The commands that words name.
 #[derive(Drop)]
 pub enum Command {
-    Apart(Apart),
+    Standalone(Standalone),
     Session(Role),
     Account(AccountWords),
     Domain(String),
@@ -49,9 +49,9 @@ fn command_named(word: &str) -> Option<Command>
     ensures { Names (word.now ∷ []) result }
 {
     match word {
-        "downgrade" => Some(Command::Apart(Apart::Message(Task::Downgrade))),
-        "check" => Some(Command::Apart(Apart::Message(Task::Check))),
-        "help" => Some(Command::Apart(Apart::Help)),
+        "downgrade" => Some(Command::Standalone(Standalone::Message(Task::Downgrade))),
+        "check" => Some(Command::Standalone(Standalone::Message(Task::Check))),
+        "help" => Some(Command::Standalone(Standalone::Help)),
         _ => {
             let role = role_named(word)?;
             Some(Command::Session(role))
@@ -74,7 +74,7 @@ fn command_with_values(alloc: Global, words: &Words) -> Result<Option<Command>, 
         return Ok(Some(Command::Relay(String::from_str(alloc, host)?)));
     }
     match gen_words(words) {
-        Some(number) => Ok(Some(Command::Apart(Apart::Gen(number)))),
+        Some(number) => Ok(Some(Command::Standalone(Standalone::Gen(number)))),
         None => Ok(None),
     }
 }
@@ -92,9 +92,9 @@ fn command_of(alloc: Global, words: &Words) -> Result<Option<Command>, Memory>
 
 // Tells that the words are those of no command.
 fn refuse_words<W: Wire>(wire: &mut W) -> Result<u8, Fault>
-    ensures refuses { RefusesWords (W.tells wire.old) (W.tells wire.new) (status_of result) }
+    ensures refuses { RefusesWords (W.observed wire.old) (W.observed wire.new) (status_of result) }
     ensures fine { IfOk result (λ status. status ≡ 4) }
-    ensures cause { HasWireCause (W.tells wire.old) (W.tells wire.new) result Fault.Wire }
+    ensures cause { HasWireCause (W.observed wire.old) (W.observed wire.new) result Fault.Wire }
     ensures keeper { ¬ (result ≡ Err Fault.Keeper) }
 {
     give_all(wire, b"words refused\r\n")?;
@@ -110,33 +110,33 @@ fn work<W: Wire, J: Keeper, L: Dial, C: Clock>(
     dial: &mut L,
     clock: &mut C,
 ) -> Result<u8, Fault>
-    ensures words { IsNoCommand words.now → RefusesWords (W.tells wire.old) (W.tells wire.new) (status_of result) }
-    ensures downgrade { IsDowngrade words.now → RunsDowngrade (W.tells wire.old) (W.tells wire.new) (status_of result) }
-    ensures check { IsCheck words.now → RunsCheck (W.tells wire.old) (W.tells wire.new) (status_of result) }
-    ensures generates { (number : ℕ) → IsGen words.now number → RunsGen number (W.tells wire.old) (W.tells wire.new) (status_of result) }
-    ensures session { (role : RoleValue) → IsSession words.now role → OfCourse (protocol_for role) (C.tells clock.old) (λ course. RunsSession course LIMITS
-        (J.tells keeper.old).octets (J.tells keeper.new).octets (W.tells wire.old) (W.tells wire.new) (status_of result)) }
+    ensures words { IsNoCommand words.now → RefusesWords (W.observed wire.old) (W.observed wire.new) (status_of result) }
+    ensures downgrade { IsDowngrade words.now → RunsDowngrade (W.observed wire.old) (W.observed wire.new) (status_of result) }
+    ensures check { IsCheck words.now → RunsCheck (W.observed wire.old) (W.observed wire.new) (status_of result) }
+    ensures generates { (number : ℕ) → IsGen words.now number → RunsGen number (W.observed wire.old) (W.observed wire.new) (status_of result) }
+    ensures session { (role : RoleValue) → IsSession words.now role → OfInstance (protocol_for role) (C.observed clock.old) (λ instance. RunsSession instance LIMITS
+        (J.observed keeper.old).octets (J.observed keeper.new).octets (W.observed wire.old) (W.observed wire.new) (status_of result)) }
     ensures account { (address : AddressValue) (password : List ℕ) → IsAccountCommand words.now address password → WithPaths (λ path_of.
         RunsAdding (λ kept. account_refusal path_of kept address) (records.Account (address_text address) password)
-        (J.tells keeper.old).octets (J.tells keeper.new).octets (W.tells wire.old) (W.tells wire.new) (status_of result)) }
+        (J.observed keeper.old).octets (J.observed keeper.new).octets (W.observed wire.old) (W.observed wire.new) (status_of result)) }
     ensures account_exact { (address : AddressValue) (password : List ℕ) → IsAccountCommand words.now address password → WithPaths (λ path_of.
-        IfSome (J.tells keeper.old).octets (λ octets. IsExactAdding (λ kept. account_refusal path_of kept address) octets (status_of result))) }
+        IfSome (J.observed keeper.old).octets (λ octets. IsExactAdding (λ kept. account_refusal path_of kept address) octets (status_of result))) }
     ensures domain { (name : List ℕ) → IsDomainCommand words.now name → RunsAdding (λ kept. domain_refusal kept name) (records.Domain (compared_form name))
-        (J.tells keeper.old).octets (J.tells keeper.new).octets (W.tells wire.old) (W.tells wire.new) (status_of result) }
+        (J.observed keeper.old).octets (J.observed keeper.new).octets (W.observed wire.old) (W.observed wire.new) (status_of result) }
     ensures domain_exact { (name : List ℕ) → IsDomainCommand words.now name
-        → IfSome (J.tells keeper.old).octets (λ octets. IsExactAdding (λ kept. domain_refusal kept name) octets (status_of result)) }
-    ensures help { IsHelpCommand words.now → GivesHelp (W.tells wire.old) (W.tells wire.new) (status_of result) }
+        → IfSome (J.observed keeper.old).octets (λ octets. IsExactAdding (λ kept. domain_refusal kept name) octets (status_of result)) }
+    ensures help { IsHelpCommand words.now → GivesHelp (W.observed wire.old) (W.observed wire.new) (status_of result) }
     ensures relay { (host : List ℕ) → IsRelayCommand words.now host → RunsRelay LIMITS host
-        (record { wire = W.tells wire.old; keeper = J.tells keeper.old; dial = L.tells dial.old; clock = C.tells clock.old })
-        (record { wire = W.tells wire.new; keeper = J.tells keeper.new; dial = L.tells dial.new; clock = C.tells clock.new }) (status_of result) }
-    ensures journal { OpensJournal words.now → IfSome (J.tells keeper.old).octets (λ octets. IsExactJournal octets (status_of result)) }
-    ensures untouched { ¬ OpensJournal words.now → J.tells keeper.new ≡ J.tells keeper.old }
-    ensures undialled { ((host : List ℕ) → ¬ IsRelayCommand words.now host) → L.tells dial.new ≡ L.tells dial.old }
-    ensures cause { HasStatusCause (W.tells wire.old) (W.tells wire.new) (J.tells keeper.old) (J.tells keeper.new) (status_of result) }
+        (record { wire = W.observed wire.old; keeper = J.observed keeper.old; dial = L.observed dial.old; clock = C.observed clock.old })
+        (record { wire = W.observed wire.new; keeper = J.observed keeper.new; dial = L.observed dial.new; clock = C.observed clock.new }) (status_of result) }
+    ensures journal { OpensJournal words.now → IfSome (J.observed keeper.old).octets (λ octets. IsExactJournal octets (status_of result)) }
+    ensures untouched { ¬ OpensJournal words.now → J.observed keeper.new ≡ J.observed keeper.old }
+    ensures undialled { ((host : List ℕ) → ¬ IsRelayCommand words.now host) → L.observed dial.new ≡ L.observed dial.old }
+    ensures cause { HasStatusCause (W.observed wire.old) (W.observed wire.new) (J.observed keeper.old) (J.observed keeper.new) (status_of result) }
     ensures statuses { HasStatusWords words.now (status_of result) }
 {
     match command_of(alloc, words)? {
-        Some(Command::Apart(command)) => run_apart(alloc, command, wire),
+        Some(Command::Standalone(command)) => run_standalone(alloc, command, wire),
         Some(Command::Session(role)) => run_session(alloc, role, wire, keeper, clock),
         Some(Command::Account(said)) => run_account(
             alloc,
@@ -175,35 +175,35 @@ pub fn run<W: Wire, J: Keeper, L: Dial, C: Clock>(
     dial: &mut L,
     clock: &mut C,
 ) -> u8
-    ensures words { IsNoCommand words.now → RefusesWords (W.tells wire.old) (W.tells wire.new) result }
-    ensures downgrade { IsDowngrade words.now → RunsDowngrade (W.tells wire.old) (W.tells wire.new) result }
-    ensures check { IsCheck words.now → RunsCheck (W.tells wire.old) (W.tells wire.new) result }
-    ensures generates { (number : ℕ) → IsGen words.now number → RunsGen number (W.tells wire.old) (W.tells wire.new) result }
-    ensures session { (role : RoleValue) → IsSession words.now role → OfCourse (protocol_for role) (C.tells clock.old) (λ course. RunsSession course LIMITS
-        (J.tells keeper.old).octets (J.tells keeper.new).octets (W.tells wire.old) (W.tells wire.new) result) }
+    ensures words { IsNoCommand words.now → RefusesWords (W.observed wire.old) (W.observed wire.new) result }
+    ensures downgrade { IsDowngrade words.now → RunsDowngrade (W.observed wire.old) (W.observed wire.new) result }
+    ensures check { IsCheck words.now → RunsCheck (W.observed wire.old) (W.observed wire.new) result }
+    ensures generates { (number : ℕ) → IsGen words.now number → RunsGen number (W.observed wire.old) (W.observed wire.new) result }
+    ensures session { (role : RoleValue) → IsSession words.now role → OfInstance (protocol_for role) (C.observed clock.old) (λ instance. RunsSession instance LIMITS
+        (J.observed keeper.old).octets (J.observed keeper.new).octets (W.observed wire.old) (W.observed wire.new) result) }
     ensures account { (address : AddressValue) (password : List ℕ) → IsAccountCommand words.now address password → WithPaths (λ path_of.
         RunsAdding (λ kept. account_refusal path_of kept address) (records.Account (address_text address) password)
-        (J.tells keeper.old).octets (J.tells keeper.new).octets (W.tells wire.old) (W.tells wire.new) result) }
+        (J.observed keeper.old).octets (J.observed keeper.new).octets (W.observed wire.old) (W.observed wire.new) result) }
     ensures account_exact { (address : AddressValue) (password : List ℕ) → IsAccountCommand words.now address password → WithPaths (λ path_of.
-        IfSome (J.tells keeper.old).octets (λ octets. IsExactAdding (λ kept. account_refusal path_of kept address) octets result)) }
+        IfSome (J.observed keeper.old).octets (λ octets. IsExactAdding (λ kept. account_refusal path_of kept address) octets result)) }
     ensures domain { (name : List ℕ) → IsDomainCommand words.now name → RunsAdding (λ kept. domain_refusal kept name) (records.Domain (compared_form name))
-        (J.tells keeper.old).octets (J.tells keeper.new).octets (W.tells wire.old) (W.tells wire.new) result }
+        (J.observed keeper.old).octets (J.observed keeper.new).octets (W.observed wire.old) (W.observed wire.new) result }
     ensures domain_exact { (name : List ℕ) → IsDomainCommand words.now name
-        → IfSome (J.tells keeper.old).octets (λ octets. IsExactAdding (λ kept. domain_refusal kept name) octets result) }
-    ensures help { IsHelpCommand words.now → GivesHelp (W.tells wire.old) (W.tells wire.new) result }
+        → IfSome (J.observed keeper.old).octets (λ octets. IsExactAdding (λ kept. domain_refusal kept name) octets result) }
+    ensures help { IsHelpCommand words.now → GivesHelp (W.observed wire.old) (W.observed wire.new) result }
     ensures relay { (host : List ℕ) → IsRelayCommand words.now host → RunsRelay LIMITS host
-        (record { wire = W.tells wire.old; keeper = J.tells keeper.old; dial = L.tells dial.old; clock = C.tells clock.old })
-        (record { wire = W.tells wire.new; keeper = J.tells keeper.new; dial = L.tells dial.new; clock = C.tells clock.new }) result }
+        (record { wire = W.observed wire.old; keeper = J.observed keeper.old; dial = L.observed dial.old; clock = C.observed clock.old })
+        (record { wire = W.observed wire.new; keeper = J.observed keeper.new; dial = L.observed dial.new; clock = C.observed clock.new }) result }
     // A bad journal is told.
-    ensures journal { OpensJournal words.now → IfSome (J.tells keeper.old).octets (λ octets. IsExactJournal octets result) }
+    ensures journal { OpensJournal words.now → IfSome (J.observed keeper.old).octets (λ octets. IsExactJournal octets result) }
     // Other words leave the journal, and `relay` alone dials.
-    ensures untouched { ¬ OpensJournal words.now → J.tells keeper.new ≡ J.tells keeper.old }
-    ensures undialled { ((host : List ℕ) → ¬ IsRelayCommand words.now host) → L.tells dial.new ≡ L.tells dial.old }
-    ensures cause { HasStatusCause (W.tells wire.old) (W.tells wire.new) (J.tells keeper.old) (J.tells keeper.new) result }
+    ensures untouched { ¬ OpensJournal words.now → J.observed keeper.new ≡ J.observed keeper.old }
+    ensures undialled { ((host : List ℕ) → ¬ IsRelayCommand words.now host) → L.observed dial.new ≡ L.observed dial.old }
+    ensures cause { HasStatusCause (W.observed wire.old) (W.observed wire.new) (J.observed keeper.old) (J.observed keeper.new) result }
     // A status comes only for words of a command that may end so.
     ensures statuses { HasStatusWords words.now result }
     // Where neither the wire nor the keeper failed, the command is carried out and told whole, or memory was wanting.
-    ensures complete { IsCompleteRun (W.tells wire.old) (W.tells wire.new) (J.tells keeper.old) (J.tells keeper.new) result }
+    ensures complete { IsCompleteRun (W.observed wire.old) (W.observed wire.new) (J.observed keeper.old) (J.observed keeper.new) result }
 {
     status_after(work(alloc, words, wire, keeper, dial, clock))
 }

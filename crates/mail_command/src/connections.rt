@@ -3,7 +3,7 @@ ghost use Rattle.std.specs.Prelude.{◌≡◌, ◌↔◌, IfErr, IfOk, IfSome, I
 ghost use Rattle.mail_wire.specs.Keeping.{HasKeeperCause};
 ghost use Rattle.mail_store.specs.Answers.{IsJournalFault, LeavesRecords};
 ghost use Rattle.session_core.specs.Desks.{WorksWithin};
-ghost use Rattle.session_core.specs.Serving.{OfCourse};
+ghost use Rattle.session_core.specs.Serving.{OfInstance};
 ghost use Rattle.session_core.specs.declared.desk.TheConstants.{LIMITS};
 ghost use Rattle.session_core.specs.declared.serving.Served.{Served as ServedValue};
 ghost use Rattle.mail_command.specs.Protocols.{protocol_for};
@@ -29,18 +29,18 @@ pub fn serve_next<W: Wire, J: Keeper, C: Clock>(
 ) -> Result<(Served, Option<Desk>), OpenFault>
     requires { IfSome kept (WorksWithin LIMITS) }
     // The session works on the whole records that the journal has when it begins, whoever wrote them, from connection to connection.
-    ensures serves { IfOk result (λ came. OfCourse (protocol_for role) (C.tells clock.old) (λ course. ServesNext course kept came.1 LIMITS
-        (J.tells keeper.old).octets (J.tells keeper.new).octets (W.tells wire.old) (W.tells wire.new) came.0)) }
-    ensures goes_on { IfOk result (λ came. GoesOnFrom kept came.1 (J.tells keeper.old).octets (J.tells keeper.new).octets) }
-    ensures kept { IfOk result (λ came. IfSome came.1 (WorksWithin LIMITS)) }
-    ensures gone { IfOk result (λ came. IsNone came.1 ↔ (came.0 ≡ ServedValue.KeeperFault)) }
-    ensures session_cause { IfOk result (λ came. HasStatusCause (W.tells wire.old) (W.tells wire.new) (J.tells keeper.old) (J.tells keeper.new) (status_of_served came.0)) }
+    ensures serves { IfOk result (λ advance. OfInstance (protocol_for role) (C.observed clock.old) (λ instance. ServesNext instance kept advance.1 LIMITS
+        (J.observed keeper.old).octets (J.observed keeper.new).octets (W.observed wire.old) (W.observed wire.new) advance.0)) }
+    ensures goes_on { IfOk result (λ advance. GoesOnFrom kept advance.1 (J.observed keeper.old).octets (J.observed keeper.new).octets) }
+    ensures kept { IfOk result (λ advance. IfSome advance.1 (WorksWithin LIMITS)) }
+    ensures gone { IfOk result (λ advance. IsNone advance.1 ↔ (advance.0 ≡ ServedValue.KeeperFault)) }
+    ensures session_cause { IfOk result (λ advance. HasStatusCause (W.observed wire.old) (W.observed wire.new) (J.observed keeper.old) (J.observed keeper.new) (status_of_served advance.0)) }
 
     // A desk that can't be opened serves nobody.
-    ensures quiet { OnErr result (W.tells wire.new ≡ W.tells wire.old) }
-    ensures fault { IfErr result (λ fault. IfSome (J.tells keeper.old).octets (λ old. IsJournalFault old (J.tells keeper.new).octets fault)) }
-    ensures leaves { OnErr result (LeavesRecords (J.tells keeper.old).octets (J.tells keeper.new).octets) }
-    ensures cause { HasKeeperCause (J.tells keeper.old) (J.tells keeper.new) result OpenFault.Keeper }
+    ensures quiet { OnErr result (W.observed wire.new ≡ W.observed wire.old) }
+    ensures fault { IfErr result (λ fault. IfSome (J.observed keeper.old).octets (λ old. IsJournalFault old (J.observed keeper.new).octets fault)) }
+    ensures leaves { OnErr result (LeavesRecords (J.observed keeper.old).octets (J.observed keeper.new).octets) }
+    ensures cause { HasKeeperCause (J.observed keeper.old) (J.observed keeper.new) result OpenFault.Keeper }
 {
     let desk = next_desk(alloc, kept, keeper, LIMITS)?;
     let mut outside = Outside::new(alloc, desk, wire, keeper, clock);

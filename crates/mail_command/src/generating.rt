@@ -294,9 +294,9 @@ fn totals_text(alloc: Global, number: u32, totals: &Totals) -> Result<Octets, Me
 /// Makes so many messages, serves them, and gives the totals of their sizes.
 pub fn run_gen<W: Wire>(alloc: Global, number: u32, wire: &mut W) -> Result<u8, Fault>
     requires { number ≤ 100000 }
-    ensures runs { RunsGen number (W.tells wire.old) (W.tells wire.new) (status_of result) }
+    ensures runs { RunsGen number (W.observed wire.old) (W.observed wire.new) (status_of result) }
     ensures fine { IfOk result (λ status. status ≡ 0) }
-    ensures cause { HasWireCause (W.tells wire.old) (W.tells wire.new) result Fault.Wire }
+    ensures cause { HasWireCause (W.observed wire.old) (W.observed wire.new) result Fault.Wire }
     ensures keeper { ¬ (result ≡ Err Fault.Keeper) }
 {
     let totals = generate(alloc, number)?;

@@ -6,7 +6,7 @@ ghost use Rattle.session_core.specs.Acts.{Act, changes_in};
 ghost use Rattle.session_core.specs.Around.{Around};
 ghost use Rattle.session_core.specs.Doing.{Does};
 ghost use Rattle.session_core.specs.Done.{IsDone, given_by};
-ghost use Rattle.session_core.specs.Meanings.{Meanings};
+ghost use Rattle.session_core.specs.Oracles.{Oracles};
 ghost use Rattle.mail_command.specs.Begun.{HasFirstDone};
 ghost use Rattle.mail_command.specs.Outcome.{Outcome};
 ghost use Rattle.mail_command.specs.Protocols.{protocol_for};
@@ -29,11 +29,11 @@ pub fn serve_is_no_command()
 /// the first of the changes that were due, and the keeper opens with the records that it had and the first of the new ones. Where the keeper
 /// failed the store says so. No session's beginning is broken off by the keeper.
 pub fn the_first_is_done_of_what_is_broken_off()
-    ensures session { (role : RoleValue) (meanings : Meanings) (old new : StoreState) (had has : Option (List ℕ)) (met : Fault) (acts : List (Act (protocol_for role).P)) (given : List ℕ)
-        → IsDone ((protocol_for role).spelled meanings) old new had has (Some met) acts given
-        → HasFirstDone (given_by ((protocol_for role).spelled meanings) acts) (changes_in acts) old new had has met given }
+    ensures session { (role : RoleValue) (oracles : Oracles) (old new : StoreState) (had has : Option (List ℕ)) (met : Fault) (acts : List (Act (protocol_for role).P)) (given : List ℕ)
+        → IsDone ((protocol_for role).spelled oracles) old new had has (Some met) acts given
+        → HasFirstDone (given_by ((protocol_for role).spelled oracles) acts) (changes_in acts) old new had has met given }
     ensures relay { (old new : StoreState) (had has : Option (List ℕ)) (met : Fault) (acts : List (Act (List ℕ))) (given : List ℕ)
         → IsDone (λ octets. octets) old new had has (Some met) acts given → HasFirstDone (given_by (λ octets. octets) acts) (changes_in acts) old new had has met given }
-    ensures begins { (role : RoleValue) (meanings : Meanings) (before now : Around)
-        → ¬ Does ((protocol_for role).spelled meanings) before now (Some Fault.Keeper) ((protocol_for role).opening before.desk.store) }
+    ensures begins { (role : RoleValue) (oracles : Oracles) (before now : Around)
+        → ¬ Does ((protocol_for role).spelled oracles) before now (Some Fault.Keeper) ((protocol_for role).opening before.desk.store) }
 {}

@@ -1,7 +1,6 @@
 //! The commands: what the words of the command line do over a wire, a keeper and a dial.
 #![tactic(auto)]
 
-mod apart;
 mod command;
 mod connections;
 mod figures;
@@ -12,6 +11,7 @@ mod relaying;
 mod roles;
 mod serving_words;
 mod sessions;
+mod standalone;
 mod taking;
 mod tasks;
 

@@ -44,8 +44,8 @@ fn relay_status(end: &RelayEnd) -> u8
 
 // Tells how the relay ended.
 fn tell_end<W: Wire>(alloc: Global, end: &RelayEnd, wire: &mut W) -> Result<u8, Fault>
-    ensures tells { TellsLine (W.tells wire.old) (W.tells wire.new) result (relay_status_of end.now) (relay_line_of end.now) }
-    ensures cause { HasWireCause (W.tells wire.old) (W.tells wire.new) result Fault.Wire }
+    ensures observed { TellsLine (W.observed wire.old) (W.observed wire.new) result (relay_status_of end.now) (relay_line_of end.now) }
+    ensures cause { HasWireCause (W.observed wire.old) (W.observed wire.new) result Fault.Wire }
 {
     let line = relay_line(alloc, end)?;
     tell(wire, relay_status(end), line.as_slice())
@@ -61,11 +61,11 @@ pub fn run_relay<W: Wire, J: Keeper, L: Dial, C: Clock>(
     clock: &mut C,
 ) -> Result<u8, Fault>
     ensures runs { RunsRelay LIMITS host.now
-        (record { wire = W.tells wire.old; keeper = J.tells keeper.old; dial = L.tells dial.old; clock = C.tells clock.old })
-        (record { wire = W.tells wire.new; keeper = J.tells keeper.new; dial = L.tells dial.new; clock = C.tells clock.new }) (status_of result) }
+        (record { wire = W.observed wire.old; keeper = J.observed keeper.old; dial = L.observed dial.old; clock = C.observed clock.old })
+        (record { wire = W.observed wire.new; keeper = J.observed keeper.new; dial = L.observed dial.new; clock = C.observed clock.new }) (status_of result) }
     // A bad journal is told.
-    ensures journal { IfSome (J.tells keeper.old).octets (λ octets. IsExactJournal octets (status_of result)) }
-    ensures cause { HasStatusCause (W.tells wire.old) (W.tells wire.new) (J.tells keeper.old) (J.tells keeper.new) (status_of result) }
+    ensures journal { IfSome (J.observed keeper.old).octets (λ octets. IsExactJournal octets (status_of result)) }
+    ensures cause { HasStatusCause (W.observed wire.old) (W.observed wire.new) (J.observed keeper.old) (J.observed keeper.new) (status_of result) }
 {
     let desk = match open_desk(alloc, keeper, LIMITS) {
         Ok(desk) => desk,

@@ -1,6 +1,6 @@
 //! The commands that serve a session.
 ghost use Rattle.std.specs.Prelude.{◌≡◌, IfSome};
-ghost use Rattle.session_core.specs.Serving.{OfCourse};
+ghost use Rattle.session_core.specs.Serving.{OfInstance};
 ghost use Rattle.session_core.specs.declared.desk.TheConstants.{LIMITS};
 ghost use Rattle.setup_command.specs.Running.{IsExactJournal, HasStatusCause};
 ghost use Rattle.setup_command.specs.Statuses.{status_of};
@@ -34,11 +34,11 @@ pub fn run_session<W: Wire, J: Keeper, C: Clock>(
     keeper: &mut J,
     clock: &mut C,
 ) -> Result<u8, Fault>
-    ensures runs { OfCourse (protocol_for role) (C.tells clock.old) (λ course. RunsSession course LIMITS
-        (J.tells keeper.old).octets (J.tells keeper.new).octets (W.tells wire.old) (W.tells wire.new) (status_of result)) }
+    ensures runs { OfInstance (protocol_for role) (C.observed clock.old) (λ instance. RunsSession instance LIMITS
+        (J.observed keeper.old).octets (J.observed keeper.new).octets (W.observed wire.old) (W.observed wire.new) (status_of result)) }
     // A bad journal is told.
-    ensures journal { IfSome (J.tells keeper.old).octets (λ octets. IsExactJournal octets (status_of result)) }
-    ensures cause { HasStatusCause (W.tells wire.old) (W.tells wire.new) (J.tells keeper.old) (J.tells keeper.new) (status_of result) }
+    ensures journal { IfSome (J.observed keeper.old).octets (λ octets. IsExactJournal octets (status_of result)) }
+    ensures cause { HasStatusCause (W.observed wire.old) (W.observed wire.new) (J.observed keeper.old) (J.observed keeper.new) (status_of result) }
 {
     let desk = match open_desk(alloc, keeper, LIMITS) {
         Ok(desk) => desk,

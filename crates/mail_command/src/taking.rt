@@ -8,9 +8,9 @@ use std::alloc::Global;
 
 /// Takes what is left, or the first octets of it, once they are more than `max`: up to a piece more.
 pub fn take_up_to<W: Wire>(alloc: Global, wire: &mut W, max: usize) -> Result<Octets, Fault>
-    ensures taken { IfOk result (TakesUpTo max (W.tells wire.old) (W.tells wire.new)) }
-    ensures some { OnErr result (TakesSome max (W.tells wire.old) (W.tells wire.new)) }
-    ensures cause { HasWireCause (W.tells wire.old) (W.tells wire.new) result Fault.Wire }
+    ensures taken { IfOk result (TakesUpTo max (W.observed wire.old) (W.observed wire.new)) }
+    ensures some { OnErr result (TakesSome max (W.observed wire.old) (W.observed wire.new)) }
+    ensures cause { HasWireCause (W.observed wire.old) (W.observed wire.new) result Fault.Wire }
     ensures keeper { ¬ (result ≡ Err Fault.Keeper) }
 {
     let mut taken = Octets::new(alloc);

@@ -46,9 +46,9 @@ fn fault_line(alloc: Global, fault: TreeFault) -> Result<Octets, Memory>
 
 // Gives the line that refuses a message.
 fn refuse<W: Wire>(wire: &mut W, line: Octets) -> Result<u8, Fault>
-    ensures gives { GivesOrFails (W.tells wire.old) (W.tells wire.new) result line }
+    ensures gives { GivesOrFails (W.observed wire.old) (W.observed wire.new) result line }
     ensures status { IfOk result (λ status. status ≡ 7) }
-    ensures cause { HasWireCause (W.tells wire.old) (W.tells wire.new) result Fault.Wire }
+    ensures cause { HasWireCause (W.observed wire.old) (W.observed wire.new) result Fault.Wire }
     ensures keeper { ¬ (result ≡ Err Fault.Keeper) }
 {
     give_all(wire, line.as_slice())?;
@@ -58,8 +58,8 @@ fn refuse<W: Wire>(wire: &mut W, line: Octets) -> Result<u8, Fault>
 // Gives all octets of a rope, piece by piece.
 fn give_rope<W: Wire>(msg: &[u8], rope: Rope, wire: &mut W) -> Result<(), Fault>
     requires { IsRopeOf msg.now rope }
-    ensures gives { GivesOrFails (W.tells wire.old) (W.tells wire.new) result (octets_of msg.now rope) }
-    ensures cause { HasWireCause (W.tells wire.old) (W.tells wire.new) result Fault.Wire }
+    ensures gives { GivesOrFails (W.observed wire.old) (W.observed wire.new) result (octets_of msg.now rope) }
+    ensures cause { HasWireCause (W.observed wire.old) (W.observed wire.new) result Fault.Wire }
     ensures keeper { ¬ (result ≡ Err Fault.Keeper) }
 {
     let len = rope.size();
@@ -79,9 +79,9 @@ fn give_made<W: Wire>(
     wire: &mut W,
 ) -> Result<(), Fault>
     requires { HasTree msg.now tree.now.entities }
-    ensures gives { OnOk result (GivesOne (IsGivenBy task msg.now) (W.tells wire.old) (W.tells wire.new)) }
-    ensures begun { OnErr result (BeginsOne (IsGivenBy task msg.now) (W.tells wire.old) (W.tells wire.new)) }
-    ensures cause { HasWireCause (W.tells wire.old) (W.tells wire.new) result Fault.Wire }
+    ensures gives { OnOk result (GivesOne (IsGivenBy task msg.now) (W.observed wire.old) (W.observed wire.new)) }
+    ensures begun { OnErr result (BeginsOne (IsGivenBy task msg.now) (W.observed wire.old) (W.observed wire.new)) }
+    ensures cause { HasWireCause (W.observed wire.old) (W.observed wire.new) result Fault.Wire }
     ensures keeper { ¬ (result ≡ Err Fault.Keeper) }
 {
     let rope = Rope::build(alloc, msg, tree)?;
@@ -101,9 +101,9 @@ pub fn give_outcome<W: Wire>(
     octets: Octets,
     wire: &mut W,
 ) -> Result<u8, Fault>
-    ensures gives { IfOk result (λ status. GivesOne (Outcome task octets status) (W.tells wire.old) (W.tells wire.new)) }
-    ensures begun { OnErr result (BeginsOne (IsOutcome task octets) (W.tells wire.old) (W.tells wire.new)) }
-    ensures cause { HasWireCause (W.tells wire.old) (W.tells wire.new) result Fault.Wire }
+    ensures gives { IfOk result (λ status. GivesOne (Outcome task octets status) (W.observed wire.old) (W.observed wire.new)) }
+    ensures begun { OnErr result (BeginsOne (IsOutcome task octets) (W.observed wire.old) (W.observed wire.new)) }
+    ensures cause { HasWireCause (W.observed wire.old) (W.observed wire.new) result Fault.Wire }
     ensures keeper { ¬ (result ≡ Err Fault.Keeper) }
 {
     if octets.len() > MESSAGE_MAX {
@@ -125,10 +125,10 @@ pub fn give_outcome<W: Wire>(
 
 /// Takes one message, and gives what the task makes of it or why it is refused.
 pub fn run_task<W: Wire>(alloc: Global, task: Task, wire: &mut W) -> Result<u8, Fault>
-    ensures answers { IfOk result (AnswersAll task (W.tells wire.old) (W.tells wire.new)) }
+    ensures answers { IfOk result (AnswersAll task (W.observed wire.old) (W.observed wire.new)) }
     ensures fine { IfOk result (λ status. ¬ IsBrokenOff status) }
-    ensures broken_off { OnErr result (BreaksOff task (W.tells wire.old) (W.tells wire.new)) }
-    ensures cause { HasWireCause (W.tells wire.old) (W.tells wire.new) result Fault.Wire }
+    ensures broken_off { OnErr result (BreaksOff task (W.observed wire.old) (W.observed wire.new)) }
+    ensures cause { HasWireCause (W.observed wire.old) (W.observed wire.new) result Fault.Wire }
     ensures keeper { ¬ (result ≡ Err Fault.Keeper) }
 {
     let taken = take_up_to(alloc, wire, MESSAGE_MAX)?;

@@ -99,8 +99,8 @@ end_changed old new had has all more e c =
     ∙ sym (ap length (journal-append all more) ∙ length-append (journal all) (flat_map record_text more))
 
 -- what others put behind its journal
-pub behind_journal : (store : StoreState) (octets : List ℕ) (all : List Record) (more : List ℕ) → IsStoreOf store (Some octets) all → store.end ≡ length (journal all) → HasReadFirst store (octets ++ more) all
-behind_journal store octets all more s e = record {
+pub after_journal : (store : StoreState) (octets : List ℕ) (all : List Record) (more : List ℕ) → IsStoreOf store (Some octets) all → store.end ≡ length (journal all) → HasReadFirst store (octets ++ more) all
+after_journal store octets all more s e = record {
   rest = more;
   begins = record { text = ap (λ (l : List ℕ). l ++ more) (some_is octets (journal all) s.holds); records = s.records };
   kept_is = s.kept_is;
@@ -108,9 +108,9 @@ behind_journal store octets all more s e = record {
 }
 
 -- what a failed append left behind its journal
-pub behind_failure : (old new : StoreState) (had has : Option (List ℕ)) (all more : List Record) → IsStoreOf old had all → old.end ≡ length (journal all)
+pub after_failure : (old new : StoreState) (had has : Option (List ℕ)) (all more : List Record) → IsStoreOf old had all → old.end ≡ length (journal all)
     → Changes {T = Unit {0}} old new had has (Err Keeper) more → IfSome has (λ octets. HasReadFirst new octets all)
-behind_failure old new had has all more s e c =
+after_failure old new had has all more s e c =
     let text = take c.2 (flat_map record_text more) in
     let holds : has ≡ Some (journal all ++ text) = c.3 ∙ ap (λ (o : Option (List ℕ)). with_last o text) s.holds in
     let failed : StoreState = record old { failed = true } in

@@ -13,7 +13,7 @@ use Rattle.journal_records.specs.Spelling.{record_text}
 use Rattle.mail_store.specs.StoreState.{StoreState, with_records}
 use Rattle.mail_store.proofs.ChangeLemmas.{after_all-append, end_after-append, with_nothing}
 use Rattle.mail_store.proofs.DeliveryLemmas.{AreRecords-append}
-use Rattle.mail_store.proofs.LawLemmas.{grown, left_behind}
+use Rattle.mail_store.proofs.LawLemmas.{grown, left_following}
 
 pub records_of-append : (a b : List (List Record)) → records_of (a ++ b) ≡ records_of a ++ records_of b
 records_of-append a b = flat_map-append (λ records. records) a b
@@ -80,4 +80,4 @@ broken old new had has all made failing s breaks =
     let front = flat_map record_text made in
     let whole : front ++ take breaks.count (flat_map record_text failing) ≡ take (length front + breaks.count) (flat_map record_text (made ++ failing)) =
     sym (take-append-add front (flat_map record_text failing) breaks.count) ∙ ap (take (length front + breaks.count)) (sym (flat_map-append record_text made failing)) in
-    left_behind old new had has all (made ++ failing) (length front + breaks.count) s breaks.records (breaks.journal ∙ ap (with_last had) whole)
+    left_following old new had has all (made ++ failing) (length front + breaks.count) s breaks.records (breaks.journal ∙ ap (with_last had) whole)

@@ -37,16 +37,16 @@ take-append-ge xs ys n le =
     ap (λ (k : ℕ). take k (xs ++ ys)) split ∙ take-append-add xs ys (n - length xs)
 
 -- a proper prefix of a record is a prefix of a record
-cut_one : (kept : Kept) (x : Record) (behind : List ℕ) (n : ℕ) → IsRecord kept x → n < length (record_text x) → IsCutShort (take n (record_text x ++ behind))
-cut_one kept x behind n p less =
+cut_one : (kept : Kept) (x : Record) (following : List ℕ) (n : ℕ) → IsRecord kept x → n < length (record_text x) → IsCutShort (take n (record_text x ++ following))
+cut_one kept x following n p less =
     elim (cases_lt n 4) [
-      | inl few ↦ inl (omega (arith, length-take n (record_text x ++ behind)))
+      | inl few ↦ inl (omega (arith, length-take n (record_text x ++ following)))
       | inr enough ↦
           let body = fields_of x in
-          let held = take (n - 4) (body ++ behind) in
-          let head : take n (number (length body) ++ (body ++ behind)) ≡ number (length body) ++ held = take-append-ge (number (length body)) (body ++ behind) n enough in
-          let fewer : length held < length body = omega (arith, length-take (n - 4) (body ++ behind), length-append (number (length body)) body) in
-          inr (length body, held, some_fields x, p.short, fewer, ap (take n) (append_assoc (number (length body)) body behind) ∙ head)
+          let held = take (n - 4) (body ++ following) in
+          let head : take n (number (length body) ++ (body ++ following)) ≡ number (length body) ++ held = take-append-ge (number (length body)) (body ++ following) n enough in
+          let fewer : length held < length body = omega (arith, length-take (n - 4) (body ++ following), length-append (number (length body)) body) in
+          inr (length body, held, some_fields x, p.short, fewer, ap (take n) (append_assoc (number (length body)) body following) ∙ head)
     ]
 
 first_octets_of : (kept : Kept) (n : ℕ) (more : List Record) → AreRecords kept more → FirstOctets kept n more
@@ -82,9 +82,9 @@ grown old new had has all more done s c = record {
 }
 
 -- a first part of the new octets opens with the first of the new records
-pub left_behind : (old new : StoreState) (had has : Option (List ℕ)) (all more : List Record) (n : ℕ) → IsStoreOf old had all → AreRecords old.kept more
+pub left_following : (old new : StoreState) (had has : Option (List ℕ)) (all more : List Record) (n : ℕ) → IsStoreOf old had all → AreRecords old.kept more
     → has ≡ with_last had (take n (flat_map record_text more)) → HoldsFirst has all more
-left_behind old new had has all more n s p e =
+left_following old new had has all more n s p e =
     let f = first_octets_of (store_of all) n more (subst (λ (k : Kept). AreRecords k more) s.kept_is p) in
     let octets = journal all ++ take n (flat_map record_text more) in
     let text : octets ≡ journal (all ++ take f.count more) ++ f.rest =

@@ -73,7 +73,7 @@ long : (octets rest : List ℕ) (all : List Record) → BeginsJournal octets all
 long octets rest all w b = omega (arith, b.shorter, ap length w.text, length-append (journal all) rest, length-append first_octets (flat_map record_text all))
 
 -- a journal has the first octets
-no_first : (octets rest : List ℕ) (all : List Record) → BeginsJournal octets all rest → ((behind : List ℕ) → octets ≡ first_octets ++ behind → ⊥) → ⊥
+no_first : (octets rest : List ℕ) (all : List Record) → BeginsJournal octets all rest → ((following : List ℕ) → octets ≡ first_octets ++ following → ⊥) → ⊥
 no_first octets rest all w none = none (flat_map record_text all ++ rest) (w.text ∙ append_assoc first_octets (flat_map record_text all) rest)
 
 -- octets have their records in one way

@@ -5,7 +5,7 @@ use Rattle.std.specs.List.{flat_map}
 use Rattle.std.proofs.lemmas.Bool.{cases_lt, ne_eqb}
 use Rattle.std.proofs.lemmas.List.{take_all, take_at, drop_at, drop-drop}
 use Rattle.std.proofs.lemmas.List.Concat.{flat_map-cons}
-use Rattle.mail_wire.specs.KeeperTelling.{KeeperTelling}
+use Rattle.mail_wire.specs.KeeperState.{KeeperState}
 use Rattle.journal_records.specs.declared.limits.TheConstants.{RECORD_MAX}
 use Rattle.mail_store.specs.declared.opening.OpenFault.{OpenFault}
 use Rattle.mail_store.specs.declared.opening.OpenFault.TheVariants as faults
@@ -52,9 +52,9 @@ eqb_zero n long = ne_eqb n 0 (λ (e : n ≡ 0). absurd (omega (arith, e, long)))
 text_next : (octets fields : List ℕ) (at n : ℕ) → IsWhole n (drop at octets) → fields ≡ fields_at octets at n → drop at octets ≡ octet_list fields ++ drop (at + (4 + n)) octets
 text_next octets fields at n w f =
     let place : at + 4 + n ≡ at + (4 + n) = omega arith in
-    let behind : drop n (drop 4 (drop at octets)) ≡ drop (at + (4 + n)) octets = ap (drop n) (drop-drop 4 at octets) ∙ drop-drop n (at + 4) octets ∙ ap (λ (k : ℕ). drop k octets) place in
+    let following : drop n (drop 4 (drop at octets)) ≡ drop (at + (4 + n)) octets = ap (drop n) (drop-drop 4 at octets) ∙ drop-drop n (at + 4) octets ∙ ap (λ (k : ℕ). drop k octets) place in
     let its : take n (drop 4 (drop at octets)) ≡ fields = ap (take n) (drop-drop 4 at octets) ∙ sym f in
-    w.text ∙ ap (λ (l : List ℕ). octet_list l ++ drop n (drop 4 (drop at octets))) its ∙ ap (λ (l : List ℕ). octet_list fields ++ l) behind
+    w.text ∙ ap (λ (l : List ℕ). octet_list l ++ drop n (drop 4 (drop at octets))) its ∙ ap (λ (l : List ℕ). octet_list fields ++ l) following
 
 -- nothing was put last yet
 pub IsReadTo-none : (told : Option (List ℕ)) (store : StoreState) → IsReadTo told store store
@@ -91,20 +91,20 @@ told_bad None store at is none = tt
 told_bad (Some octets) store at is none =
     let rest = drop store.end octets in
     let here : IsNoFrame rest = subst (λ (k : ℕ). IsNoFrame (drop k octets)) is none in
-    record { at_is = is; no_prefix = here.no_prefix; no_record = λ (one : Record) (behind : List ℕ) (of : IsRecord store.kept one) (e : rest ≡ record_text one ++ behind). here.no_list (fields_of one) behind (some_fields one) of.short e }
+    record { at_is = is; no_prefix = here.no_prefix; no_record = λ (one : Record) (following : List ℕ) (of : IsRecord store.kept one) (e : rest ≡ record_text one ++ following). here.no_list (fields_of one) following (some_fields one) of.short e }
 
 -- what stands where the store's journal ends, where its fields are no record
 bad_fields : (octets : List ℕ) (n : ℕ) (store : StoreState) (at : ℕ) → at ≡ store.end → IsWhole n (drop store.end octets) → NotAdded store (fields_at octets store.end n) → IsBadRest octets store at
 bad_fields octets n store at is w a =
     let rest = drop store.end octets in
     let fields = take n (drop 4 rest) in
-    let behind = drop n (drop 4 rest) in
+    let following = drop n (drop 4 rest) in
     let its : fields_at octets store.end n ≡ fields = sym (ap (take n) (drop-drop 4 store.end octets)) in
     let short : length fields ≤ RECORD_MAX = omega (arith, w.short, length-take n (drop 4 rest)) in
     let none : NotAdded store fields = subst (NotAdded store) its a in
     let no_record = λ (one : Record) (after_it : List ℕ) (of : IsRecord store.kept one) (e : rest ≡ record_text one ++ after_it).
-    none one of (list_once fields (fields_of one) behind after_it (omega (arith, short)) (omega (arith, of.short)) (sym w.text ∙ e)).0 in
-    record { at_is = is; no_prefix = λ cut. list_no_prefix fields behind short (subst IsCutShort w.text cut); no_record = no_record }
+    none one of (list_once fields (fields_of one) following after_it (omega (arith, short)) (omega (arith, of.short)) (sym w.text ∙ e)).0 in
+    record { at_is = is; no_prefix = λ cut. list_no_prefix fields following short (subst IsCutShort w.text cut); no_record = no_record }
 
 pub told_fault : (told : Option (List ℕ)) (n : ℕ) (store : StoreState) (fault : OpenFault) → IfSome told (λ octets. IsWhole n (drop store.end octets))
     → IsFieldsFault told store.end n store fault → IsRestFault told store fault
@@ -145,15 +145,15 @@ HasReadFirst-text octets store all h = ap₂ (λ (n : ℕ) (l : List ℕ). take 
 
 pub HasReadFirst-bad : (octets : List ℕ) (store : StoreState) (all : List Record) (at : ℕ) → HasReadFirst store octets all → IsBadRest octets store at → IsBadAt octets at
 HasReadFirst-bad octets store all at h bad =
-    let behind = rest_of octets store all h in
+    let following = rest_of octets store all h in
     inr (
       all,
       h.rest,
       bad.at_is ∙ h.end_is,
       record {
         whole = h.begins;
-        no_prefix = λ cut. bad.no_prefix (subst IsCutShort behind cut);
-        no_record = λ one rest is e. bad.no_record one rest (subst (λ (k : Kept). IsRecord k one) (sym h.kept_is) is) (sym behind ∙ e);
+        no_prefix = λ cut. bad.no_prefix (subst IsCutShort following cut);
+        no_record = λ one rest is e. bad.no_record one rest (subst (λ (k : Kept). IsRecord k one) (sym h.kept_is) is) (sym following ∙ e);
       },
     )
 
@@ -240,5 +240,5 @@ leaves_half (Some old) (Some new) end kept e h = half_left old end kept new e h
 
 -- ---- calls of the keeper, one after the other
 
-pub Stays-then : (before between now : KeeperTelling) → KeeperStays before between → KeeperStays between now → KeeperStays before now
+pub Stays-then : (before between now : KeeperState) → KeeperStays before between → KeeperStays between now → KeeperStays before now
 Stays-then before between now a b = record { same = b.same ∙ a.same; unappended = b.unappended ∙ a.unappended; later = omega (arith, a.later, b.later); sure = λ h. b.sure (a.sure h) }

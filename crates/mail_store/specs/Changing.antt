@@ -3,7 +3,7 @@ use Rattle.std.specs.Prelude.{◌≡◌, ◌≢◌, ℕ, ◌<◌, ◌≤◌, Lis
 use Rattle.std.specs.List.{All, flat_map, list_all}
 use Rattle.std.specs.Option.{option_map_or}
 use Rattle.mail_wire.specs.Keeping.{one_more, with_last}
-use Rattle.mail_wire.specs.KeeperTelling.{KeeperTelling}
+use Rattle.mail_wire.specs.KeeperState.{KeeperState}
 use Rattle.address_grammar.specs.declared.Address.{Address}
 use Rattle.mail_store.specs.declared.changing.StoreFault.{StoreFault}
 use Rattle.mail_store.specs.declared.changing.StoreFault.TheVariants as faults
@@ -39,14 +39,14 @@ Changes old new had has (Err faults.NoSuch) all = (new ≡ old) × (has ≡ had)
 Changes old new had has (Err faults.Memory) all = (new ≡ old) × (has ≡ had)
 
 -- Nothing was done: the store is as before, the keeper wasn't called, so that it tells the same, and the answer is no fault of it.
-pub record LeavesAll {T : Type 0} (old new : StoreState) (before now : KeeperTelling) (result : Result T StoreFault) : Type 0 where
+pub record LeavesAll {T : Type 0} (old new : StoreState) (before now : KeeperState) (result : Result T StoreFault) : Type 0 where
   pub store : new ≡ old
   pub keeper : now ≡ before
   pub answer : result ≢ Err faults.Keeper
 
 -- What a call that wasn't done left of the keeper. A refused one didn't come to it, so that it tells the same. One that the keeper broke
 -- off made its one append, and one that wanted memory made none.
-abbrev pub LeavesKeeper : KeeperTelling → KeeperTelling → StoreFault → Type 0
+abbrev pub LeavesKeeper : KeeperState → KeeperState → StoreFault → Type 0
 LeavesKeeper before now faults.Keeper = now.appends ≡ one_more before.appends
 LeavesKeeper before now faults.Memory = now.appends ≡ before.appends
 LeavesKeeper before now faults.Exists = now ≡ before

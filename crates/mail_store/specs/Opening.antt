@@ -20,7 +20,7 @@ abbrev pub HasNoRecord : Kept → List ℕ → Type 0
 HasNoRecord kept octets = (one : Record) (rest : List ℕ) → IsRecord kept one → octets ≢ record_text one ++ rest
 
 -- whole records end here, and the octets from here on are no record and no prefix of one
-pub record IsBadBehind (octets : List ℕ) (all : List Record) (rest : List ℕ) : Type 0 where
+pub record IsBadAfter (octets : List ℕ) (all : List Record) (rest : List ℕ) : Type 0 where
   pub whole : BeginsJournal octets all rest
   pub no_prefix : IsCutShort rest → ⊥
   pub no_record : HasNoRecord (store_of all) rest
@@ -29,4 +29,4 @@ pub record IsBadBehind (octets : List ℕ) (all : List Record) (rest : List ℕ)
 abbrev pub IsBadAt : List ℕ → ℕ → Type 0
 IsBadAt octets at =
     ((at ≡ 0) × (IsBeginning octets → ⊥) × ((rest : List ℕ) → octets ≢ first_octets ++ rest))
-    ⊎ ((all : List Record) × (rest : List ℕ) × (at ≡ length (journal all)) × IsBadBehind octets all rest)
+    ⊎ ((all : List Record) × (rest : List ℕ) × (at ≡ length (journal all)) × IsBadAfter octets all rest)

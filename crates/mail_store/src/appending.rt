@@ -57,14 +57,14 @@ fn write_message<J: Keeper>(
     progress: &mut Progress,
     made: &NewMessage,
 ) -> Result<(), StoreFault>
-    ensures writes { Writes progress.old progress.new (J.tells keeper.old).octets (J.tells keeper.new).octets result (made.now.front ++ made.now.own.octets) }
+    ensures writes { Writes progress.old progress.new (J.observed keeper.old).octets (J.observed keeper.new).octets result (made.now.front ++ made.now.own.octets) }
     ensures messages { messages.new.items ≡ messages.old.items }
     ensures previous { previous.new.items ≡ previous.old.items }
     ensures message_room { OnOk result (vec_len messages.new < vec_capacity messages.new) }
     ensures previous_room { OnOk result (vec_len previous.new < vec_capacity previous.new) }
-    ensures cause { HasKeeperCause (J.tells keeper.old) (J.tells keeper.new) result StoreFault.Keeper }
-    ensures once { OnOk result ((J.tells keeper.new).appends ≡ one_more (J.tells keeper.old).appends) }
-    ensures apart { IfErr result (LeavesKeeper (J.tells keeper.old) (J.tells keeper.new)) }
+    ensures cause { HasKeeperCause (J.observed keeper.old) (J.observed keeper.new) result StoreFault.Keeper }
+    ensures once { OnOk result ((J.observed keeper.new).appends ≡ one_more (J.observed keeper.old).appends) }
+    ensures untouched { IfErr result (LeavesKeeper (J.observed keeper.old) (J.observed keeper.new)) }
 {
     messages.reserve(1)?;
     previous.reserve(1)?;
@@ -84,13 +84,13 @@ impl Store {
     ) -> Result<u32, StoreFault>
         requires works { self.old.failed ≡ false }
         requires appendable { IsAppendable self.old folder flags date.now octets.now }
-        ensures changes { Changes self.old self.new (J.tells keeper.old).octets (J.tells keeper.new).octets result
+        ensures changes { Changes self.old self.new (J.observed keeper.old).octets (J.observed keeper.new).octets result
             (records.Message folder flags date.now octets.now ∷ []) }
         ensures uid { IfOk result (λ uid. uid ≡ uid_next self.old.kept folder) }
         ensures refusal { IsRefusedAs result (append_refusal self.old octets.now) }
-        ensures cause { HasKeeperCause (J.tells keeper.old) (J.tells keeper.new) result StoreFault.Keeper }
-        ensures once { OnOk result ((J.tells keeper.new).appends ≡ one_more (J.tells keeper.old).appends) }
-        ensures apart { IfErr result (LeavesKeeper (J.tells keeper.old) (J.tells keeper.new)) }
+        ensures cause { HasKeeperCause (J.observed keeper.old) (J.observed keeper.new) result StoreFault.Keeper }
+        ensures once { OnOk result ((J.observed keeper.new).appends ≡ one_more (J.observed keeper.old).appends) }
+        ensures untouched { IfErr result (LeavesKeeper (J.observed keeper.old) (J.observed keeper.new)) }
     {
         let made = self.new_message(folder, flags, date, octets)?;
         self.put_new_message(keeper, made)
@@ -130,13 +130,13 @@ impl Store {
         made: NewMessage,
     ) -> Result<u32, StoreFault>
         requires { IsNewMessage self.old made.front made.own }
-        ensures changes { Changes self.old self.new (J.tells keeper.old).octets (J.tells keeper.new).octets result
+        ensures changes { Changes self.old self.new (J.observed keeper.old).octets (J.observed keeper.new).octets result
             (records.Message made.own.folder made.own.flags made.own.date made.own.octets ∷ []) }
         ensures uid { IfOk result (λ uid. uid ≡ uid_next self.old.kept made.own.folder) }
         ensures refusal { IsRefusedAs result None }
-        ensures cause { HasKeeperCause (J.tells keeper.old) (J.tells keeper.new) result StoreFault.Keeper }
-        ensures once { OnOk result ((J.tells keeper.new).appends ≡ one_more (J.tells keeper.old).appends) }
-        ensures apart { IfErr result (LeavesKeeper (J.tells keeper.old) (J.tells keeper.new)) }
+        ensures cause { HasKeeperCause (J.observed keeper.old) (J.observed keeper.new) result StoreFault.Keeper }
+        ensures once { OnOk result ((J.observed keeper.new).appends ≡ one_more (J.observed keeper.old).appends) }
+        ensures untouched { IfErr result (LeavesKeeper (J.observed keeper.old) (J.observed keeper.new)) }
     {
         let uid = self.uid_next(made.own.folder);
         write_message(

@@ -10,13 +10,13 @@ use mail_wire::Keeper;
 use std::alloc::Global;
 
 // Cuts off what stands behind a place.
-fn cut_behind<J: Keeper>(keeper: &mut J, had: u64, end: u64) -> Result<(), OpenFault>
-    requires had { IfSome (J.tells keeper.old).octets (λ octets. had ≡ length octets) }
+fn cut_after<J: Keeper>(keeper: &mut J, had: u64, end: u64) -> Result<(), OpenFault>
+    requires had { IfSome (J.observed keeper.old).octets (λ octets. had ≡ length octets) }
     requires within { end ≤ had }
-    ensures cut { OnOk result ((J.tells keeper.new).octets ≡ option_map (take end) (J.tells keeper.old).octets) }
-    ensures same { OnErr result ((J.tells keeper.new).octets ≡ (J.tells keeper.old).octets) }
-    ensures cause { HasKeeperCause (J.tells keeper.old) (J.tells keeper.new) result OpenFault.Keeper }
-    ensures unappended { (J.tells keeper.new).appends ≡ (J.tells keeper.old).appends }
+    ensures cut { OnOk result ((J.observed keeper.new).octets ≡ option_map (take end) (J.observed keeper.old).octets) }
+    ensures same { OnErr result ((J.observed keeper.new).octets ≡ (J.observed keeper.old).octets) }
+    ensures cause { HasKeeperCause (J.observed keeper.old) (J.observed keeper.new) result OpenFault.Keeper }
+    ensures unappended { (J.observed keeper.new).appends ≡ (J.observed keeper.old).appends }
     ensures outside { IfErr result IsOutside }
 {
     if had <= end {
@@ -27,14 +27,14 @@ fn cut_behind<J: Keeper>(keeper: &mut J, had: u64, end: u64) -> Result<(), OpenF
 }
 
 // Puts the records last that stand behind those that the store has, and cuts off a prefix of one behind them.
-fn read_behind<J: Keeper>(alloc: Global, keeper: &mut J, store: &mut Store) -> Result<(), OpenFault>
-    ensures reads { IsReadTo (J.tells keeper.old).octets store.old store.new }
-    ensures catches { OnOk result (IfSome (J.tells keeper.old).octets (λ old. CatchesUp store.old old (J.tells keeper.new).octets store.new.kept)) }
-    ensures end { OnOk result (IfSome (J.tells keeper.new).octets (λ octets. store.new.end ≡ length octets)) }
-    ensures same { OnErr result ((J.tells keeper.new).octets ≡ (J.tells keeper.old).octets) }
-    ensures fault { IfErr result (λ fault. IfSome (J.tells keeper.old).octets (λ old. IsCatchFault store.old old fault)) }
-    ensures cause { HasKeeperCause (J.tells keeper.old) (J.tells keeper.new) result OpenFault.Keeper }
-    ensures unappended { (J.tells keeper.new).appends ≡ (J.tells keeper.old).appends }
+fn read_after<J: Keeper>(alloc: Global, keeper: &mut J, store: &mut Store) -> Result<(), OpenFault>
+    ensures reads { IsReadTo (J.observed keeper.old).octets store.old store.new }
+    ensures catches { OnOk result (IfSome (J.observed keeper.old).octets (λ old. CatchesUp store.old old (J.observed keeper.new).octets store.new.kept)) }
+    ensures end { OnOk result (IfSome (J.observed keeper.new).octets (λ octets. store.new.end ≡ length octets)) }
+    ensures same { OnErr result ((J.observed keeper.new).octets ≡ (J.observed keeper.old).octets) }
+    ensures fault { IfErr result (λ fault. IfSome (J.observed keeper.old).octets (λ old. IsCatchFault store.old old fault)) }
+    ensures cause { HasKeeperCause (J.observed keeper.old) (J.observed keeper.new) result OpenFault.Keeper }
+    ensures unappended { (J.observed keeper.new).appends ≡ (J.observed keeper.old).appends }
 {
     let had = keeper.len()?;
     let end = store.end();
@@ -43,7 +43,7 @@ fn read_behind<J: Keeper>(alloc: Global, keeper: &mut J, store: &mut Store) -> R
     }
     let mut buffer = Vec::new(alloc);
     read_on(alloc, keeper, store, had, &mut buffer)?;
-    cut_behind(keeper, had, store.end())?;
+    cut_after(keeper, had, store.end())?;
     Ok(())
 }
 
@@ -53,23 +53,23 @@ impl Store {
     /// changed before it has caught up, which goes on where it stopped.
     pub fn catch_up<J: Keeper>(&mut self, keeper: &mut J) -> Result<(), OpenFault>
         // Whatever it answers, it goes on with the records that stand next, and reads none twice.
-        ensures reads { ReadsOn (J.tells keeper.old).octets self.old self.new }
+        ensures reads { ReadsOn (J.observed keeper.old).octets self.old self.new }
 
         // It keeps the fold of the whole records that were there, and the keeper holds them and nothing more.
-        ensures catches { OnOk result (IfSome (J.tells keeper.old).octets (λ old. CatchesUp self.old old (J.tells keeper.new).octets self.new.kept)) }
-        ensures end { OnOk result (IfSome (J.tells keeper.new).octets (λ octets. self.new.end ≡ length octets)) }
+        ensures catches { OnOk result (IfSome (J.observed keeper.old).octets (λ old. CatchesUp self.old old (J.observed keeper.new).octets self.new.kept)) }
+        ensures end { OnOk result (IfSome (J.observed keeper.new).octets (λ octets. self.new.end ≡ length octets)) }
 
         // A refusal leaves the octets. A journal is bad at that place, or is shorter than it was; a fault of the keeper has its cause.
-        ensures same { OnErr result ((J.tells keeper.new).octets ≡ (J.tells keeper.old).octets) }
-        ensures fault { IfErr result (λ fault. IfSome (J.tells keeper.old).octets (λ old. IsCatchFault self.old old fault)) }
-        ensures cause { HasKeeperCause (J.tells keeper.old) (J.tells keeper.new) result OpenFault.Keeper }
-        ensures unappended { (J.tells keeper.new).appends ≡ (J.tells keeper.old).appends }
+        ensures same { OnErr result ((J.observed keeper.new).octets ≡ (J.observed keeper.old).octets) }
+        ensures fault { IfErr result (λ fault. IfSome (J.observed keeper.old).octets (λ old. IsCatchFault self.old old fault)) }
+        ensures cause { HasKeeperCause (J.observed keeper.old) (J.observed keeper.new) result OpenFault.Keeper }
+        ensures unappended { (J.observed keeper.new).appends ≡ (J.observed keeper.old).appends }
 
         // The store is marked as failed exactly where it is refused.
         ensures failed { self.new.failed ≡ is_err result }
     {
         let alloc = self.alloc;
-        let caught = read_behind(alloc, keeper, self);
+        let caught = read_after(alloc, keeper, self);
         self.mark(caught.is_err());
         caught
     }

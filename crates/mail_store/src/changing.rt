@@ -27,8 +27,8 @@ use journal_records::{
     account_text, domain_key, domain_text, expunge_text, flags_text, mailbox_key, message_front,
 };
 use kept_mail::{
-    Account, Delivery, Entry, Message, Parcel, are_live, are_too_many, has_large_octets,
-    is_for_nobody, is_live, number_of, parts_of, push_reserved, put_account, put_flags, put_parcel,
+    Account, Batch, Delivery, Entry, Message, are_live, are_too_many, has_large_octets,
+    is_for_nobody, is_live, number_of, parts_of, push_reserved, put_account, put_batch, put_flags,
     reserve_account, reserve_delivery, take_away, waiting_of,
 };
 use mail_wire::{Keeper, Memory as OutOfMemory, Octets};
@@ -99,10 +99,10 @@ struct NewAccount {
 
 // What is written of a delivery, and what is put last for it.
 #[derive(Clone, Copy)]
-struct Letter<'a> {
+struct DeliveryWrite<'a> {
     alloc: Global,
     delivery: &'a Delivery,
-    parcel: &'a Parcel,
+    batch: &'a Batch,
 }
 
 // Makes room for the messages and the entry of a delivery, and writes its records.
@@ -112,26 +112,31 @@ fn write_delivery<J: Keeper>(
     previous: &mut Vec<Option<u32>>,
     entries: &mut Vec<Entry>,
     progress: &mut Progress,
-    letter: Letter,
+    delivery_write: DeliveryWrite,
 ) -> Result<(), StoreFault>
-    ensures writes { Writes progress.old progress.new (J.tells keeper.old).octets (J.tells keeper.new).octets result
-        (delivery_text letter.entry.parcel.now.fronts.items letter.entry.parcel.now.waiting.front letter.entry.delivery.now) }
+    ensures writes { Writes progress.old progress.new (J.observed keeper.old).octets (J.observed keeper.new).octets result
+        (delivery_text delivery_write.entry.batch.now.fronts.items delivery_write.entry.batch.now.waiting.front delivery_write.entry.delivery.now) }
     ensures messages { messages.new.items ≡ messages.old.items }
     ensures previous { previous.new.items ≡ previous.old.items }
     ensures entries { entries.new.items ≡ entries.old.items }
-    ensures message_room { OnOk result (vec_len messages.new + length letter.entry.parcel.now.copies.items ≤ vec_capacity messages.new) }
-    ensures previous_room { OnOk result (vec_len previous.new + length letter.entry.parcel.now.copies.items ≤ vec_capacity previous.new) }
+    ensures message_room { OnOk result (vec_len messages.new + length delivery_write.entry.batch.now.copies.items ≤ vec_capacity messages.new) }
+    ensures previous_room { OnOk result (vec_len previous.new + length delivery_write.entry.batch.now.copies.items ≤ vec_capacity previous.new) }
     ensures entry_room { OnOk result (vec_len entries.new < vec_capacity entries.new) }
-    ensures cause { HasKeeperCause (J.tells keeper.old) (J.tells keeper.new) result StoreFault.Keeper }
-    ensures once { OnOk result ((J.tells keeper.new).appends ≡ one_more (J.tells keeper.old).appends) }
-    ensures apart { IfErr result (LeavesKeeper (J.tells keeper.old) (J.tells keeper.new)) }
+    ensures cause { HasKeeperCause (J.observed keeper.old) (J.observed keeper.new) result StoreFault.Keeper }
+    ensures once { OnOk result ((J.observed keeper.new).appends ≡ one_more (J.observed keeper.old).appends) }
+    ensures untouched { IfErr result (LeavesKeeper (J.observed keeper.old) (J.observed keeper.new)) }
 {
-    reserve_delivery(messages, previous, entries, letter.parcel.copies.len())?;
+    reserve_delivery(
+        messages,
+        previous,
+        entries,
+        delivery_write.batch.copies.len(),
+    )?;
     let parts = parts_of(
-        letter.alloc,
-        &letter.parcel.fronts,
-        &letter.parcel.waiting.front,
-        letter.delivery,
+        delivery_write.alloc,
+        &delivery_write.batch.fronts,
+        &delivery_write.batch.waiting.front,
+        delivery_write.delivery,
     )?;
     write_parts(keeper, &parts, progress)
 }
@@ -141,12 +146,12 @@ impl Store {
     pub fn add_domain<J: Keeper>(&mut self, keeper: &mut J, domain: &str) -> Result<(), StoreFault>
         requires works { self.old.failed ≡ false }
         requires form { normal_form domain.now ≢ None }
-        ensures changes { Changes self.old self.new (J.tells keeper.old).octets (J.tells keeper.new).octets result
+        ensures changes { Changes self.old self.new (J.observed keeper.old).octets (J.observed keeper.new).octets result
             (records.Domain (compared_form domain.now) ∷ []) }
         ensures refusal { IsRefusedAs result (domain_refusal self.old.kept domain.now) }
-        ensures cause { HasKeeperCause (J.tells keeper.old) (J.tells keeper.new) result StoreFault.Keeper }
-        ensures once { OnOk result ((J.tells keeper.new).appends ≡ one_more (J.tells keeper.old).appends) }
-        ensures apart { IfErr result (LeavesKeeper (J.tells keeper.old) (J.tells keeper.new)) }
+        ensures cause { HasKeeperCause (J.observed keeper.old) (J.observed keeper.new) result StoreFault.Keeper }
+        ensures once { OnOk result ((J.observed keeper.new).appends ≡ one_more (J.observed keeper.old).appends) }
+        ensures untouched { IfErr result (LeavesKeeper (J.observed keeper.old) (J.observed keeper.new)) }
     {
         let named = self.named_domain(domain)?;
         self.domains.reserve(1)?;
@@ -196,13 +201,13 @@ impl Store {
         requires works { self.old.failed ≡ false }
         requires address { IsSendable address.now }
         requires password { length password.now ≤ TEXT_MAX }
-        ensures changes { Changes self.old self.new (J.tells keeper.old).octets (J.tells keeper.new).octets result
+        ensures changes { Changes self.old self.new (J.observed keeper.old).octets (J.observed keeper.new).octets result
             (records.Account (address_text address.now) password.now ∷ []) }
         ensures number { IfOk result (λ account. account ≡ length self.old.kept.accounts) }
         ensures refusal { WithPaths (λ path_of. IsRefusedAs result (account_refusal path_of self.old.kept address.now)) }
-        ensures cause { HasKeeperCause (J.tells keeper.old) (J.tells keeper.new) result StoreFault.Keeper }
-        ensures once { OnOk result ((J.tells keeper.new).appends ≡ one_more (J.tells keeper.old).appends) }
-        ensures apart { IfErr result (LeavesKeeper (J.tells keeper.old) (J.tells keeper.new)) }
+        ensures cause { HasKeeperCause (J.observed keeper.old) (J.observed keeper.new) result StoreFault.Keeper }
+        ensures once { OnOk result ((J.observed keeper.new).appends ≡ one_more (J.observed keeper.old).appends) }
+        ensures untouched { IfErr result (LeavesKeeper (J.observed keeper.old) (J.observed keeper.new)) }
     {
         let made = self.new_account(address, password)?;
         self.put_new_account(keeper, made)
@@ -215,13 +220,13 @@ impl Store {
         made: NewAccount,
     ) -> Result<u32, StoreFault>
         requires { IsNewAccount self.old made.named.name made.named.number made.named.text made.own }
-        ensures changes { Changes self.old self.new (J.tells keeper.old).octets (J.tells keeper.new).octets result
+        ensures changes { Changes self.old self.new (J.observed keeper.old).octets (J.observed keeper.new).octets result
             (records.Account made.own.address made.own.password ∷ []) }
         ensures number { IfOk result (λ account. account ≡ length self.old.kept.accounts) }
         ensures refusal { IsRefusedAs result None }
-        ensures cause { HasKeeperCause (J.tells keeper.old) (J.tells keeper.new) result StoreFault.Keeper }
-        ensures once { OnOk result ((J.tells keeper.new).appends ≡ one_more (J.tells keeper.old).appends) }
-        ensures apart { IfErr result (LeavesKeeper (J.tells keeper.old) (J.tells keeper.new)) }
+        ensures cause { HasKeeperCause (J.observed keeper.old) (J.observed keeper.new) result StoreFault.Keeper }
+        ensures once { OnOk result ((J.observed keeper.new).appends ≡ one_more (J.observed keeper.old).appends) }
+        ensures untouched { IfErr result (LeavesKeeper (J.observed keeper.old) (J.observed keeper.new)) }
     {
         let account = made.named.number;
         let inbox = reserve_account(
@@ -374,18 +379,18 @@ impl Store {
     ) -> Result<(), StoreFault>
         requires works { self.old.failed ≡ false }
         requires deliverable { IsDeliverable self.old delivery.now }
-        ensures changes { Changes self.old self.new (J.tells keeper.old).octets (J.tells keeper.new).octets result (delivered self.old.kept delivery.now) }
+        ensures changes { Changes self.old self.new (J.observed keeper.old).octets (J.observed keeper.new).octets result (delivered self.old.kept delivery.now) }
         ensures refusal { IsRefusedAs result (delivery_refusal self.old delivery.now) }
-        ensures nothing { delivered self.old.kept delivery.now ≡ [] → LeavesAll self.old self.new (J.tells keeper.old) (J.tells keeper.new) result }
-        ensures cause { HasKeeperCause (J.tells keeper.old) (J.tells keeper.new) result StoreFault.Keeper }
-        ensures once { delivered self.old.kept delivery.now ≢ [] → OnOk result ((J.tells keeper.new).appends ≡ one_more (J.tells keeper.old).appends) }
-        ensures apart { IfErr result (LeavesKeeper (J.tells keeper.old) (J.tells keeper.new)) }
+        ensures nothing { delivered self.old.kept delivery.now ≡ [] → LeavesAll self.old self.new (J.observed keeper.old) (J.observed keeper.new) result }
+        ensures cause { HasKeeperCause (J.observed keeper.old) (J.observed keeper.new) result StoreFault.Keeper }
+        ensures once { delivered self.old.kept delivery.now ≢ [] → OnOk result ((J.observed keeper.new).appends ≡ one_more (J.observed keeper.old).appends) }
+        ensures untouched { IfErr result (LeavesKeeper (J.observed keeper.old) (J.observed keeper.new)) }
     {
-        let parcel = self.parcel(delivery)?;
+        let batch = self.batch(delivery)?;
         if is_for_nobody(delivery) {
             return Ok(());
         }
-        self.put_delivery(keeper, delivery, parcel)
+        self.put_delivery(keeper, delivery, batch)
     }
 
     // Puts a delivery last that isn't refused, and writes it.
@@ -393,86 +398,86 @@ impl Store {
         &mut self,
         keeper: &mut J,
         delivery: &Delivery,
-        parcel: Parcel,
+        batch: Batch,
     ) -> Result<(), StoreFault>
         requires deliverable { IsDeliverable self.old delivery.now }
         requires taken { delivery_refusal self.old delivery.now ≡ None }
-        requires text { delivery_text parcel.fronts.items parcel.waiting.front delivery.now
+        requires text { delivery_text batch.fronts.items batch.waiting.front delivery.now
             ≡ flat_map record_text (delivered self.old.kept delivery.now) }
-        requires copies { parcel.copies.items
+        requires copies { batch.copies.items
             ≡ map (copied delivery.now.date delivery.now.local_octets) (inboxes_of self.old.kept delivery.now.local) }
-        requires entry { IsEntryOf parcel.waiting.entry (queued_of delivery.now) }
-        ensures changes { Changes self.old self.new (J.tells keeper.old).octets (J.tells keeper.new).octets result (delivered self.old.kept delivery.now) }
+        requires entry { IsEntryOf batch.waiting.entry (queued_of delivery.now) }
+        ensures changes { Changes self.old self.new (J.observed keeper.old).octets (J.observed keeper.new).octets result (delivered self.old.kept delivery.now) }
         ensures refusal { IsRefusedAs result None }
-        ensures cause { HasKeeperCause (J.tells keeper.old) (J.tells keeper.new) result StoreFault.Keeper }
-        ensures once { OnOk result ((J.tells keeper.new).appends ≡ one_more (J.tells keeper.old).appends) }
-        ensures apart { IfErr result (LeavesKeeper (J.tells keeper.old) (J.tells keeper.new)) }
+        ensures cause { HasKeeperCause (J.observed keeper.old) (J.observed keeper.new) result StoreFault.Keeper }
+        ensures once { OnOk result ((J.observed keeper.new).appends ≡ one_more (J.observed keeper.old).appends) }
+        ensures untouched { IfErr result (LeavesKeeper (J.observed keeper.old) (J.observed keeper.new)) }
     {
-        let letter = Letter {
+        let delivery_write = DeliveryWrite {
             alloc: self.alloc,
             delivery,
-            parcel: &parcel,
+            batch: &batch,
         };
-        open_next(&mut self.open_entries, &self.entries, &parcel.waiting.entry)?;
+        open_next(&mut self.open_entries, &self.entries, &batch.waiting.entry)?;
         let written = write_delivery(
             keeper,
             &mut self.messages,
             &mut self.previous,
             &mut self.entries,
             &mut self.progress,
-            letter,
+            delivery_write,
         );
         match written {
             Ok(()) => {
-                put_parcel(
+                put_batch(
                     &mut self.contents,
                     &mut self.previous,
                     &mut self.messages,
                     &mut self.entries,
                     &mut self.recipients,
-                    parcel,
+                    batch,
                 );
                 Ok(())
             }
             Err(fault) => {
-                close_next(&mut self.open_entries, &self.entries, parcel);
+                close_next(&mut self.open_entries, &self.entries, batch);
                 Err(fault)
             }
         }
     }
 
     // What is put last for a delivery, unless it is refused.
-    fn parcel(&self, delivery: &Delivery) -> Result<Parcel, StoreFault>
+    fn batch(&self, delivery: &Delivery) -> Result<Batch, StoreFault>
         requires { IsDeliverable self.now delivery.now }
-        ensures text { IfOk result (λ parcel. delivery_text parcel.fronts.items parcel.waiting.front delivery.now
+        ensures text { IfOk result (λ batch. delivery_text batch.fronts.items batch.waiting.front delivery.now
             ≡ flat_map record_text (delivered self.now.kept delivery.now)) }
-        ensures copies { IfOk result (λ parcel. parcel.copies.items
+        ensures copies { IfOk result (λ batch. batch.copies.items
             ≡ map (copied delivery.now.date delivery.now.local_octets) (inboxes_of self.now.kept delivery.now.local)) }
-        ensures entry { IfOk result (λ parcel. IsEntryOf parcel.waiting.entry (queued_of delivery.now)) }
+        ensures entry { IfOk result (λ batch. IsEntryOf batch.waiting.entry (queued_of delivery.now)) }
         ensures refusal { IsRefusedAs result (delivery_refusal self.now delivery.now) }
         ensures no_keeper { result ≢ Err faults.Keeper }
     {
         if self.is_too_large(delivery) {
             return Err(StoreFault::TooLarge);
         }
-        Ok(self.made_parcel(delivery)?)
+        Ok(self.made_batch(delivery)?)
     }
 
     // What is put last for a delivery that isn't refused.
-    fn made_parcel(&self, delivery: &Delivery) -> Result<Parcel, OutOfMemory>
+    fn made_batch(&self, delivery: &Delivery) -> Result<Batch, OutOfMemory>
         requires deliverable { IsDeliverable self.now delivery.now }
         requires taken { delivery_refusal self.now delivery.now ≡ None }
-        ensures text { IfOk result (λ parcel. delivery_text parcel.fronts.items parcel.waiting.front delivery.now
+        ensures text { IfOk result (λ batch. delivery_text batch.fronts.items batch.waiting.front delivery.now
             ≡ flat_map record_text (delivered self.now.kept delivery.now)) }
-        ensures copies { IfOk result (λ parcel. parcel.copies.items
+        ensures copies { IfOk result (λ batch. batch.copies.items
             ≡ map (copied delivery.now.date delivery.now.local_octets) (inboxes_of self.now.kept delivery.now.local)) }
-        ensures entry { IfOk result (λ parcel. IsEntryOf parcel.waiting.entry (queued_of delivery.now)) }
+        ensures entry { IfOk result (λ batch. IsEntryOf batch.waiting.entry (queued_of delivery.now)) }
     {
         let alloc = self.alloc;
         let fronts = self.copy_fronts(delivery)?;
         let copies = self.copies(delivery)?;
         let waiting = waiting_of(alloc, delivery)?;
-        Ok(Parcel {
+        Ok(Batch {
             fronts,
             copies,
             waiting,
@@ -488,11 +493,11 @@ impl Store {
     ) -> Result<(), StoreFault>
         requires works { self.old.failed ≡ false }
         requires flags { flags < 32 }
-        ensures changes { Changes self.old self.new (J.tells keeper.old).octets (J.tells keeper.new).octets result (records.Flags id flags ∷ []) }
+        ensures changes { Changes self.old self.new (J.observed keeper.old).octets (J.observed keeper.new).octets result (records.Flags id flags ∷ []) }
         ensures refusal { IsRefusedAs result (flags_refusal self.old.kept id) }
-        ensures cause { HasKeeperCause (J.tells keeper.old) (J.tells keeper.new) result StoreFault.Keeper }
-        ensures once { OnOk result ((J.tells keeper.new).appends ≡ one_more (J.tells keeper.old).appends) }
-        ensures apart { IfErr result (LeavesKeeper (J.tells keeper.old) (J.tells keeper.new)) }
+        ensures cause { HasKeeperCause (J.observed keeper.old) (J.observed keeper.new) result StoreFault.Keeper }
+        ensures once { OnOk result ((J.observed keeper.new).appends ≡ one_more (J.observed keeper.old).appends) }
+        ensures untouched { IfErr result (LeavesKeeper (J.observed keeper.old) (J.observed keeper.new)) }
     {
         if !is_live(&self.messages, id) {
             return Err(StoreFault::NoSuch);
@@ -525,12 +530,12 @@ impl Store {
     pub fn expunge<J: Keeper>(&mut self, keeper: &mut J, ids: &[u32]) -> Result<(), StoreFault>
         requires works { self.old.failed ≡ false }
         requires distinct { IsDistinct (λ a b. a == b) ids.now }
-        ensures changes { Changes self.old self.new (J.tells keeper.old).octets (J.tells keeper.new).octets result (expunged ids.now) }
+        ensures changes { Changes self.old self.new (J.observed keeper.old).octets (J.observed keeper.new).octets result (expunged ids.now) }
         ensures refusal { IsRefusedAs result (expunge_refusal self.old.kept ids.now) }
-        ensures nothing { expunged ids.now ≡ [] → LeavesAll self.old self.new (J.tells keeper.old) (J.tells keeper.new) result }
-        ensures cause { HasKeeperCause (J.tells keeper.old) (J.tells keeper.new) result StoreFault.Keeper }
-        ensures once { expunged ids.now ≢ [] → OnOk result ((J.tells keeper.new).appends ≡ one_more (J.tells keeper.old).appends) }
-        ensures apart { IfErr result (LeavesKeeper (J.tells keeper.old) (J.tells keeper.new)) }
+        ensures nothing { expunged ids.now ≡ [] → LeavesAll self.old self.new (J.observed keeper.old) (J.observed keeper.new) result }
+        ensures cause { HasKeeperCause (J.observed keeper.old) (J.observed keeper.new) result StoreFault.Keeper }
+        ensures once { expunged ids.now ≢ [] → OnOk result ((J.observed keeper.new).appends ≡ one_more (J.observed keeper.old).appends) }
+        ensures untouched { IfErr result (LeavesKeeper (J.observed keeper.old) (J.observed keeper.new)) }
     {
         if !are_live(&self.messages, ids) {
             return Err(StoreFault::NoSuch);

@@ -94,13 +94,13 @@ impl Store {
         requires works { self.old.failed ≡ false }
         requires known { account < length self.old.kept.accounts }
         requires name { IsFolderName (kept_name name.now) }
-        ensures changes { Changes self.old self.new (J.tells keeper.old).octets (J.tells keeper.new).octets result
+        ensures changes { Changes self.old self.new (J.observed keeper.old).octets (J.observed keeper.new).octets result
             (records.Folder account (kept_name name.now) ∷ []) }
         ensures number { IfOk result (λ folder. folder ≡ length self.old.kept.folders) }
         ensures refusal { IsRefusedAs result (folder_refusal self.old.kept account name.now) }
-        ensures cause { HasKeeperCause (J.tells keeper.old) (J.tells keeper.new) result StoreFault.Keeper }
-        ensures once { OnOk result ((J.tells keeper.new).appends ≡ one_more (J.tells keeper.old).appends) }
-        ensures apart { IfErr result (LeavesKeeper (J.tells keeper.old) (J.tells keeper.new)) }
+        ensures cause { HasKeeperCause (J.observed keeper.old) (J.observed keeper.new) result StoreFault.Keeper }
+        ensures once { OnOk result ((J.observed keeper.new).appends ≡ one_more (J.observed keeper.old).appends) }
+        ensures untouched { IfErr result (LeavesKeeper (J.observed keeper.old) (J.observed keeper.new)) }
     {
         let made = self.new_folder(account, name)?;
         self.put_new_folder(keeper, made)
@@ -113,13 +113,13 @@ impl Store {
         made: NewFolder,
     ) -> Result<u32, StoreFault>
         requires { IsNewFolder self.old made.named.name made.named.number made.named.text made.own }
-        ensures changes { Changes self.old self.new (J.tells keeper.old).octets (J.tells keeper.new).octets result
+        ensures changes { Changes self.old self.new (J.observed keeper.old).octets (J.observed keeper.new).octets result
             (records.Folder made.own.account made.own.name ∷ []) }
         ensures number { IfOk result (λ folder. folder ≡ length self.old.kept.folders) }
         ensures refusal { IsRefusedAs result None }
-        ensures cause { HasKeeperCause (J.tells keeper.old) (J.tells keeper.new) result StoreFault.Keeper }
-        ensures once { OnOk result ((J.tells keeper.new).appends ≡ one_more (J.tells keeper.old).appends) }
-        ensures apart { IfErr result (LeavesKeeper (J.tells keeper.old) (J.tells keeper.new)) }
+        ensures cause { HasKeeperCause (J.observed keeper.old) (J.observed keeper.new) result StoreFault.Keeper }
+        ensures once { OnOk result ((J.observed keeper.new).appends ≡ one_more (J.observed keeper.old).appends) }
+        ensures untouched { IfErr result (LeavesKeeper (J.observed keeper.old) (J.observed keeper.new)) }
     {
         let folder = made.named.number;
         reserve_folder(&mut self.folders, &mut self.contents)?;

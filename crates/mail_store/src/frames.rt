@@ -29,12 +29,12 @@ pub fn fill<J: Keeper>(
     len: usize,
     buffer: &mut Vec<u8>,
 ) -> Result<(), OpenFault>
-    requires { IfSome (J.tells keeper.old).octets (λ octets. at + len ≤ length octets) }
+    requires { IfSome (J.observed keeper.old).octets (λ octets. at + len ≤ length octets) }
     ensures len { OnOk result (length buffer.new.items ≡ len) }
-    ensures octets { OnOk result (IfSome (J.tells keeper.old).octets (λ octets. buffer.new.items ≡ take len (drop at octets))) }
-    ensures same { (J.tells keeper.new).octets ≡ (J.tells keeper.old).octets }
-    ensures unappended { (J.tells keeper.new).appends ≡ (J.tells keeper.old).appends }
-    ensures cause { HasKeeperCause (J.tells keeper.old) (J.tells keeper.new) result OpenFault.Keeper }
+    ensures octets { OnOk result (IfSome (J.observed keeper.old).octets (λ octets. buffer.new.items ≡ take len (drop at octets))) }
+    ensures same { (J.observed keeper.new).octets ≡ (J.observed keeper.old).octets }
+    ensures unappended { (J.observed keeper.new).appends ≡ (J.observed keeper.old).appends }
+    ensures cause { HasKeeperCause (J.observed keeper.old) (J.observed keeper.new) result OpenFault.Keeper }
     ensures outside { IfErr result IsOutside }
 {
     set_len(alloc, buffer, len)?;
@@ -45,12 +45,12 @@ pub fn fill<J: Keeper>(
 /// What stands at a place before the end.
 pub fn frame_at<J: Keeper>(keeper: &mut J, at: u64, had: u64) -> Result<Frame, OpenFault>
     requires within { at ≤ had }
-    requires had { IfSome (J.tells keeper.old).octets (λ octets. had ≡ length octets) }
-    ensures frame { IfOk result (λ frame. IfSome (J.tells keeper.old).octets (λ octets. IsFrame frame (drop at octets))) }
+    requires had { IfSome (J.observed keeper.old).octets (λ octets. had ≡ length octets) }
+    ensures frame { IfOk result (λ frame. IfSome (J.observed keeper.old).octets (λ octets. IsFrame frame (drop at octets))) }
     ensures room { IfOk result (λ frame. FitsIn frame (had - at)) }
-    ensures same { (J.tells keeper.new).octets ≡ (J.tells keeper.old).octets }
-    ensures unappended { (J.tells keeper.new).appends ≡ (J.tells keeper.old).appends }
-    ensures cause { HasKeeperCause (J.tells keeper.old) (J.tells keeper.new) result OpenFault.Keeper }
+    ensures same { (J.observed keeper.new).octets ≡ (J.observed keeper.old).octets }
+    ensures unappended { (J.observed keeper.new).appends ≡ (J.observed keeper.old).appends }
+    ensures cause { HasKeeperCause (J.observed keeper.old) (J.observed keeper.new) result OpenFault.Keeper }
     ensures outside { IfErr result IsOutside }
 {
     let left = had - at;
@@ -69,12 +69,12 @@ pub fn read_beginning<J: Keeper>(
     had: u64,
     buffer: &mut Vec<u8>,
 ) -> Result<Beginning, OpenFault>
-    requires { IfSome (J.tells keeper.old).octets (λ octets. had ≡ length octets) }
-    ensures beginning { IfOk result (λ beginning. IfSome (J.tells keeper.old).octets (IsBeginningOf beginning)) }
+    requires { IfSome (J.observed keeper.old).octets (λ octets. had ≡ length octets) }
+    ensures beginning { IfOk result (λ beginning. IfSome (J.observed keeper.old).octets (IsBeginningOf beginning)) }
     ensures long { IfOk result (λ beginning. IsLong beginning had) }
-    ensures same { (J.tells keeper.new).octets ≡ (J.tells keeper.old).octets }
-    ensures unappended { (J.tells keeper.new).appends ≡ (J.tells keeper.old).appends }
-    ensures cause { HasKeeperCause (J.tells keeper.old) (J.tells keeper.new) result OpenFault.Keeper }
+    ensures same { (J.observed keeper.new).octets ≡ (J.observed keeper.old).octets }
+    ensures unappended { (J.observed keeper.new).appends ≡ (J.observed keeper.old).appends }
+    ensures cause { HasKeeperCause (J.observed keeper.old) (J.observed keeper.new) result OpenFault.Keeper }
     ensures outside { IfErr result IsOutside }
 {
     let len = had.min(8) as usize;

@@ -58,7 +58,7 @@ pub fn uids_stay()
 pub fn stores_catch_up()
     ensures changed { (old new : StoreState) (had has : Option (List ℕ)) (all more : List Record) → old.end ≡ length (journal all)
         → Changes {T = Unit {0}} old new had has (Ok tt) more → new.end ≡ length (journal (all ++ more)) }
-    ensures behind { (store : StoreState) (octets : List ℕ) (all : List Record) (more : List ℕ) → IsStoreOf store (Some octets) all → store.end ≡ length (journal all)
+    ensures following { (store : StoreState) (octets : List ℕ) (all : List Record) (more : List ℕ) → IsStoreOf store (Some octets) all → store.end ≡ length (journal all)
         → HasReadFirst store (octets ++ more) all }
     ensures failed { (old new : StoreState) (had has : Option (List ℕ)) (all more : List Record) → IsStoreOf old had all → old.end ≡ length (journal all)
         → Changes {T = Unit {0}} old new had has (Err StoreFault.Keeper) more → IfSome has (λ octets. HasReadFirst new octets all) }

@@ -78,16 +78,16 @@ fn add_at<J: Keeper>(
 ) -> Result<(), OpenFault>
     requires at_is { at ≡ store.old.end }
     requires short { len ≤ RECORD_MAX }
-    requires within { IfSome (J.tells keeper.old).octets (λ octets. at + (4 + len) ≤ length octets) }
+    requires within { IfSome (J.observed keeper.old).octets (λ octets. at + (4 + len) ≤ length octets) }
     requires place { at + (4 + len) < 2 ^ 64 }
     ensures added { OnOk result (Added store.old store.new buffer.new.items) }
     ensures len { OnOk result (length buffer.new.items ≡ len) }
-    ensures fields { OnOk result (IfSome (J.tells keeper.old).octets (λ octets. buffer.new.items ≡ fields_at octets at len)) }
+    ensures fields { OnOk result (IfSome (J.observed keeper.old).octets (λ octets. buffer.new.items ≡ fields_at octets at len)) }
     ensures stays { OnErr result (store.new ≡ store.old) }
-    ensures fault { IfErr result (IsFieldsFault (J.tells keeper.old).octets at len store.old) }
-    ensures same { (J.tells keeper.new).octets ≡ (J.tells keeper.old).octets }
-    ensures unappended { (J.tells keeper.new).appends ≡ (J.tells keeper.old).appends }
-    ensures cause { HasKeeperCause (J.tells keeper.old) (J.tells keeper.new) result OpenFault.Keeper }
+    ensures fault { IfErr result (IsFieldsFault (J.observed keeper.old).octets at len store.old) }
+    ensures same { (J.observed keeper.new).octets ≡ (J.observed keeper.old).octets }
+    ensures unappended { (J.observed keeper.new).appends ≡ (J.observed keeper.old).appends }
+    ensures cause { HasKeeperCause (J.observed keeper.old) (J.observed keeper.new) result OpenFault.Keeper }
 {
     fill(alloc, keeper, at + 4, len, buffer)?;
     match add_next(alloc, store, buffer) {
@@ -107,15 +107,15 @@ pub(crate) fn read_on<J: Keeper>(
     had: u64,
     buffer: &mut Vec<u8>,
 ) -> Result<(), OpenFault>
-    requires had { IfSome (J.tells keeper.old).octets (λ octets. had ≡ length octets) }
+    requires had { IfSome (J.observed keeper.old).octets (λ octets. had ≡ length octets) }
     requires within { store.old.end ≤ had }
-    ensures reads { IsReadTo (J.tells keeper.old).octets store.old store.new }
-    ensures rest { OnOk result (IfSome (J.tells keeper.old).octets (λ octets. IsCutShort (drop store.new.end octets))) }
+    ensures reads { IsReadTo (J.observed keeper.old).octets store.old store.new }
+    ensures rest { OnOk result (IfSome (J.observed keeper.old).octets (λ octets. IsCutShort (drop store.new.end octets))) }
     ensures within { store.new.end ≤ had }
-    ensures fault { IfErr result (IsRestFault (J.tells keeper.old).octets store.new) }
-    ensures same { (J.tells keeper.new).octets ≡ (J.tells keeper.old).octets }
-    ensures unappended { (J.tells keeper.new).appends ≡ (J.tells keeper.old).appends }
-    ensures cause { HasKeeperCause (J.tells keeper.old) (J.tells keeper.new) result OpenFault.Keeper }
+    ensures fault { IfErr result (IsRestFault (J.observed keeper.old).octets store.new) }
+    ensures same { (J.observed keeper.new).octets ≡ (J.observed keeper.old).octets }
+    ensures unappended { (J.observed keeper.new).appends ≡ (J.observed keeper.old).appends }
+    ensures cause { HasKeeperCause (J.observed keeper.old) (J.observed keeper.new) result OpenFault.Keeper }
 {
     loop {
         let at = store.end();
@@ -138,19 +138,19 @@ fn replay<J: Keeper>(
 ) -> Result<u64, OpenFault>
     requires start { store.old.kept ≡ nothing }
     requires start_end { store.old.end ≡ 8 }
-    requires had { IfSome (J.tells keeper.old).octets (λ octets. had ≡ length octets) }
+    requires had { IfSome (J.observed keeper.old).octets (λ octets. had ≡ length octets) }
     requires long { 8 ≤ had }
-    requires first { IfSome (J.tells keeper.old).octets (IsBeginningOf beginnings.Journal) }
-    ensures ends { IfOk result (λ end. IfSome (J.tells keeper.old).octets (λ octets. EndsJournalAt octets end store.new.kept)) }
-    ensures place { IfOk result (λ end. IfSome (J.tells keeper.old).octets (λ octets. store.new.end ≡ length (repaired end octets))) }
+    requires first { IfSome (J.observed keeper.old).octets (IsBeginningOf beginnings.Journal) }
+    ensures ends { IfOk result (λ end. IfSome (J.observed keeper.old).octets (λ octets. EndsJournalAt octets end store.new.kept)) }
+    ensures place { IfOk result (λ end. IfSome (J.observed keeper.old).octets (λ octets. store.new.end ≡ length (repaired end octets))) }
     ensures fold { OnOk result (IsFold store.new.kept) }
     ensures within { IfOk result (λ end. end ≤ had) }
     ensures message_max { OnOk result (store.new.message_max ≡ store.old.message_max) }
     ensures failed { OnOk result (store.new.failed ≡ store.old.failed) }
-    ensures fault { IfErr result (λ fault. IfSome (J.tells keeper.old).octets (λ octets. IsReadingFault octets fault)) }
-    ensures same { (J.tells keeper.new).octets ≡ (J.tells keeper.old).octets }
-    ensures unappended { (J.tells keeper.new).appends ≡ (J.tells keeper.old).appends }
-    ensures cause { HasKeeperCause (J.tells keeper.old) (J.tells keeper.new) result OpenFault.Keeper }
+    ensures fault { IfErr result (λ fault. IfSome (J.observed keeper.old).octets (λ octets. IsReadingFault octets fault)) }
+    ensures same { (J.observed keeper.new).octets ≡ (J.observed keeper.old).octets }
+    ensures unappended { (J.observed keeper.new).appends ≡ (J.observed keeper.old).appends }
+    ensures cause { HasKeeperCause (J.observed keeper.old) (J.observed keeper.new) result OpenFault.Keeper }
 {
     read_on(alloc, keeper, store, had, buffer)?;
     Ok(store.end())
@@ -165,17 +165,17 @@ fn read_all<J: Keeper>(
 ) -> Result<u64, OpenFault>
     requires start { store.old.kept ≡ nothing }
     requires start_end { store.old.end ≡ 8 }
-    requires had { IfSome (J.tells keeper.old).octets (λ octets. had ≡ length octets) }
-    ensures ends { IfOk result (λ end. IfSome (J.tells keeper.old).octets (λ octets. EndsJournalAt octets end store.new.kept)) }
-    ensures place { IfOk result (λ end. IfSome (J.tells keeper.old).octets (λ octets. store.new.end ≡ length (repaired end octets))) }
+    requires had { IfSome (J.observed keeper.old).octets (λ octets. had ≡ length octets) }
+    ensures ends { IfOk result (λ end. IfSome (J.observed keeper.old).octets (λ octets. EndsJournalAt octets end store.new.kept)) }
+    ensures place { IfOk result (λ end. IfSome (J.observed keeper.old).octets (λ octets. store.new.end ≡ length (repaired end octets))) }
     ensures fold { OnOk result (IsFold store.new.kept) }
     ensures within { IfOk result (λ end. end ≤ had) }
     ensures message_max { OnOk result (store.new.message_max ≡ store.old.message_max) }
     ensures failed { OnOk result (store.new.failed ≡ store.old.failed) }
-    ensures fault { IfErr result (λ fault. IfSome (J.tells keeper.old).octets (λ octets. IsReadingFault octets fault)) }
-    ensures same { (J.tells keeper.new).octets ≡ (J.tells keeper.old).octets }
-    ensures unappended { (J.tells keeper.new).appends ≡ (J.tells keeper.old).appends }
-    ensures cause { HasKeeperCause (J.tells keeper.old) (J.tells keeper.new) result OpenFault.Keeper }
+    ensures fault { IfErr result (λ fault. IfSome (J.observed keeper.old).octets (λ octets. IsReadingFault octets fault)) }
+    ensures same { (J.observed keeper.new).octets ≡ (J.observed keeper.old).octets }
+    ensures unappended { (J.observed keeper.new).appends ≡ (J.observed keeper.old).appends }
+    ensures cause { HasKeeperCause (J.observed keeper.old) (J.observed keeper.new) result OpenFault.Keeper }
 {
     let mut buffer = Vec::new(alloc);
     match read_beginning(alloc, keeper, had, &mut buffer)? {
@@ -187,12 +187,12 @@ fn read_all<J: Keeper>(
 
 // Cuts what is behind the records, or begins the journal.
 fn repair<J: Keeper>(keeper: &mut J, had: u64, end: u64) -> Result<(), OpenFault>
-    requires had { IfSome (J.tells keeper.old).octets (λ octets. had ≡ length octets) }
+    requires had { IfSome (J.observed keeper.old).octets (λ octets. had ≡ length octets) }
     requires within { end ≤ had }
-    ensures repaired { OnOk result ((J.tells keeper.new).octets ≡ option_map (repaired end) (J.tells keeper.old).octets) }
-    ensures half { OnErr result (HalfRepairs end (J.tells keeper.old).octets (J.tells keeper.new).octets) }
-    ensures appended { BeginsOnce (end ≡ 0) (J.tells keeper.old).appends (J.tells keeper.new).appends }
-    ensures cause { HasKeeperCause (J.tells keeper.old) (J.tells keeper.new) result OpenFault.Keeper }
+    ensures repaired { OnOk result ((J.observed keeper.new).octets ≡ option_map (repaired end) (J.observed keeper.old).octets) }
+    ensures half { OnErr result (HalfRepairs end (J.observed keeper.old).octets (J.observed keeper.new).octets) }
+    ensures appended { BeginsOnce (end ≡ 0) (J.observed keeper.old).appends (J.observed keeper.new).appends }
+    ensures cause { HasKeeperCause (J.observed keeper.old) (J.observed keeper.new) result OpenFault.Keeper }
     ensures outside { IfErr result IsOutside }
 {
     if end < had {
@@ -213,20 +213,20 @@ impl Store {
     ) -> Result<Store, OpenFault>
         requires { message_max ≤ MESSAGE_MAX }
         // It keeps the fold of the whole records that were there, and the keeper holds them and nothing more.
-        ensures opens { IfOk result (λ store. IfSome (J.tells keeper.old).octets (λ old. OpensTo old (J.tells keeper.new).octets store.kept)) }
+        ensures opens { IfOk result (λ store. IfSome (J.observed keeper.old).octets (λ old. OpensTo old (J.observed keeper.new).octets store.kept)) }
         ensures fold { IfOk result (λ store. IsFold store.kept) }
         ensures message_max { IfOk result (λ store. store.message_max ≡ message_max) }
         ensures failed { IfOk result (λ store. store.failed ≡ false) }
-        ensures end { IfOk result (λ store. IfSome (J.tells keeper.new).octets (λ octets. store.end ≡ length octets)) }
+        ensures end { IfOk result (λ store. IfSome (J.observed keeper.new).octets (λ octets. store.end ≡ length octets)) }
 
         // A bad journal is bad there, and a fault of the keeper has its cause.
-        ensures fault { IfErr result (λ fault. IfSome (J.tells keeper.old).octets (λ old. IsJournalFault old (J.tells keeper.new).octets fault)) }
-        ensures cause { HasKeeperCause (J.tells keeper.old) (J.tells keeper.new) result OpenFault.Keeper }
+        ensures fault { IfErr result (λ fault. IfSome (J.observed keeper.old).octets (λ old. IsJournalFault old (J.observed keeper.new).octets fault)) }
+        ensures cause { HasKeeperCause (J.observed keeper.old) (J.observed keeper.new) result OpenFault.Keeper }
 
         // Whatever it answers, the keeper's records are the same.
-        ensures leaves { LeavesRecords (J.tells keeper.old).octets (J.tells keeper.new).octets }
+        ensures leaves { LeavesRecords (J.observed keeper.old).octets (J.observed keeper.new).octets }
         // It appends nothing, unless no journal is begun there.
-        ensures begins { BeginsOnce (IfSome (J.tells keeper.old).octets IsBeginning) (J.tells keeper.old).appends (J.tells keeper.new).appends }
+        ensures begins { BeginsOnce (IfSome (J.observed keeper.old).octets IsBeginning) (J.observed keeper.old).appends (J.observed keeper.new).appends }
     {
         let had = keeper.len()?;
         let mut store = Store::new(alloc, message_max);

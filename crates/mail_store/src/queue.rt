@@ -22,7 +22,7 @@ use crate::storing::Store;
 use crate::writing::write;
 use address_grammar::Address;
 use journal_records::{Record, read_text, record_text};
-use kept_mail::{Entry, Parcel, Recipient, is_unsettled, put_entry, settle_at};
+use kept_mail::{Batch, Entry, Recipient, is_unsettled, put_entry, settle_at};
 use mail_wire::{Items, Keeper, Memory, Octets};
 use std::alloc::Global;
 use std::collections::BTreeMap;
@@ -82,12 +82,12 @@ pub fn open_next(
 }
 
 /// Takes the count of a parcel's entry back, which wasn't written.
-pub fn close_next(counts: &mut BTreeMap<u32, usize>, entries: &[Entry], parcel: Parcel)
-    requires counts { counts.old.entries ≡ open_counts entries.now ++ opened (length entries.now) parcel.waiting.entry }
+pub fn close_next(counts: &mut BTreeMap<u32, usize>, entries: &[Entry], batch: Batch)
+    requires counts { counts.old.entries ≡ open_counts entries.now ++ opened (length entries.now) batch.waiting.entry }
     requires few { length entries.now ≤ THINGS_MAX }
     ensures { counts.new.entries ≡ open_counts entries.now }
 {
-    if awaited(&parcel.waiting.entry) > 0 {
+    if awaited(&batch.waiting.entry) > 0 {
         let number = entries.len() as u32;
         let _was = counts.remove(&number);
     }
@@ -264,11 +264,11 @@ impl Store {
         index: u32,
     ) -> Result<(), StoreFault>
         requires works { self.old.failed ≡ false }
-        ensures changes { Changes self.old self.new (J.tells keeper.old).octets (J.tells keeper.new).octets result (records.Settle entry index ∷ []) }
+        ensures changes { Changes self.old self.new (J.observed keeper.old).octets (J.observed keeper.new).octets result (records.Settle entry index ∷ []) }
         ensures refusal { IsRefusedAs result (settle_refusal self.old.kept entry index) }
-        ensures cause { HasKeeperCause (J.tells keeper.old) (J.tells keeper.new) result StoreFault.Keeper }
-        ensures once { OnOk result ((J.tells keeper.new).appends ≡ one_more (J.tells keeper.old).appends) }
-        ensures apart { IfErr result (LeavesKeeper (J.tells keeper.old) (J.tells keeper.new)) }
+        ensures cause { HasKeeperCause (J.observed keeper.old) (J.observed keeper.new) result StoreFault.Keeper }
+        ensures once { OnOk result ((J.observed keeper.new).appends ≡ one_more (J.observed keeper.old).appends) }
+        ensures untouched { IfErr result (LeavesKeeper (J.observed keeper.old) (J.observed keeper.new)) }
     {
         if !is_unsettled(&self.entries, entry, index) {
             return Err(StoreFault::NoSuch);

@@ -24,7 +24,7 @@ pub struct Progress {
 }
 
 // Where a journal ends behind these parts. One of 2^64 octets wants more memory than there is.
-fn end_behind(end: u64, parts: &[&[u8]]) -> Result<u64, OutOfMemory>
+fn end_following(end: u64, parts: &[&[u8]]) -> Result<u64, OutOfMemory>
     ensures { IfOk result (λ last. last ≡ end + length (flat_map (λ part. part.now) parts.now)) }
 {
     let mut last = end;
@@ -43,12 +43,12 @@ pub fn write_parts<J: Keeper>(
     parts: &[&[u8]],
     progress: &mut Progress,
 ) -> Result<(), StoreFault>
-    ensures writes { Writes progress.old progress.new (J.tells keeper.old).octets (J.tells keeper.new).octets result (flat_map (λ part. part.now) parts.now) }
-    ensures cause { HasKeeperCause (J.tells keeper.old) (J.tells keeper.new) result StoreFault.Keeper }
-    ensures once { OnOk result ((J.tells keeper.new).appends ≡ one_more (J.tells keeper.old).appends) }
-    ensures apart { IfErr result (LeavesKeeper (J.tells keeper.old) (J.tells keeper.new)) }
+    ensures writes { Writes progress.old progress.new (J.observed keeper.old).octets (J.observed keeper.new).octets result (flat_map (λ part. part.now) parts.now) }
+    ensures cause { HasKeeperCause (J.observed keeper.old) (J.observed keeper.new) result StoreFault.Keeper }
+    ensures once { OnOk result ((J.observed keeper.new).appends ≡ one_more (J.observed keeper.old).appends) }
+    ensures untouched { IfErr result (LeavesKeeper (J.observed keeper.old) (J.observed keeper.new)) }
 {
-    let end = end_behind(progress.end, parts)?;
+    let end = end_following(progress.end, parts)?;
     match keeper.append_all(parts) {
         Ok(()) => {
             progress.end = end;
@@ -68,10 +68,10 @@ pub fn write<J: Keeper>(
     text: &[u8],
     progress: &mut Progress,
 ) -> Result<(), StoreFault>
-    ensures writes { Writes progress.old progress.new (J.tells keeper.old).octets (J.tells keeper.new).octets result text.now }
-    ensures cause { HasKeeperCause (J.tells keeper.old) (J.tells keeper.new) result StoreFault.Keeper }
-    ensures once { OnOk result ((J.tells keeper.new).appends ≡ one_more (J.tells keeper.old).appends) }
-    ensures apart { IfErr result (LeavesKeeper (J.tells keeper.old) (J.tells keeper.new)) }
+    ensures writes { Writes progress.old progress.new (J.observed keeper.old).octets (J.observed keeper.new).octets result text.now }
+    ensures cause { HasKeeperCause (J.observed keeper.old) (J.observed keeper.new) result StoreFault.Keeper }
+    ensures once { OnOk result ((J.observed keeper.new).appends ≡ one_more (J.observed keeper.old).appends) }
+    ensures untouched { IfErr result (LeavesKeeper (J.observed keeper.old) (J.observed keeper.new)) }
 {
     write_parts(keeper, &[text], progress)
 }
@@ -93,12 +93,12 @@ pub fn write_named<J: Keeper>(
     progress: &mut Progress,
 ) -> Result<(), StoreFault>
     requires { number_named numbers.old named.now.name ≡ None }
-    ensures writes { Writes progress.old progress.new (J.tells keeper.old).octets (J.tells keeper.new).octets result named.now.text }
+    ensures writes { Writes progress.old progress.new (J.observed keeper.old).octets (J.observed keeper.new).octets result named.now.text }
     ensures ok { OnOk result (PutsName (number_named numbers.old) (number_named numbers.new) named.now.name named.now.number) }
     ensures err { OnErr result ((q : List ℕ) → number_named numbers.new q ≡ number_named numbers.old q) }
-    ensures cause { HasKeeperCause (J.tells keeper.old) (J.tells keeper.new) result StoreFault.Keeper }
-    ensures once { OnOk result ((J.tells keeper.new).appends ≡ one_more (J.tells keeper.old).appends) }
-    ensures apart { IfErr result (LeavesKeeper (J.tells keeper.old) (J.tells keeper.new)) }
+    ensures cause { HasKeeperCause (J.observed keeper.old) (J.observed keeper.new) result StoreFault.Keeper }
+    ensures once { OnOk result ((J.observed keeper.new).appends ≡ one_more (J.observed keeper.old).appends) }
+    ensures untouched { IfErr result (LeavesKeeper (J.observed keeper.old) (J.observed keeper.new)) }
 {
     put_first(alloc, numbers, named.name.as_slice(), named.number)?;
     match write(keeper, named.text.as_slice(), progress) {
@@ -119,12 +119,12 @@ pub fn write_mailbox<J: Keeper>(
     progress: &mut Progress,
 ) -> Result<(), StoreFault>
     requires { number_hashed numbers.old named.now.name ≡ None }
-    ensures writes { Writes progress.old progress.new (J.tells keeper.old).octets (J.tells keeper.new).octets result named.now.text }
+    ensures writes { Writes progress.old progress.new (J.observed keeper.old).octets (J.observed keeper.new).octets result named.now.text }
     ensures ok { OnOk result (PutsName (number_hashed numbers.old) (number_hashed numbers.new) named.now.name named.now.number) }
     ensures err { OnErr result ((q : List ℕ) → number_hashed numbers.new q ≡ number_hashed numbers.old q) }
-    ensures cause { HasKeeperCause (J.tells keeper.old) (J.tells keeper.new) result StoreFault.Keeper }
-    ensures once { OnOk result ((J.tells keeper.new).appends ≡ one_more (J.tells keeper.old).appends) }
-    ensures apart { IfErr result (LeavesKeeper (J.tells keeper.old) (J.tells keeper.new)) }
+    ensures cause { HasKeeperCause (J.observed keeper.old) (J.observed keeper.new) result StoreFault.Keeper }
+    ensures once { OnOk result ((J.observed keeper.new).appends ≡ one_more (J.observed keeper.old).appends) }
+    ensures untouched { IfErr result (LeavesKeeper (J.observed keeper.old) (J.observed keeper.new)) }
 {
     put_mailbox(alloc, numbers, named.name.as_slice(), named.number)?;
     match write(keeper, named.text.as_slice(), progress) {

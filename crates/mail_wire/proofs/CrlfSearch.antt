@@ -16,11 +16,11 @@ abbrev FindsLf : List ℕ → ℕ → ℕ → Type 0
 FindsLf octets at passed = IsFirstByte (is_byte 10) (drop at octets) (Some passed)
 
 -- CR stands before this place
-abbrev pub IsBehindCr : List ℕ → ℕ → Type 0
-IsBehindCr octets at = (0 < at) × (get_or octets (at - 1) 0 ≡ 13)
+abbrev pub IsAfterCr : List ℕ → ℕ → Type 0
+IsAfterCr octets at = (0 < at) × (get_or octets (at - 1) 0 ≡ 13)
 
-lf_behind : (octets : List ℕ) (place : ℕ) → IsCrlfAt octets place → get_or octets (place + 1) 0 ≡ 10
-lf_behind octets place stands = let next : place + 1 ≡ suc place = omega arith in rw next stands.lf
+lf_after : (octets : List ℕ) (place : ℕ) → IsCrlfAt octets place → get_or octets (place + 1) 0 ≡ 10
+lf_after octets place stands = let next : place + 1 ≡ suc place = omega arith in rw next stands.lf
 
 -- the octet that was found
 lf_found : (octets : List ℕ) (at passed : ℕ) → HasNoneBelow octets at → FindsLf octets at passed → (at + passed < length octets) × (get_or octets (at + passed) 0 ≡ 10)
@@ -36,14 +36,14 @@ not_before octets at passed place so_far first lt stands = elim (cases_lt place 
   | inl early ↦ so_far.none place early stands
   | inr late ↦
       let same : at + (place + 1 - at) ≡ place + 1 = omega arith in
-      first.0.before (place + 1 - at) (omega arith) (omega arith) (rw (get_or-drop, same, lf_behind octets place stands) refl)
+      first.0.before (place + 1 - at) (omega arith) (omega arith) (rw (get_or-drop, same, lf_after octets place stands) refl)
 ]
 
 pub none_yet : (octets : List ℕ) → HasNoneBelow octets 0
 none_yet octets = record { fits = omega arith; none = λ place lt stands. absurd (omega arith) }
 
 -- an LF that CR precedes
-pub crlf_found : (octets : List ℕ) (at passed : ℕ) → HasNoneBelow octets at → FindsLf octets at passed → IsBehindCr octets (at + passed)
+pub crlf_found : (octets : List ℕ) (at passed : ℕ) → HasNoneBelow octets at → FindsLf octets at passed → IsAfterCr octets (at + passed)
     → FindsNeedle octets crlf 0 (Some (at + passed - 1))
 crlf_found octets at passed so_far first cr =
     let found = lf_found octets at passed so_far first in
@@ -59,7 +59,7 @@ crlf_found octets at passed so_far first cr =
     )
 
 -- an LF that CR doesn't precede is passed
-pub lf_passed : (octets : List ℕ) (at passed : ℕ) → HasNoneBelow octets at → FindsLf octets at passed → (IsBehindCr octets (at + passed) → ⊥)
+pub lf_passed : (octets : List ℕ) (at passed : ℕ) → HasNoneBelow octets at → FindsLf octets at passed → (IsAfterCr octets (at + passed) → ⊥)
     → HasNoneBelow octets (at + passed + 1)
 lf_passed octets at passed so_far first apart = record { fits = (let within = found.0 in omega arith); none = none }
   where
@@ -87,7 +87,7 @@ none_left octets at so_far none place from lt occurs = elim (cases_lt place at) 
       let fits = stands.fits in
       let len = length-drop at octets in
       let same : at + (place + 1 - at) ≡ place + 1 = omega arith in
-      none (place + 1 - at) (omega arith) (omega arith) (rw (get_or-drop, same, lf_behind octets place stands) refl)
+      none (place + 1 - at) (omega arith) (omega arith) (rw (get_or-drop, same, lf_after octets place stands) refl)
 ]
   where
     stands : IsCrlfAt octets place

@@ -51,9 +51,9 @@ dot_by x line others lines whole false is = rw is whole
 other_first : (x y : ℕ) (rest line : List ℕ) (lines : List (List ℕ)) → is_crlf x y ≡ false → lines_of (y ∷ rest) ≡ (y ∷ line) ∷ lines
     → lines_of (x ∷ y ∷ rest) ≡ (x ∷ y ∷ line) ∷ lines → HaveLines (y ∷ rest) → HaveLines (x ∷ y ∷ rest)
 other_first x y rest line lines apart here longer next =
-    let behind : lines_of (y ∷ (line ++ flat_map stuffed_line lines)) ≡ (y ∷ line) ∷ map stuffed_line lines = rw here at next.within in
+    let following : lines_of (y ∷ (line ++ flat_map stuffed_line lines)) ≡ (y ∷ line) ∷ map stuffed_line lines = rw here at next.within in
     let whole : lines_of (x ∷ y ∷ (line ++ flat_map stuffed_line lines)) ≡ (x ∷ y ∷ line) ∷ map stuffed_line lines =
-    lines_of-other x y (line ++ flat_map stuffed_line lines) apart ∙ ap (put_before x) behind in
+    lines_of-other x y (line ++ flat_map stuffed_line lines) apart ∙ ap (put_before x) following in
     record {
       start = rw longer (dot_by x (y ∷ line) (flat_map stuffed_line lines) (map stuffed_line lines) whole (x == 46) refl);
       within = rw longer whole;

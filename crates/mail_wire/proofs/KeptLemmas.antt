@@ -3,8 +3,8 @@ use Rattle.std.proofs.Common.{◌≡◌, ℕ, ◌+◌, ◌-◌, ◌≤◌, List,
 use Rattle.std.proofs.Math.Seq.{take-append-add}
 
 -- octets with more behind them, cut behind the old ones: a prefix of what came is left
-pub cut_behind : (old more all now : List ℕ) (n : ℕ) → all ≡ old ++ more → length old ≤ n → now ≡ take n all
+pub cut_after : (old more all now : List ℕ) (n : ℕ) → all ≡ old ++ more → length old ≤ n → now ≡ take n all
     → (x : ℕ) × (Some now ≡ Some (old ++ take x more))
-cut_behind old more all now n at behind cut =
-    let split : n ≡ length old + (n - length old) = omega (arith, behind) in
+cut_after old more all now n at following cut =
+    let split : n ≡ length old + (n - length old) = omega (arith, following) in
     (n - length old, ap Some (cut ∙ ap (take n) at ∙ ap (λ m. take m (old ++ more)) split ∙ take-append-add old more (n - length old)))

@@ -71,8 +71,8 @@ found_stands octets at passed so_far first =
     (omega arith, rw get_or-drop at first.1)
 
 -- the octet before the one that was found is no CR
-not_behind_cr : (octets : List ℕ) (at passed : ℕ) → HasScanned octets at → Finds octets at passed → (before : ℕ) → at + passed ≡ before + 1 → StandsAt octets before 13 → ⊥
-not_behind_cr octets at passed so_far first before next cr = elim (cases_lt before at) [
+not_after_cr : (octets : List ℕ) (at passed : ℕ) → HasScanned octets at → Finds octets at passed → (before : ℕ) → at + passed ≡ before + 1 → StandsAt octets before 13 → ⊥
+not_after_cr octets at passed so_far first before next cr = elim (cases_lt before at) [
   | inl early ↦
       let zero_passed : at ≡ before + 1 = omega arith in
       let clash = one_octet octets before 13 10 cr (so_far.after before zero_passed) in
@@ -94,7 +94,7 @@ first_found octets at passed so_far first apart = (faulty, passed_sound octets a
         elim (stop_cases (get_or octets (at + passed) 0) stands.1) [
           | inl nul ↦ inl (here ∙ ap Some nul)
           | inr (inl cr) ↦ inr (inl (here ∙ ap Some cr, λ lf. apart (at_crlf octets (at + passed) (here ∙ ap Some cr) lf)))
-          | inr (inr lf) ↦ inr (inr (here ∙ ap Some lf, λ before next cr. not_behind_cr octets at passed so_far first before next cr))
+          | inr (inr lf) ↦ inr (inr (here ∙ ap Some lf, λ before next cr. not_after_cr octets at passed so_far first before next cr))
         ]
 
 -- a CRLF is passed

@@ -16,15 +16,15 @@ pair_at octets at x pairs stands =
     let within = slice_get_within octets (at + 1) x stands in
     pairs at (get_or octets at 0) x (omega arith) (before_it octets at x stands) stands
 
-behind : (octets : List ℕ) (place before x : ℕ) → place ≡ before + 1 → StandsAt octets place x → StandsAt octets (before + 1) x
-behind octets place before x next stands = rw next at stands
+following : (octets : List ℕ) (place before x : ℕ) → place ≡ before + 1 → StandsAt octets place x → StandsAt octets (before + 1) x
+following octets place before x next stands = rw next at stands
 
 no_nul : (octets : List ℕ) (place : ℕ) → HasSoundEnds octets → ArePairsBelow octets (length octets) → IsNul octets place → ⊥
 no_nul octets place ends pairs nul = elim (cases_eq place 0) [
   | inl first ↦ ends.nul (rw first at nul)
   | inr other ↦
       let next : place ≡ place - 1 + 1 = omega arith in
-      (pair_at octets (place - 1) 0 pairs (behind octets place (place - 1) 0 next nul)).0 refl
+      (pair_at octets (place - 1) 0 pairs (following octets place (place - 1) 0 next nul)).0 refl
 ]
 
 no_bare_cr : (octets : List ℕ) (place : ℕ) → HasSoundEnds octets → ArePairsBelow octets (length octets) → IsBareCr octets place → ⊥
@@ -42,7 +42,7 @@ no_bare_lf octets place ends pairs lf = elim (cases_eq place 0) [
   | inl first ↦ ends.lf (rw first at lf.0)
   | inr other ↦
       let next : place ≡ place - 1 + 1 = omega arith in
-      let stands = behind octets place (place - 1) 10 next lf.0 in
+      let stands = following octets place (place - 1) 10 next lf.0 in
       let pair = pair_at octets (place - 1) 10 pairs stands in
       lf.1 (place - 1) next (before_it octets (place - 1) 10 stands ∙ ap Some (pair.1.1 refl))
 ]

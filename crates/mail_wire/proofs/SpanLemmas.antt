@@ -8,7 +8,7 @@ use Rattle.std.proofs.lemmas.List.Recursion.{and_from_places}
 use Rattle.std.proofs.lemmas.List.Sums.{fails_before_first}
 use Rattle.std.specs.List.{list_all, position_or_len}
 use Rattle.mail_wire.specs.Spans.{Stops, IsSpan}
-use Rattle.mail_wire.specs.Octets.{is_white, is_black}
+use Rattle.mail_wire.specs.Octets.{is_white, is_nonwhite}
 
 pub all_from_places : (p : ℕ → Bool) (xs : List ℕ) → ((k : ℕ) → k < length xs → p (get_or xs k 0) ≡ true) → list_all p xs ≡ true
 all_from_places p xs h = and_from_places (list_all p) p refl (λ _ _. refl) xs 0 h
@@ -69,5 +69,5 @@ white_opposite x = not_not (is_white x)
     not_not true = refl
     not_not false = refl
 
-pub black_opposite : Opposite is_black is_white
-black_opposite x = refl
+pub nonwhite_opposite : Opposite is_nonwhite is_white
+nonwhite_opposite x = refl

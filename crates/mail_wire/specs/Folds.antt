@@ -1,6 +1,7 @@
 -- Folded texts (RFC 5322, 2.2.3): a fold is a CRLF that white follows.
 use Rattle.std.specs.Prelude.{◌≡◌, true, ℕ, List, [], ◌∷◌, Bool, false, ◌&&◌, if◌then◌else◌}
 use Rattle.std.specs.List.{AllByRecursion, flat_map}
+use Rattle.mail_wire.specs.Characters.{line_feed, carriage_return}
 use Rattle.mail_wire.specs.Octets.{is_white, is_line_end}
 use Rattle.mail_wire.specs.Lines.{is_crlf}
 
@@ -30,7 +31,7 @@ IsFoldedItem (Fold white) = is_white white ≡ true
 -- An octet by itself, or CRLF and white for a fold (RFC 5322, 2.2.3).
 abbrev pub item_octets : FoldedItem → List ℕ
 item_octets (Octet x) = x ∷ []
-item_octets (Fold white) = 13 ∷ 10 ∷ white ∷ []
+item_octets (Fold white) = carriage_return ∷ line_feed ∷ white ∷ []
 
 -- CR and LF stand in folds alone
 pub record IsFolded (text : List ℕ) : Type 0 where

@@ -2,7 +2,7 @@
 use Rattle.std.specs.Prelude.{◌≡◌, ◌≤◌, ℕ, ◌+◌, List, ◌++◌, length, take, drop, Option, IfSome, option_map, Result, Ok, Err, IfOk, OnOk, IsTrue, IsErrOf}
 use Rattle.mail_wire.specs.declared.outside.Failed.{Failed}
 use Rattle.mail_wire.specs.declared.outside.Failed.TheVariants.{Outside, Memory}
-use Rattle.mail_wire.specs.KeeperTelling.{KeeperTelling}
+use Rattle.mail_wire.specs.KeeperState.{KeeperState}
 use Rattle.mail_wire.specs.Causes.{Rose}
 
 -- `len` told how many octets there are
@@ -39,7 +39,7 @@ CutsTo old new (Ok done) n = new ≡ option_map (take n) old
 CutsTo old new (Err failed) n = new ≡ old
 
 -- The count of faults never falls; this fault comes only where it rose, and never over a keeper that never fails.
-pub record HasKeeperCause {T E : Type 0} (before now : KeeperTelling) (result : Result T E) (fault : E) : Type 0 where
+pub record HasKeeperCause {T E : Type 0} (before now : KeeperState) (result : Result T E) (fault : E) : Type 0 where
   pub later : before.faults ≤ now.faults
   pub rose : IsErrOf result fault → Rose before.faults now.faults
   pub sure : IsTrue before.never_fails → IsTrue now.never_fails × ¬ IsErrOf result fault

@@ -1,6 +1,7 @@
 -- Octets, lines and moments, and the objects outside the program: a wire, a keeper, a dial and a clock. What each tells of itself may be absent: a file or a
 -- connection tells nothing.
 pub mod Numbers
+pub mod Characters
 pub mod Octets
 pub mod Tables
 pub mod Spans
@@ -10,10 +11,10 @@ pub mod Folds
 pub mod Message
 pub mod Causes
 pub mod Transcript
-pub mod Telling
-pub mod DialTelling
+pub mod WireState
+pub mod DialState
 pub mod Moves
-pub mod KeeperTelling
+pub mod KeeperState
 pub mod Keeping
 pub mod Dates
 pub mod Framing

@@ -1,15 +1,16 @@
 -- The lines of octets (RFC 5322, 2.1). A line ends with CRLF; the last one may lack it.
 use Rattle.std.specs.Prelude.{ℕ, ◌+◌, List, [], ◌∷◌, Bool, ◌&&◌, ◌==◌, if◌then◌else◌, length, Option, Some, None}
 use Rattle.std.specs.Option.{option_map}
+use Rattle.mail_wire.specs.Characters.{line_feed, carriage_return}
 use Rattle.mail_wire.specs.declared.values.Span.{Span}
 
 -- CR and LF
 abbrev pub crlf : List ℕ
-crlf = 13 ∷ 10 ∷ []
+crlf = carriage_return ∷ line_feed ∷ []
 
 -- The two octets are CR and LF (RFC 5322, 2.1).
 abbrev pub is_crlf : ℕ → ℕ → Bool
-is_crlf x y = x == 13 && y == 10
+is_crlf x y = x == carriage_return && y == line_feed
 
 -- an octet before the first of these lines
 abbrev pub put_before : ℕ → List (List ℕ) → List (List ℕ)

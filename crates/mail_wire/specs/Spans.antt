@@ -8,10 +8,10 @@ Stops p [] = Unit {0}
 Stops p (x ∷ xs) = p x ≡ false
 
 -- the list doesn't end with an element that passes
-abbrev pub StopsBehind : (ℕ → Bool) → List ℕ → Type 0
-StopsBehind p [] = Unit {0}
-StopsBehind p (x ∷ []) = p x ≡ false
-StopsBehind p (x ∷ y ∷ xs) = StopsBehind p (y ∷ xs)
+abbrev pub StopsAfter : (ℕ → Bool) → List ℕ → Type 0
+StopsAfter p [] = Unit {0}
+StopsAfter p (x ∷ []) = p x ≡ false
+StopsAfter p (x ∷ y ∷ xs) = StopsAfter p (y ∷ xs)
 
 -- front is the longest front of the list that passes, and rest follows it
 pub record IsSpan (p : ℕ → Bool) (list front rest : List ℕ) : Type 0 where
@@ -26,5 +26,5 @@ pub record IsTrimmed (p : ℕ → Bool) (list trimmed : List ℕ) : Type 0 where
   pub lead_passes : list_all p lead ≡ true
   pub trail_passes : list_all p trail ≡ true
   pub begins : Stops p trimmed
-  pub ends : StopsBehind p trimmed
+  pub ends : StopsAfter p trimmed
   pub whole : list ≡ lead ++ (trimmed ++ trail)

@@ -12,13 +12,13 @@ pub const CLOCK_END: u64 = 253_402_300_800;
 /// Tells the time.
 pub trait Clock {
     /// The reading of a clock that tells a fixed one.
-    ghost tells: { Self → Option ℕ };
+    ghost observed: { Self → Option ℕ };
 
     /// Seconds from the beginning of 1970, in UTC.
     fn now(&mut self) -> u64
         ensures bound { result < CLOCK_END }
-        ensures reading { IfSome (tells self.old) (λ seconds. result ≡ seconds) }
-        ensures same { tells self.new ≡ tells self.old };
+        ensures reading { IfSome (observed self.old) (λ seconds. result ≡ seconds) }
+        ensures same { observed self.new ≡ observed self.old };
 }
 
 /// A clock that stands still, for tests.
@@ -49,7 +49,7 @@ impl FixedClock {
 }
 
 impl Clock for FixedClock {
-    ghost tells = { λ clock. Some clock };
+    ghost observed = { λ clock. Some clock };
 
     fn now(&mut self) -> u64 {
         self.seconds
@@ -72,7 +72,7 @@ impl<R: SystemHandle> SystemClock<R> {
 }
 
 impl<R: SystemHandle> Clock for SystemClock<R> {
-    ghost tells = { λ _. None };
+    ghost observed = { λ _. None };
 
     fn now(&mut self) -> u64 {
         let Ok(time) = SystemTime::now(&self.rt) else {

@@ -28,7 +28,7 @@ pub enum WireFailure {
 }
 
 // Reads once all that was written has gone out.
-fn read_behind<R: Read, W: Write>(
+fn read_after<R: Read, W: Write>(
     reader: &mut R,
     writer: &mut W,
     into: &mut [u8],
@@ -80,10 +80,10 @@ impl<R: Read, W: Write> StdWire<R, W> {
 }
 
 impl<R: Read, W: Write> Wire for StdWire<R, W> {
-    ghost tells = { λ wire. record { left = None; transcript = None; faults = wire.faults.count; never_fails = false } };
+    ghost observed = { λ wire. record { left = None; transcript = None; faults = wire.faults.count; never_fails = false } };
 
     fn take(&mut self, into: &mut [u8]) -> Result<usize, Failed> {
-        let done = read_behind(&mut self.reader, &mut self.writer, into);
+        let done = read_after(&mut self.reader, &mut self.writer, into);
         self.faults.counted(done)
     }
 

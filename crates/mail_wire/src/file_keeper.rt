@@ -104,7 +104,7 @@ fn write_last<T: Write + Seek>(file: &mut T, parts: &[&[u8]]) -> io::Result<()> 
 }
 
 impl<F: Files<File = File>> Keeper for FileKeeper<F> {
-    ghost tells = { λ keeper. record { octets = None; appends = None; faults = keeper.faults.count; never_fails = false } };
+    ghost observed = { λ keeper. record { octets = None; appends = None; faults = keeper.faults.count; never_fails = false } };
 
     fn len(&mut self) -> Result<u64, Failed> {
         let file = opened(&mut self.file, &self.files, self.path);

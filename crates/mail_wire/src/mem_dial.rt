@@ -85,7 +85,7 @@ impl MemDial {
 impl Dial for MemDial {
     type Conn = MemWire;
 
-    ghost tells = { λ dial. record {
+    ghost observed = { λ dial. record {
       sends = Some dial.sends;
       server_never_fails = dial.server_never_fails;
       transcript = Some dial.entries;

@@ -71,7 +71,7 @@ fn put_all(octets: &mut Vec<u8>, parts: &[&[u8]]) -> Result<(), AllocError>
 }
 
 impl Keeper for MemKeeper {
-    ghost tells = { λ keeper. record {
+    ghost observed = { λ keeper. record {
       octets = Some keeper.octets;
       appends = Some keeper.appends;
       faults = keeper.faults;

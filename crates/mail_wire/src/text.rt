@@ -50,7 +50,7 @@ pub fn is_same_name(name: &[u8], other: &[u8]) -> bool
     name.len() == other.len() && name.eq_ignore_ascii_case(other)
 }
 
-fn find_black(octets: &[u8]) -> Option<usize>
+fn find_nonwhite(octets: &[u8]) -> Option<usize>
     ensures { result ≡ position (λ x. not (is_white x)) octets.now }
 {
     octets.iter().position(|octet| !is_white(*octet))
@@ -60,14 +60,14 @@ fn find_black(octets: &[u8]) -> Option<usize>
 pub fn split_white(octets: &[u8]) -> (&[u8], &[u8])
     ensures { IsSpan is_white octets.now result.0.now result.1.now }
 {
-    match find_black(octets) {
+    match find_nonwhite(octets) {
         Some(at) => octets.split_at(at),
         None => octets.split_at(octets.len()),
     }
 }
 
 // Whether CR stands before this place.
-fn is_behind_cr(octets: &[u8], at: usize) -> bool
+fn is_following_cr(octets: &[u8], at: usize) -> bool
     requires { at ≤ length octets.now }
     ensures { IsTrue result ↔ ((0 < at) × (slice_index octets.now (at - 1) ≡ 13)) }
 {
@@ -81,7 +81,7 @@ pub fn find_crlf(octets: &[u8]) -> Option<usize>
     let mut at = 0;
     while let Some(passed) = memchr(b'\n', &octets[at..]) {
         let found = at + passed;
-        if is_behind_cr(octets, found) {
+        if is_following_cr(octets, found) {
             return Some(found - 1);
         }
         at = found + 1;

@@ -9,8 +9,8 @@ pub const PIECE: usize = 4096;
 
 /// Gives all the octets, or a prefix of them where it fails.
 pub fn give_all<W: Wire>(wire: &mut W, octets: &[u8]) -> Result<(), Fault>
-    ensures gives { GivesOrFails (W.tells wire.old) (W.tells wire.new) result octets.now }
-    ensures cause { HasWireCause (W.tells wire.old) (W.tells wire.new) result Fault.Wire }
+    ensures gives { GivesOrFails (W.observed wire.old) (W.observed wire.new) result octets.now }
+    ensures cause { HasWireCause (W.observed wire.old) (W.observed wire.new) result Fault.Wire }
     ensures keeper { ¬ (result ≡ Err Fault.Keeper) }
 {
     match wire.give(octets) {
@@ -23,9 +23,9 @@ pub fn give_all<W: Wire>(wire: &mut W, octets: &[u8]) -> Result<(), Fault>
 pub fn take_piece<W: Wire>(wire: &mut W, into: &mut [u8]) -> Result<usize, Fault>
     requires { 0 < length into.old }
     ensures bound { IfOk result (λ n. n ≤ length into.new) }
-    ensures takes { IfOk result (λ n. TakesPiece (W.tells wire.old) (W.tells wire.new) n into.new) }
-    ensures fails { OnErr result (TakesNothing (W.tells wire.old) (W.tells wire.new)) }
-    ensures cause { HasWireCause (W.tells wire.old) (W.tells wire.new) result Fault.Wire }
+    ensures takes { IfOk result (λ n. TakesPiece (W.observed wire.old) (W.observed wire.new) n into.new) }
+    ensures fails { OnErr result (TakesNothing (W.observed wire.old) (W.observed wire.new)) }
+    ensures cause { HasWireCause (W.observed wire.old) (W.observed wire.new) result Fault.Wire }
     ensures keeper { ¬ (result ≡ Err Fault.Keeper) }
 {
     match wire.take(into) {

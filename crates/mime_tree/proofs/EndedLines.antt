@@ -29,12 +29,12 @@ in_back [] ys k at is = ap (slice_get ys) (omega arith)
 in_back (x ∷ xs) ys k zero is = absurd (omega arith)
 in_back (x ∷ xs) ys k (suc at) is = in_back xs ys k at (omega arith)
 
-record StandsBehind (xs ys : List ℕ) (at x : ℕ) : Type 0 where
+record StandsFollowing (xs ys : List ℕ) (at x : ℕ) : Type 0 where
   pub k : ℕ
   pub place : at ≡ length xs + k
   pub is : slice_get ys k ≡ Some x
 
-front_or_back : (xs ys : List ℕ) (at x : ℕ) → slice_get (xs ++ ys) at ≡ Some x → (slice_get xs at ≡ Some x) ⊎ StandsBehind xs ys at x
+front_or_back : (xs ys : List ℕ) (at x : ℕ) → slice_get (xs ++ ys) at ≡ Some x → (slice_get xs at ≡ Some x) ⊎ StandsFollowing xs ys at x
 front_or_back [] ys at x is = inr (record { k = at; place = omega arith; is = is })
 front_or_back (y ∷ xs) ys zero x is = inl is
 front_or_back (y ∷ xs) ys (suc at) x is =
@@ -60,7 +60,7 @@ pub sound_text : (text : List ℕ) → IsSound (text ++ crlf) → IsSound text
 sound_text text sound at (inl nul) = sound at (inl (in_front text crlf at 0 nul))
 sound_text text sound at (inr (inl cr)) = sound at (inr (inl (in_front text crlf at 13 cr.0, λ lf. go (front_or_back text crlf (at + 1) 10 lf))))
   where
-    go : (slice_get text (at + 1) ≡ Some 10) ⊎ StandsBehind text crlf (at + 1) 10 → ⊥
+    go : (slice_get text (at + 1) ≡ Some 10) ⊎ StandsFollowing text crlf (at + 1) 10 → ⊥
     go (inl front) = cr.1 front
     go (inr back) =
         let less = inside text at 13 cr.0 in
@@ -68,7 +68,7 @@ sound_text text sound at (inr (inl cr)) = sound at (inr (inl (in_front text crlf
         let place = back.place in omega arith
 sound_text text sound at (inr (inr lf)) = sound at (inr (inr (in_front text crlf at 10 lf.0, λ before next cr. go before next (front_or_back text crlf before 13 cr))))
   where
-    go : (before : ℕ) → at ≡ before + 1 → (slice_get text before ≡ Some 13) ⊎ StandsBehind text crlf before 13 → ⊥
+    go : (before : ℕ) → at ≡ before + 1 → (slice_get text before ≡ Some 13) ⊎ StandsFollowing text crlf before 13 → ⊥
     go before next (inl front) = lf.1 before next front
     go before next (inr back) =
         let less = inside text at 10 lf.0 in
@@ -79,14 +79,14 @@ pub sound_ended : (text : List ℕ) → IsSound text → IsSound (text ++ crlf)
 sound_ended text sound at (inl nul) = elim (front_or_back text crlf at 0 nul) [ inl front ↦ sound at (inl front) | inr back ↦ no_nul back.k back.is ]
 sound_ended text sound at (inr (inl cr)) = go (front_or_back text crlf at 13 cr.0)
   where
-    go : (slice_get text at ≡ Some 13) ⊎ StandsBehind text crlf at 13 → ⊥
+    go : (slice_get text at ≡ Some 13) ⊎ StandsFollowing text crlf at 13 → ⊥
     go (inl front) = sound at (inr (inl (front, λ lf. cr.1 (in_front text crlf (at + 1) 10 lf))))
     go (inr back) =
         let first = cr_first back.k back.is in
         let place = back.place in cr.1 (in_back text crlf 1 (at + 1) (omega arith))
 sound_ended text sound at (inr (inr lf)) = go (front_or_back text crlf at 10 lf.0)
   where
-    go : (slice_get text at ≡ Some 10) ⊎ StandsBehind text crlf at 10 → ⊥
+    go : (slice_get text at ≡ Some 10) ⊎ StandsFollowing text crlf at 10 → ⊥
     go (inl front) = sound at (inr (inr (front, λ before next cr. lf.1 before next (in_front text crlf before 13 cr))))
     go (inr back) =
         let second = lf_second back.k back.is in

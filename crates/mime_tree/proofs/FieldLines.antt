@@ -272,33 +272,33 @@ pub record HasFieldLines (at : ℕ) (octets ending : List ℕ) : Type 0 where
 -- a field without NUL has lines
 pub field_lines : (at : ℕ) (octets : List ℕ) (f : FieldParts) → HasParts octets f → ((place : ℕ) → ¬ IsNul octets place) → HasFieldLines at octets f.ending
 field_lines at octets f is none =
-    let behind : HasTexts f.ending (flat_map item_octets is.body.items ++ f.ending) = texts_of f.ending is.ending is.body.items is.body.are_items in
-    let first : List ℕ = f.name ++ (f.white ++ 58 ∷ behind.first) in
-    let whole : concat (first ∷ behind.more) ≡ octets =
-    append_assoc f.name (f.white ++ 58 ∷ behind.first) (concat behind.more) ∙ ap (λ text. f.name ++ text) (append_assoc f.white (58 ∷ behind.first) (concat behind.more))
-    ∙ ap (λ text. f.name ++ (f.white ++ 58 ∷ text)) (sym behind.whole ∙ ap (λ body. body ++ f.ending) (sym is.body.spelled)) ∙ sym is.spelled in
-    let line : IsTextOf f.ending first behind.more =
-    put_front f.ending f.name (f.white ++ 58 ∷ behind.first) behind.more (all_text is_field_name_octet name_is_text f.name is.name)
-    (put_front f.ending f.white (58 ∷ behind.first) behind.more (all_text is_white white_is_text f.white is.white) (put_front f.ending (58 ∷ []) behind.first behind.more refl behind.are.0)) in
-    let texts : AreTextsOf f.ending (first ∷ behind.more) = (line, behind.are.1) in
-    let sound = texts_sound f.ending (first ∷ behind.more) texts (subst (λ text. list_all is_safe text ≡ true) (sym whole) (safe_without_nul octets none)) in
-    let utf8 = texts_utf8 f.ending (first ∷ behind.more) texts (subst IsUtf8 (sym whole) (field_utf8 octets f is)) in
-    let name : take (length f.name) first ≡ f.name = take_at f.name (f.white ++ 58 ∷ behind.first) (length f.name) refl in
+    let following : HasTexts f.ending (flat_map item_octets is.body.items ++ f.ending) = texts_of f.ending is.ending is.body.items is.body.are_items in
+    let first : List ℕ = f.name ++ (f.white ++ 58 ∷ following.first) in
+    let whole : concat (first ∷ following.more) ≡ octets =
+    append_assoc f.name (f.white ++ 58 ∷ following.first) (concat following.more) ∙ ap (λ text. f.name ++ text) (append_assoc f.white (58 ∷ following.first) (concat following.more))
+    ∙ ap (λ text. f.name ++ (f.white ++ 58 ∷ text)) (sym following.whole ∙ ap (λ body. body ++ f.ending) (sym is.body.spelled)) ∙ sym is.spelled in
+    let line : IsTextOf f.ending first following.more =
+    put_front f.ending f.name (f.white ++ 58 ∷ following.first) following.more (all_text is_field_name_octet name_is_text f.name is.name)
+    (put_front f.ending f.white (58 ∷ following.first) following.more (all_text is_white white_is_text f.white is.white) (put_front f.ending (58 ∷ []) following.first following.more refl following.are.0)) in
+    let texts : AreTextsOf f.ending (first ∷ following.more) = (line, following.are.1) in
+    let sound = texts_sound f.ending (first ∷ following.more) texts (subst (λ text. list_all is_safe text ≡ true) (sym whole) (safe_without_nul octets none)) in
+    let utf8 = texts_utf8 f.ending (first ∷ following.more) texts (subst IsUtf8 (sym whole) (field_utf8 octets f is)) in
+    let name : take (length f.name) first ≡ f.name = take_at f.name (f.white ++ 58 ∷ following.first) (length f.name) refl in
     record {
-      field = field_of at (length f.name) (length (concat (first ∷ behind.more)));
+      field = field_of at (length f.name) (length (concat (first ∷ following.more)));
       first = first;
-      more = behind.more;
+      more = following.more;
       whole = whole;
       is_field = record {
         name_at = refl;
         raw_at = refl;
         raw_len = refl;
-        begins = subst (λ n. BeginsField n first) (sym name) (record { some = is.named; octets = is.name; colon = (f.white, behind.first, is.white, refl) });
-        further = All-from_recursion BeginsWhite behind.more behind.white;
-        sound = All-from_recursion IsSound (first ∷ behind.more) sound;
-        utf8 = All-from_recursion IsUtf8 (first ∷ behind.more) utf8;
+        begins = subst (λ n. BeginsField n first) (sym name) (record { some = is.named; octets = is.name; colon = (f.white, following.first, is.white, refl) });
+        further = All-from_recursion BeginsWhite following.more following.white;
+        sound = All-from_recursion IsSound (first ∷ following.more) sound;
+        utf8 = All-from_recursion IsUtf8 (first ∷ following.more) utf8;
       };
-      white = behind.white;
-      are = texts_are_lines f.ending (first ∷ behind.more) texts;
-      ended = texts_ended f.ending (first ∷ behind.more) texts;
+      white = following.white;
+      are = texts_are_lines f.ending (first ∷ following.more) texts;
+      ended = texts_ended f.ending (first ∷ following.more) texts;
     }

@@ -43,9 +43,9 @@ fields_within octets lines at [] end is are = All-nil (IsFieldWithin octets)
 fields_within octets lines at (field ∷ fields) end is are =
     let all : AreLinesAt octets at ((are.0 ∷ are.1) ++ are.2) = subst (AreLinesAt octets at) are.3 is in
     let place : at + size (are.0 ∷ are.1) ≡ at + field.raw.len = ap (λ n. at + n) (sym are.4.raw_len) in
-    let behind : AreLinesAt octets (at + field.raw.len) are.2 = subst (λ n. AreLinesAt octets n are.2) place (lines_back octets at (are.0 ∷ are.1) are.2 all) in
+    let following : AreLinesAt octets (at + field.raw.len) are.2 = subst (λ n. AreLinesAt octets n are.2) place (lines_back octets at (are.0 ∷ are.1) are.2 all) in
     All-cons (IsFieldWithin octets) field fields (field_within octets at field are.0 are.1 (lines_front octets at (are.0 ∷ are.1) are.2 all) are.4)
-    (fields_within octets are.2 (at + field.raw.len) fields end behind are.5)
+    (fields_within octets are.2 (at + field.raw.len) fields end following are.5)
 
 -- the fields of lines stand one behind another
 fields_joined : (lines : List (List ℕ)) (at : ℕ) (fields : List Field) (end : ℕ) → AreFields lines at fields end → AreFieldsJoined at fields end
@@ -53,8 +53,8 @@ fields_joined lines at [] end are = are.1
 fields_joined lines at (field ∷ fields) end are = (are.4.raw_at, fields_joined are.2 (at + field.raw.len) fields end are.5)
 
 -- the lines behind the first one of these, if there is one
-behind_one : (octets : List ℕ) (at : ℕ) (lines : List (List ℕ)) → AreLinesAt octets at lines → AreLinesAt octets (at + size (take 1 lines)) (drop 1 lines)
-behind_one octets at lines is = lines_back octets at (take 1 lines) (drop 1 lines) (subst (AreLinesAt octets at) (sym (take-append-drop 1 lines)) is)
+after_one : (octets : List ℕ) (at : ℕ) (lines : List (List ℕ)) → AreLinesAt octets at lines → AreLinesAt octets (at + size (take 1 lines)) (drop 1 lines)
+after_one octets at lines is = lines_back octets at (take 1 lines) (drop 1 lines) (subst (AreLinesAt octets at) (sym (take-append-drop 1 lines)) is)
 
 -- of lines with a head the fields and the content stand in the octets
 pub record IsHeadWithin (octets : List ℕ) (at : ℕ) (block : Block) (body : ℕ) (content : List (List ℕ)) : Type 0 where
@@ -75,5 +75,5 @@ head_within octets at lines block body content is head =
     record {
       fields = fields_within octets has.header at block.fields block.end header has.fields_are;
       joined = fields_joined has.header at block.fields block.end has.fields_are;
-      content_lines = rw (head.body_is, head.content_is) (behind_one octets block.end has.rest rest);
+      content_lines = rw (head.body_is, head.content_is) (after_one octets block.end has.rest rest);
     }

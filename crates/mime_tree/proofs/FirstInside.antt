@@ -206,10 +206,10 @@ delimiter_lines b (x ∷ rest) back more mark (inr never) none =
     ap (λ text. lines_of (x ∷ rest ++ text)) nothing ∙ ap lines_of (append-nil (x ∷ rest)) ∙ lines_of-never x rest never.0 ∙ ap (λ text. (x ∷ rest) ∷ lines_of text) (sym nothing)
 
 -- nothing is made of what is behind a delimiter that is all
-nothing_behind : (IsMade : FieldRelation) (levels : ℕ) (octets b : List ℕ) (digest : Bool) (number at : ℕ) (shape : Shape) (inner : List Entity) (made : List ℕ)
+nothing_following : (IsMade : FieldRelation) (levels : ℕ) (octets b : List ℕ) (digest : Bool) (number at : ℕ) (shape : Shape) (inner : List Entity) (made : List ℕ)
     → IsDivided (IsEntity levels octets) digest number (parts_on b at [] []) shape inner → RewritesBlocks IsMade octets at at inner made → made ≡ []
 unfolding parts_on MakesNothing
-nothing_behind IsMade levels octets b digest number at shape inner made is rewrites =
+nothing_following IsMade levels octets b digest number at shape inner made is rewrites =
     let parts = is.1 in
     let all : inner ≡ parts.0 = parts.2 ∙ ap (λ more. parts.0 ++ more) parts.4 ∙ append-nil parts.0 in
     nothing_entity IsMade levels octets (Some number) digest (number + 1) at parts.0 made parts.3 (rw all at rewrites)
@@ -241,7 +241,7 @@ parts_inside IsMade levels octets new b digest number body content shape inner m
     let total : body + size content ≡ place = (let sizes = ap length joined in let no_more = ap size nothing in let both = length-append front (concat first.more) in omega arith) in
     let alone : IsDivided (IsEntity levels octets) digest number (parts_on b place [] []) shape inner =
     subst (λ more. IsDivided (IsEntity levels octets) digest number (parts_on b place [] more) shape inner) nothing is_parts in
-    nothing_behind IsMade levels octets b digest number place shape inner back alone (further.again total) in
+    nothing_following IsMade levels octets b digest number place shape inner back alone (further.again total) in
     let lines : lines_of made ≡ first.before ++ first.delimiter ∷ lines_of back =
     ap lines_of (whole ∙ append_assoc (concat first.before) first.delimiter back) ∙ lines_of-front first.before (first.delimiter ++ back) (AreEnded-front first.before first.delimiter first.more all_are)
     ∙ ap (λ all. first.before ++ all) (delimiter_lines b first.delimiter back first.more first.mark ends none) in

@@ -108,25 +108,25 @@ full_by IsMade levels octets new parent digest number at (line ∷ lines) entiti
 pub record HasFirst (IsMade : FieldRelation) (levels : ℕ) (octets : List ℕ) (parent : Option ℕ) (digest : Bool) (number at : ℕ) (passed : List (List ℕ)) (line : List ℕ) (rest : List (List ℕ)) (first more : List Entity) (new : List ℕ)
     (new_at : ℕ) (made : List ℕ) : Type 0 where
   pub first_made : List ℕ
-  pub behind : List ℕ
+  pub following : List ℕ
   pub full : HasFullPart IsMade levels octets parent digest number at passed first new new_at first_made
-  pub made_is : made ≡ first_made ++ ((gap_of passed ++ line) ++ behind)
-  pub rewritten : RewritesBlocks IsMade octets (at + size passed + length line) (at + size (passed ++ line ∷ rest)) more behind
+  pub made_is : made ≡ first_made ++ ((gap_of passed ++ line) ++ following)
+  pub rewritten : RewritesBlocks IsMade octets (at + size passed + length line) (at + size (passed ++ line ∷ rest)) more following
   pub text : Stands octets (at + size (cut_last passed)) (gap_of passed ++ line)
-  pub text_behind : Stands octets (at + size passed + length line) (concat rest)
+  pub text_following : Stands octets (at + size passed + length line) (concat rest)
   pub new_text : Stands new (new_at + length first_made) (gap_of passed ++ line)
-  pub new_behind : Stands new (new_at + size full.full + length line) behind
+  pub new_after : Stands new (new_at + size full.full + length line) following
   pub sum : at + size (cut_last passed) + length (gap_of passed ++ line) ≡ at + size passed + length line
   pub new_sum : new_at + length first_made + length (gap_of passed ++ line) ≡ new_at + size full.full + length line
-  pub made_sum : new_at + size full.full + length line + length behind ≡ new_at + length made
+  pub made_sum : new_at + size full.full + length line + length following ≡ new_at + length made
 
 -- what was made of the first entities, of the text behind them and of the further entities
 record HasCut (IsMade : FieldRelation) (octets : List ℕ) (at middle next to : ℕ) (first more : List Entity) (text made : List ℕ) : Type 0 where
   pub first_made : List ℕ
-  pub behind : List ℕ
-  pub made_is : made ≡ first_made ++ (text ++ behind)
+  pub following : List ℕ
+  pub made_is : made ≡ first_made ++ (text ++ following)
   pub first_rewritten : RewritesBlocks IsMade octets at middle first first_made
-  pub rewritten : RewritesBlocks IsMade octets next to more behind
+  pub rewritten : RewritesBlocks IsMade octets next to more following
 
 is_cut : (IsMade : FieldRelation) (octets : List ℕ) (at middle next to : ℕ) (first more : List Entity) (text made : List ℕ) → AreInOrder at middle first → AreInOrder next to more → Stands octets middle text
     → middle + length text ≡ next → RewritesBlocks IsMade octets at to (first ++ more) made → HasCut IsMade octets at middle next to first more text made
@@ -138,7 +138,7 @@ is_cut IsMade octets at middle next to first more text made order next_order sta
         let copied = is_copied IsMade octets middle next to more text split.1 stands sum next_order split.4 in
         record {
           first_made = split.0;
-          behind = copied.rest;
+          following = copied.rest;
           made_is = split.2 ∙ ap (λ more. split.0 ++ more) copied.whole;
           first_rewritten = split.3;
           rewritten = copied.rewritten;
@@ -160,10 +160,10 @@ full_sum at full made gap line whole =
     let all = ap length whole ∙ length-append made gap in
     let mark = length-append gap line in omega arith
 
-behind_sum : (at next : ℕ) (first text behind made : List ℕ) → made ≡ first ++ (text ++ behind) → at + length first + length text ≡ next → next + length behind ≡ at + length made
-behind_sum at next first text behind made made_is sum =
-    let all = ap length made_is ∙ length-append first (text ++ behind) in
-    let back = length-append text behind in omega arith
+after_sum : (at next : ℕ) (first text following made : List ℕ) → made ≡ first ++ (text ++ following) → at + length first + length text ≡ next → next + length following ≡ at + length made
+after_sum at next first text following made made_is sum =
+    let all = ap length made_is ∙ length-append first (text ++ following) in
+    let back = length-append text following in omega arith
 
 pub first_kept : (IsMade : FieldRelation) (levels : ℕ) (octets new : List ℕ) → Keeps IsMade octets new (IsEntity levels octets) (IsEntity levels new) → (parent : Option ℕ) (digest : Bool) (number at : ℕ) (passed : List (List ℕ))
     (line : List ℕ) (rest : List (List ℕ)) (first more : List Entity) (made : List ℕ) (new_at : ℕ) → AreEnded passed → IsEntity levels octets parent digest number at (cut_last passed) first
@@ -180,22 +180,22 @@ first_kept IsMade levels octets new keeps parent digest number at passed line re
     let new_all = rw cut.made_is at new_stands in
     let full = full_by IsMade levels octets new parent digest number at passed first cut.first_made new_at ended
     (part_kept IsMade levels octets new keeps parent digest number at (cut_last passed) first cut.first_made new_at is (cut_are passed ended)
-    (stands_front octets at (concat (cut_last passed)) ((gap_of passed ++ line) ++ concat rest) all) cut.first_rewritten (stands_front new new_at cut.first_made ((gap_of passed ++ line) ++ cut.behind) new_all)) in
+    (stands_front octets at (concat (cut_last passed)) ((gap_of passed ++ line) ++ concat rest) all) cut.first_rewritten (stands_front new new_at cut.first_made ((gap_of passed ++ line) ++ cut.following) new_all)) in
     let new_sum = full_sum new_at full.full cut.first_made (gap_of passed) line full.whole in
-    let new_back = stands_back new new_at (new_at + length cut.first_made) cut.first_made ((gap_of passed ++ line) ++ cut.behind) refl new_all in
+    let new_back = stands_back new new_at (new_at + length cut.first_made) cut.first_made ((gap_of passed ++ line) ++ cut.following) refl new_all in
     record {
       first_made = cut.first_made;
-      behind = cut.behind;
+      following = cut.following;
       full = full;
       made_is = cut.made_is;
       rewritten = cut.rewritten;
       text = text;
-      text_behind = stands_back octets (at + size (cut_last passed)) (at + size passed + length line) (gap_of passed ++ line) (concat rest) sum back;
-      new_text = stands_front new (new_at + length cut.first_made) (gap_of passed ++ line) cut.behind new_back;
-      new_behind = stands_back new (new_at + length cut.first_made) (new_at + size full.full + length line) (gap_of passed ++ line) cut.behind new_sum new_back;
+      text_following = stands_back octets (at + size (cut_last passed)) (at + size passed + length line) (gap_of passed ++ line) (concat rest) sum back;
+      new_text = stands_front new (new_at + length cut.first_made) (gap_of passed ++ line) cut.following new_back;
+      new_after = stands_back new (new_at + length cut.first_made) (new_at + size full.full + length line) (gap_of passed ++ line) cut.following new_sum new_back;
       sum = sum;
       new_sum = new_sum;
-      made_sum = behind_sum new_at (new_at + size full.full + length line) cut.first_made (gap_of passed ++ line) cut.behind made cut.made_is new_sum;
+      made_sum = after_sum new_at (new_at + size full.full + length line) cut.first_made (gap_of passed ++ line) cut.following made cut.made_is new_sum;
     }
 
 -- new lines, and none where there were none
@@ -213,13 +213,13 @@ no_lines (first ∷ lines) line rest none = cc none
 
 -- A part, the mark behind it and what follows are put together.
 pub joined : (IsMade : FieldRelation) (levels : ℕ) (octets new : List ℕ) (parent : Option ℕ) (digest : Bool) (number at : ℕ) (passed : List (List ℕ)) (line : List ℕ) (rest : List (List ℕ)) (first more : List Entity) (made : List ℕ)
-    (new_at : ℕ) (HoldsBehind Holds : List (List ℕ) → List Entity → Type 0) → AreLines (passed ++ line ∷ rest)
+    (new_at : ℕ) (HoldsAfter Holds : List (List ℕ) → List Entity → Type 0) → AreLines (passed ++ line ∷ rest)
     → (has : HasFirst IsMade levels octets parent digest number at passed line rest first more new new_at made)
-    → (tail : HasTidyLines IsMade octets (at + size passed + length line) rest more new (new_at + size has.full.full + length line) has.behind HoldsBehind)
+    → (tail : HasTidyLines IsMade octets (at + size passed + length line) rest more new (new_at + size has.full.full + length line) has.following HoldsAfter)
     → Holds (has.full.full ++ line ∷ tail.has.new_lines) (has.full.others ++ tail.has.others)
     → AreKept IsMade octets (next_entity_place (at + size (passed ++ line ∷ rest)) more) first new (next_entity_place (new_at + length made) tail.has.others) has.full.others
     → HasTidyLines IsMade octets at (passed ++ line ∷ rest) (first ++ more) new new_at made Holds
-joined IsMade levels octets new parent digest number at passed line rest first more made new_at HoldsBehind Holds are has tail holds same =
+joined IsMade levels octets new parent digest number at passed line rest first more made new_at HoldsAfter Holds are has tail holds same =
     let line_size = size-cons line rest in
     let all_size = size-append passed (line ∷ rest) in
     let to_is : at + size passed + length line + size rest ≡ at + size (passed ++ line ∷ rest) = omega arith in
@@ -229,15 +229,15 @@ joined IsMade levels octets new parent digest number at passed line rest first m
         new_lines = has.full.full ++ line ∷ tail.has.new_lines;
         others = has.full.others ++ tail.has.others;
         whole = concat-append has.full.full (line ∷ tail.has.new_lines) ∙ rw (has.full.whole, tail.has.whole)
-            (append_assoc has.first_made (gap_of passed) (line ++ has.behind) ∙ ap (λ back. has.first_made ++ back) (sym (append_assoc (gap_of passed) line has.behind)) ∙ sym has.made_is);
+            (append_assoc has.first_made (gap_of passed) (line ++ has.following) ∙ ap (λ back. has.first_made ++ back) (sym (append_assoc (gap_of passed) line has.following)) ∙ sym has.made_is);
         are = AreLines-ended has.full.full (line ∷ tail.has.new_lines) has.full.ended (line_on line rest tail.has.new_lines (AreLines-back passed (line ∷ rest) are) tail.has.are tail.none);
         sound = λ sound.
-            let behind = all-back IsSound passed (line ∷ rest) sound in
-            all-append IsSound has.full.full (line ∷ tail.has.new_lines) (has.full.sound (all-front IsSound passed (line ∷ rest) sound)) (behind.0, tail.has.sound behind.1);
+            let following = all-back IsSound passed (line ∷ rest) sound in
+            all-append IsSound has.full.full (line ∷ tail.has.new_lines) (has.full.sound (all-front IsSound passed (line ∷ rest) sound)) (following.0, tail.has.sound following.1);
         unmarked = λ boundary unmarked.
-            let behind = all-back (IsUnmarked boundary) passed (line ∷ rest) unmarked in
+            let following = all-back (IsUnmarked boundary) passed (line ∷ rest) unmarked in
             all-append (IsUnmarked boundary) has.full.full (line ∷ tail.has.new_lines) (has.full.unmarked boundary (all-front (IsUnmarked boundary) passed (line ∷ rest) unmarked))
-            (behind.0, tail.has.unmarked boundary behind.1);
+            (following.0, tail.has.unmarked boundary following.1);
         holds = holds;
         same = same_append IsMade octets (at + size (passed ++ line ∷ rest)) first more new (new_at + length made) has.full.others tail.has.others same tail_same;
       };

@@ -14,7 +14,7 @@ use Rattle.utf8_fields.specs.declared.block.FieldFault.{FieldFault}
 use Rattle.utf8_fields.specs.declared.block.FieldFault.TheVariants.{NotField, NotUtf8, Memory}
 use Rattle.utf8_fields.specs.Block.{AreFields, EndsBlock, HasBlockIn, raw_of}
 use Rattle.utf8_fields.specs.Parts.{IsField}
-use Rattle.utf8_fields.proofs.Raws.{slice_range-behind}
+use Rattle.utf8_fields.proofs.Raws.{slice_range-following}
 use Rattle.std.proofs.lemmas.List.{take-append-drop}
 use Rattle.std.proofs.Common.{get_or, subst}
 use Rattle.std.specs.Prelude.{slice_range}
@@ -336,8 +336,8 @@ range_within front back at len fits =
     ap (λ all. all ++ back) cut ∙ append_assoc (take at front) (part ++ rest) back ∙ ap (λ more. take at front ++ more) (append_assoc part rest back) in
     let at_is : length (take at front) ≡ at = length-take-le at front (omega arith) in
     let len_is : len ≡ length part = sym (length-take-le len (drop at front) (omega arith)) in
-    slice_range-behind (front ++ back) (take at front) part (rest ++ back) at len wide at_is len_is
-    ∙ sym (slice_range-behind front (take at front) part rest at len cut at_is len_is)
+    slice_range-following (front ++ back) (take at front) part (rest ++ back) at len wide at_is len_is
+    ∙ sym (slice_range-following front (take at front) part rest at len cut at_is len_is)
 
 pub fields_within : (front back octets : List ℕ) (fields : List Field) → octets ≡ front ++ back → All (λ field. field.raw.at + field.raw.len ≤ length front) fields
     → All (λ field. IsField (raw_of front field)) fields → AreFieldsWithin octets fields

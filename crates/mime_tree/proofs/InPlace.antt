@@ -5,7 +5,7 @@ use Rattle.std.specs.List.{AllZip, concat}
 use Rattle.utf8_fields.specs.declared.block.Field.{Field}
 use Rattle.utf8_fields.specs.Block.{AreFields}
 use Rattle.utf8_fields.proofs.LineShapes.{AreLines}
-use Rattle.utf8_fields.proofs.Raws.{slice_range-behind}
+use Rattle.utf8_fields.proofs.Raws.{slice_range-following}
 use Rattle.mime_tree.specs.declared.entity.Entity.{Entity}
 use Rattle.mime_tree.specs.declared.entity.Shape.{Shape}
 use Rattle.mime_tree.specs.declared.openings.Opening.{Opening}
@@ -16,7 +16,7 @@ use Rattle.mime_tree.specs.Tree.{IsWithInner, EntityRelation, AreParts, IsOpened
 use Rattle.mime_tree.specs.Rewriting.{FieldRelation, RewritesBlocks, next_entity_place, IsSameEntity}
 use Rattle.mime_tree.proofs.Regions.{size-cons, size-append}
 use Rattle.mime_tree.proofs.PartLemmas.{parts_on-close, parts_on-delimiter, parts_on-on}
-use Rattle.mime_tree.proofs.Standing.{Stands, AreInOrder, AreEnded, AreBehind, AreKept}
+use Rattle.mime_tree.proofs.Standing.{Stands, AreInOrder, AreEnded, AreAfter, AreKept}
 use Rattle.mime_tree.proofs.InOrder.{in_order, in_order-append, slices_join, split_blocks}
 use Rattle.mime_tree.proofs.EndedLines.{gap_of, cut_concat}
 use Rattle.mime_tree.proofs.EmptyLast.{parts_on-end, parts_on-some}
@@ -38,7 +38,7 @@ stands_back octets at to a b sum is =
     }
 
 pub stands_slice : (octets : List ℕ) (at to : ℕ) (text : List ℕ) → at + length text ≡ to → Stands octets at text → slice_range octets at to ≡ text
-stands_slice octets at to text sum is = rw (← sum) (slice_range-behind octets is.before text is.after at (length text) is.whole is.place refl)
+stands_slice octets at to text sum is = rw (← sum) (slice_range-following octets is.before text is.after at (length text) is.whole is.place refl)
 
 pub slice_none : (octets : List ℕ) (from to : ℕ) → to ≤ from → slice_range octets from to ≡ []
 slice_none octets from to past =
@@ -58,20 +58,20 @@ place_append to [] more = refl
 place_append to (entity ∷ entities) more = refl
 
 -- places behind a block are so before further entities
-behind_append : (to place : ℕ) (entities more : List Entity) (made_place : ℕ) (others again : List Entity) → AreBehind (next_entity_place to more) place entities made_place others
-    → AreBehind to place (entities ++ more) made_place (others ++ again)
-behind_append to place [] more made_place others again are = absurd are
-behind_append to place (entity ∷ entities) more made_place [] again are = absurd are
-behind_append to place (entity ∷ entities) more made_place (other ∷ others) again (inl is) = inl (rw (place_append to entities more) is)
-behind_append to place (entity ∷ entities) more made_place (other ∷ others) again (inr are) = inr (behind_append to place entities more made_place others again are)
+after_append : (to place : ℕ) (entities more : List Entity) (made_place : ℕ) (others again : List Entity) → AreAfter (next_entity_place to more) place entities made_place others
+    → AreAfter to place (entities ++ more) made_place (others ++ again)
+after_append to place [] more made_place others again are = absurd are
+after_append to place (entity ∷ entities) more made_place [] again are = absurd are
+after_append to place (entity ∷ entities) more made_place (other ∷ others) again (inl is) = inl (rw (place_append to entities more) is)
+after_append to place (entity ∷ entities) more made_place (other ∷ others) again (inr are) = inr (after_append to place entities more made_place others again are)
 
 -- and where all ends further on
-behind_further : (to far place : ℕ) (entities : List Entity) (made_place : ℕ) (others : List Entity) → to ≤ far → AreBehind to place entities made_place others → AreBehind far place entities made_place others
-behind_further to far place [] made_place others less are = absurd are
-behind_further to far place (entity ∷ entities) made_place [] less are = absurd are
-behind_further to far place (entity ∷ []) made_place (other ∷ others) less (inl is) = let high = is.high in inl (record { low = is.low; high = omega arith; same = is.same })
-behind_further to far place (entity ∷ next ∷ entities) made_place (other ∷ others) less (inl is) = inl (record { low = is.low; high = is.high; same = is.same })
-behind_further to far place (entity ∷ entities) made_place (other ∷ others) less (inr are) = inr (behind_further to far place entities made_place others less are)
+after_further : (to far place : ℕ) (entities : List Entity) (made_place : ℕ) (others : List Entity) → to ≤ far → AreAfter to place entities made_place others → AreAfter far place entities made_place others
+after_further to far place [] made_place others less are = absurd are
+after_further to far place (entity ∷ entities) made_place [] less are = absurd are
+after_further to far place (entity ∷ []) made_place (other ∷ others) less (inl is) = let high = is.high in inl (record { low = is.low; high = omega arith; same = is.same })
+after_further to far place (entity ∷ next ∷ entities) made_place (other ∷ others) less (inl is) = inl (record { low = is.low; high = is.high; same = is.same })
+after_further to far place (entity ∷ entities) made_place (other ∷ others) less (inr are) = inr (after_further to far place entities made_place others less are)
 
 -- same entities and further ones
 pub same_append : (IsMade : FieldRelation) (octets : List ℕ) (to : ℕ) (entities more : List Entity) (new : List ℕ) (new_to : ℕ) (others again : List Entity)
@@ -83,7 +83,7 @@ same_append IsMade octets to (entity ∷ entities) more new new_to (other ∷ ot
   record {
     same = rw (place_append to entities more, place_append new_to others again) same.0.same;
     body = rw (place_append to entities more) same.0.body;
-    end = behind_append to entity.end (entity ∷ entities) more other.end (other ∷ others) again same.0.end;
+    end = after_append to entity.end (entity ∷ entities) more other.end (other ∷ others) again same.0.end;
   },
   same_append IsMade octets to entities more new new_to others again same.1 next,
 )
@@ -97,7 +97,7 @@ same_entity_further IsMade octets entity to far new other new_to new_far text le
       depth = is.depth;
       shape = is.shape;
       fields = is.fields;
-      behind = slices_join new other.block.end new_to new_far new_end new_less ∙ rw (is.behind, text) (sym (slices_join octets entity.block.end to far end less));
+      following = slices_join new other.block.end new_to new_far new_end new_less ∙ rw (is.following, text) (sym (slices_join octets entity.block.end to far end less));
       content = is.content;
     }
 
@@ -110,14 +110,14 @@ same_further IsMade octets from to far (entity ∷ []) new new_from new_to new_f
   record {
     same = same_entity_further IsMade octets entity to far new other new_to new_far text less new_less order.2 new_order.2 same.0.same;
     body = let high = same.0.body.high in record { low = same.0.body.low; high = omega arith; same = same.0.body.same };
-    end = behind_further to far entity.end (entity ∷ []) other.end (other ∷ []) less same.0.end;
+    end = after_further to far entity.end (entity ∷ []) other.end (other ∷ []) less same.0.end;
   },
   tt,
 )
 same_further IsMade octets from to far (entity ∷ []) new new_from new_to new_far (other ∷ again ∷ others) text less new_less order new_order same = absurd same.1
 same_further IsMade octets from to far (entity ∷ next ∷ entities) new new_from new_to new_far (other ∷ []) text less new_less order new_order same = absurd same.1
 same_further IsMade octets from to far (entity ∷ next ∷ entities) new new_from new_to new_far (other ∷ again ∷ others) text less new_less order new_order same = (
-  record { same = same.0.same; body = same.0.body; end = behind_further to far entity.end (entity ∷ next ∷ entities) other.end (other ∷ again ∷ others) less same.0.end },
+  record { same = same.0.same; body = same.0.body; end = after_further to far entity.end (entity ∷ next ∷ entities) other.end (other ∷ again ∷ others) less same.0.end },
   same_further IsMade octets entity.block.end to far (next ∷ entities) new other.block.end new_to new_far (again ∷ others) text less new_less order.2 new_order.2 same.1,
 )
 
@@ -179,12 +179,12 @@ order_by levels octets b parent digest number at to passed line rest entities fa
     let cut = cut_size passed (AreEnded-front passed line rest lines) in
     let first = in_order levels octets parent digest number at (cut_last passed) parts.0 parts.3 in
     let one = size-cons line rest in
-    let more = next (number + length parts.0) (at + size passed + length line) [] parts.1 (behind passed lines) (omega arith) parts.4 in
+    let more = next (number + length parts.0) (at + size passed + length line) [] parts.1 (following passed lines) (omega arith) parts.4 in
     rw parts.2 (in_order-append at (at + size (cut_last passed)) to parts.0 parts.1 first (order_from (at + size (cut_last passed)) (at + size passed + length line) to parts.1 (omega arith) more))
   where
-    behind : (passed : List (List ℕ)) → AreLines (passed ++ line ∷ rest) → AreLines rest
-    behind [] lines = lines.1
-    behind (first ∷ passed) lines = behind passed lines.1
+    following : (passed : List (List ℕ)) → AreLines (passed ++ line ∷ rest) → AreLines rest
+    following [] lines = lines.1
+    following (first ∷ passed) lines = following passed lines.1
 order_by levels octets b parent digest number at to passed line rest entities false false close_is delimiter_is lines sum next are =
     let longer = size-append passed (line ∷ []) in
     let one = size-cons line [] in

@@ -73,13 +73,13 @@ ends_lf [] = false
 ends_lf (x ∷ []) = nat_eq x 10
 ends_lf (x ∷ y ∷ rest) = ends_lf (y ∷ rest)
 
-lf_behind_one : (x : ℕ) (ys : List ℕ) → ends_lf ys ≡ true → ends_lf (x ∷ ys) ≡ true
-lf_behind_one x [] h = cc h
-lf_behind_one x (y ∷ ys) h = h
+lf_after_one : (x : ℕ) (ys : List ℕ) → ends_lf ys ≡ true → ends_lf (x ∷ ys) ≡ true
+lf_after_one x [] h = cc h
+lf_after_one x (y ∷ ys) h = h
 
-lf_behind : (xs ys : List ℕ) → ends_lf ys ≡ true → ends_lf (xs ++ ys) ≡ true
-lf_behind [] ys h = h
-lf_behind (x ∷ xs) ys h = lf_behind_one x (xs ++ ys) (lf_behind xs ys h)
+lf_after : (xs ys : List ℕ) → ends_lf ys ≡ true → ends_lf (xs ++ ys) ≡ true
+lf_after [] ys h = h
+lf_after (x ∷ xs) ys h = lf_after_one x (xs ++ ys) (lf_after xs ys h)
 
 once_lf : (line : List ℕ) → EndsOnce line → ends_lf line ≡ true
 once_lf [] once = absurd once
@@ -89,7 +89,7 @@ once_lf (x ∷ y ∷ z ∷ rest) once = once_lf (y ∷ z ∷ rest) once.1
 
 ended_lf : (first : List ℕ) (more : List (List ℕ)) → AreEnded (first ∷ more) → ends_lf (concat (first ∷ more)) ≡ true
 ended_lf first [] ended = rw (append-nil first) (once_lf first ended.0)
-ended_lf first (next ∷ more) ended = lf_behind first (concat (next ∷ more)) (ended_lf next more ended.1)
+ended_lf first (next ∷ more) ended = lf_after first (concat (next ∷ more)) (ended_lf next more ended.1)
 
 front_lf : (xs : List ℕ) (y : ℕ) (ys : List ℕ) → ends_lf (xs ++ y ∷ ys) ≡ ends_lf (y ∷ ys)
 front_lf [] y ys = refl

@@ -74,9 +74,9 @@ end_kept IsMade levels octets new keeps b parent digest number at passed entitie
     one lines unmarked = ap (parts_on b new_at []) (sym (append-nil lines)) ∙ parts_on-passed b new_at lines [] [] unmarked ∙ parts_on-end b new_at lines
 
 -- what follows the close line is copied
-tail_copied : (IsMade : FieldRelation) (octets : List ℕ) (next to : ℕ) (rest : List (List ℕ)) (new : List ℕ) (new_next : ℕ) (behind : List ℕ) → AreLines rest → Stands octets next (concat rest) → next + size rest ≡ to
-    → RewritesBlocks IsMade octets next to [] behind → HasTidyLines IsMade octets next rest [] new new_next behind (λ new_lines others. (new_lines ≡ rest) × (others ≡ []))
-tail_copied IsMade octets next to rest new new_next behind are stands sum rewritten =
+tail_copied : (IsMade : FieldRelation) (octets : List ℕ) (next to : ℕ) (rest : List (List ℕ)) (new : List ℕ) (new_next : ℕ) (following : List ℕ) → AreLines rest → Stands octets next (concat rest) → next + size rest ≡ to
+    → RewritesBlocks IsMade octets next to [] following → HasTidyLines IsMade octets next rest [] new new_next following (λ new_lines others. (new_lines ≡ rest) × (others ≡ []))
+tail_copied IsMade octets next to rest new new_next following are stands sum rewritten =
     record {
       has = record {
         new_lines = rest;
@@ -117,10 +117,10 @@ close_kept IsMade levels octets new keeps b parent digest number at passed line 
     let all_size = size-append passed (line ∷ rest) in
     let to_is : at + size passed + length line + size rest ≡ at + size (passed ++ line ∷ rest) = omega arith in
     let has = first_kept IsMade levels octets new keeps parent digest number at passed line rest first [] made new_at (AreEnded-front passed line rest are) is (omega arith) stands rewritten new_stands in
-    let tail = tail_copied IsMade octets (at + size passed + length line) (at + size (passed ++ line ∷ rest)) rest new (new_at + size has.full.full + length line) has.behind (AreLines-back passed (line ∷ rest) are).1
-    has.text_behind to_is has.rewritten in
+    let tail = tail_copied IsMade octets (at + size passed + length line) (at + size (passed ++ line ∷ rest)) rest new (new_at + size has.full.full + length line) has.following (AreLines-back passed (line ∷ rest) are).1
+    has.text_following to_is has.rewritten in
     let made_sum = has.made_sum in
-    let text = stands_slice new (new_at + size has.full.full + length line) (new_at + length made) has.behind made_sum has.new_behind ∙ has.rewritten in
+    let text = stands_slice new (new_at + size has.full.full + length line) (new_at + length made) has.following made_sum has.new_after ∙ has.rewritten in
     let parts : parts_on b new_at [] (has.full.full ++ line ∷ rest) ≡ record { at = new_at; lines = cut_last has.full.full } ∷ [] =
     full_close b new_at has.full.full line rest (has.full.unmarked b unmarked) close in
     joined IsMade levels octets new parent digest number at passed line rest first [] made new_at (λ new_lines others. (new_lines ≡ rest) × (others ≡ []))
@@ -147,8 +147,8 @@ delimiter_kept IsMade levels octets new keeps b parent digest number at passed l
     let lines = (AreLines-back passed (line ∷ rest) are).1 in
     let order = parts_order levels octets b parent digest (at + size (passed ++ line ∷ rest)) rest (number + length first) (at + size passed + length line) [] more lines (omega arith) are_more in
     let has = first_kept IsMade levels octets new keeps parent digest number at passed line rest first more made new_at (AreEnded-front passed line rest are) is order stands rewritten new_stands in
-    let renamed = rewrites_to IsMade octets (at + size passed + length line) (at + size (passed ++ line ∷ rest)) (at + size passed + length line + size rest) more has.behind to_is has.rewritten in
-    let tail = next (number + length first) (at + size passed + length line) [] more has.behind (new_at + size has.full.full + length line) are_more lines tt has.text_behind renamed has.new_behind in
+    let renamed = rewrites_to IsMade octets (at + size passed + length line) (at + size (passed ++ line ∷ rest)) (at + size passed + length line + size rest) more has.following to_is has.rewritten in
+    let tail = next (number + length first) (at + size passed + length line) [] more has.following (new_at + size has.full.full + length line) are_more lines tt has.text_following renamed has.new_after in
     let parts : parts_on b new_at [] (has.full.full ++ line ∷ tail.has.new_lines) ≡ record { at = new_at; lines = cut_last has.full.full } ∷ parts_on b (new_at + size has.full.full + length line) [] tail.has.new_lines =
     full_delimiter b new_at has.full.full line tail.has.new_lines (has.full.unmarked b unmarked) close delimiter in
     let count = same_length IsMade octets (at + size (cut_last passed)) first new (new_at + length has.first_made) has.full.others has.full.same in
@@ -223,14 +223,14 @@ IsDivisionKept IsMade levels octets new b digest number shape lines =
     → HasTidyLines IsMade octets at lines inner new new_at made (λ new_lines others. IsDivided (IsEntity levels new) digest number (parts_of b new_at new_lines) shape others)
 
 -- a line before the parts is copied
-line_copied : (IsMade : FieldRelation) (octets : List ℕ) (at : ℕ) (line : List ℕ) (rest : List (List ℕ)) (inner : List Entity) (new : List ℕ) (new_at : ℕ) (made behind : List ℕ) (HoldsBehind Holds : List (List ℕ) → List Entity → Type 0)
-    → AreLines (line ∷ rest) → made ≡ line ++ behind → ((new_lines : List (List ℕ)) (others : List Entity) → HoldsBehind new_lines others → Holds (line ∷ new_lines) others)
-    → HasTidyLines IsMade octets (at + length line) rest inner new (new_at + length line) behind HoldsBehind → HasTidyLines IsMade octets at (line ∷ rest) inner new new_at made Holds
-line_copied IsMade octets at line rest inner new new_at made behind HoldsBehind Holds are made_is onward tail =
+line_copied : (IsMade : FieldRelation) (octets : List ℕ) (at : ℕ) (line : List ℕ) (rest : List (List ℕ)) (inner : List Entity) (new : List ℕ) (new_at : ℕ) (made following : List ℕ) (HoldsAfter Holds : List (List ℕ) → List Entity → Type 0)
+    → AreLines (line ∷ rest) → made ≡ line ++ following → ((new_lines : List (List ℕ)) (others : List Entity) → HoldsAfter new_lines others → Holds (line ∷ new_lines) others)
+    → HasTidyLines IsMade octets (at + length line) rest inner new (new_at + length line) following HoldsAfter → HasTidyLines IsMade octets at (line ∷ rest) inner new new_at made Holds
+line_copied IsMade octets at line rest inner new new_at made following HoldsAfter Holds are made_is onward tail =
     let line_size = size-cons line rest in
-    let made_size = ap length made_is ∙ length-append line behind in
+    let made_size = ap length made_is ∙ length-append line following in
     let to_is : at + length line + size rest ≡ at + size (line ∷ rest) = omega arith in
-    let new_to_is : new_at + length line + length behind ≡ new_at + length made = omega arith in
+    let new_to_is : new_at + length line + length following ≡ new_at + length made = omega arith in
     record {
       has = record {
         new_lines = line ∷ tail.has.new_lines;
@@ -265,12 +265,12 @@ division_by IsMade levels octets new keeps b digest number shape line rest true 
 division_by IsMade levels octets new keeps b digest number shape line rest false delimiter_is next = λ at inner made new_at is are stands rewritten new_stands.
     let line_size = size-cons line rest in
     let to_is : at + length line + size rest ≡ at + size (line ∷ rest) = omega arith in
-    let behind = rw (parts_of-on b at line rest delimiter_is) at is in
-    let order = divided_order levels octets b digest number (at + size (line ∷ rest)) shape inner rest (at + length line) are.1 to_is behind in
+    let following = rw (parts_of-on b at line rest delimiter_is) at is in
+    let order = divided_order levels octets b digest number (at + size (line ∷ rest)) shape inner rest (at + length line) are.1 to_is following in
     let copied = is_copied IsMade octets at (at + length line) (at + size (line ∷ rest)) inner line made (stands_front octets at line (concat rest) stands) refl order rewritten in
     let new_all = rw copied.whole at new_stands in
     let renamed = rewrites_to IsMade octets (at + length line) (at + size (line ∷ rest)) (at + length line + size rest) inner copied.rest to_is copied.rewritten in
-    let tail = next (at + length line) inner copied.rest (new_at + length line) behind are.1
+    let tail = next (at + length line) inner copied.rest (new_at + length line) following are.1
     (stands_back octets at (at + length line) line (concat rest) refl stands) renamed (stands_back new new_at (new_at + length line) line copied.rest refl new_all) in
     line_copied IsMade octets at line rest inner new new_at made copied.rest
     (λ new_lines others. IsDivided (IsEntity levels new) digest number (parts_of b (new_at + length line) new_lines) shape others)

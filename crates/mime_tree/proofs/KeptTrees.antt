@@ -41,7 +41,7 @@ copied : (IsMade : FieldRelation) (octets : List ℕ) (body : ℕ) (content : Li
 copied IsMade octets body content [] new new_body made none are stands rewrites new_stands =
     let same : concat content ≡ made = sym (Stands-slice octets body (concat content) stands) ∙ sym rewrites in
     record {
-      behind = all_copied IsMade octets new body (body + size content) [] made new_body [] refl rewrites new_stands tt;
+      following = all_copied IsMade octets new body (body + size content) [] made new_body [] refl rewrites new_stands tt;
       old_order = omega arith;
       order = omega arith;
       same = tt;
@@ -83,7 +83,7 @@ opened_inside IsMade levels octets new keeps opening number body content shape i
       others = got.others;
       opened = opened;
       kept = record {
-        behind = first_inside IsMade levels octets new opening number body content shape inner made new_body got.others are stands new_stands rewrites is opened got.same;
+        following = first_inside IsMade levels octets new opening number body content shape inner made new_body got.others are stands new_stands rewrites is opened got.same;
         old_order = opened_in_order levels octets opening number body content shape inner is;
         order = subst (λ text. AreInOrder new_body (new_body + length text) got.others) (concat_lines_of made) (opened_in_order levels new opening number new_body (lines_of made) shape got.others opened);
         same = got.same;

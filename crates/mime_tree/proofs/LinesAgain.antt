@@ -7,7 +7,7 @@ use Rattle.mail_wire.specs.Message.{StandsAt as StandsAt, IsSound}
 use Rattle.mail_wire.proofs.FirstLine.{lines_of-crlf, lines_of-other}
 use Rattle.mail_wire.proofs.LineLemmas.{is_crlf_parts}
 use Rattle.utf8_fields.proofs.LineShapes.{AreLines, EndsOnce, NeverEnds}
-use Rattle.utf8_fields.proofs.Raws.{slice_range-behind}
+use Rattle.utf8_fields.proofs.Raws.{slice_range-following}
 use Rattle.mime_tree.proofs.Standing.{Stands, AreEnded}
 
 -- a line with its CRLF is the first one, whatever follows
@@ -77,7 +77,7 @@ pub Stands-whole : (octets : List ℕ) → Stands octets 0 octets
 Stands-whole octets = record { before = []; after = []; whole = sym (append-nil octets); place = refl }
 
 pub Stands-slice : (octets : List ℕ) (at : ℕ) (text : List ℕ) → Stands octets at text → slice_range octets at (at + length text) ≡ text
-Stands-slice octets at text is = slice_range-behind octets is.before text is.after at (length text) is.whole is.place refl
+Stands-slice octets at text is = slice_range-following octets is.before text is.after at (length text) is.whole is.place refl
 
 -- octets at a place of joined texts
 move : (a : List ℕ) (at to x : ℕ) → at ≡ to → StandsAt a at x → StandsAt a to x

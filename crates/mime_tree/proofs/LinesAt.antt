@@ -190,9 +190,9 @@ no_mark (line ∷ rest) = refl
 pub IsStop-all : (boundaries : List (List ℕ)) (octets : List ℕ) (from : ℕ) → true ≡ (length boundaries == 0) → from ≤ length octets → IsStop boundaries octets from (record { at = length octets; marked = false })
 IsStop-all (first ∷ boundaries) octets from none fits = absurd (some_left (length boundaries) none)
 IsStop-all [] octets from none fits =
-    let behind : lines_at octets (length octets) ≡ [] = ap lines_of (drop_all (length octets) octets (omega arith)) ∙ lines_of-nil [] refl in
+    let following : lines_at octets (length octets) ≡ [] = ap lines_of (drop_all (length octets) octets (omega arith)) ∙ lines_of-nil [] refl in
     record {
-      lines = behind ∙ sym (after-none [] (lines_at octets from) (no_mark (after [] (lines_at octets from))));
+      lines = following ∙ sym (after-none [] (lines_at octets from) (no_mark (after [] (lines_at octets from))));
       marked = sym (no_mark (lines_at octets (length octets)));
       onward = fits;
       fits = omega arith;

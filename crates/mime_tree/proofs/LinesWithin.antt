@@ -90,8 +90,8 @@ on_by : (octets boundary : List ℕ) (at : ℕ) (passed : List (List ℕ)) (line
 on_by octets boundary at passed line rest true delimiter c d is next onward =
     rw (parts_on-close boundary at passed line rest c) (lines_cut octets at passed (lines_front octets at passed (line ∷ rest) is), tt)
 on_by octets boundary at passed line rest false true c d is next onward =
-    let behind = lines_tail octets (at + size passed) line rest (lines_back octets at passed (line ∷ rest) is) in
-    rw (parts_on-delimiter boundary at passed line rest c d) (lines_cut octets at passed (lines_front octets at passed (line ∷ rest) is), next behind)
+    let following = lines_tail octets (at + size passed) line rest (lines_back octets at passed (line ∷ rest) is) in
+    rw (parts_on-delimiter boundary at passed line rest c d) (lines_cut octets at passed (lines_front octets at passed (line ∷ rest) is), next following)
 on_by octets boundary at passed line rest false false c d is next onward =
     rw (parts_on-on boundary at passed line rest c d) (onward (rw (append_assoc passed (line ∷ []) rest) is))
 
@@ -101,19 +101,19 @@ unfolding parts_on
 parts_on_at octets boundary at passed [] is = (lines_front octets at passed [] is, tt)
 parts_on_at octets boundary at passed (line ∷ rest) is =
     on_by octets boundary at passed line rest (is_close boundary line) (is_delimiter boundary line) refl refl is
-    (λ behind. parts_on_at octets boundary (at + size passed + length line) [] rest behind)
+    (λ following. parts_on_at octets boundary (at + size passed + length line) [] rest following)
     (λ onward. parts_on_at octets boundary at (passed ++ line ∷ []) rest onward)
 
 -- one line before the first part, by what the line is
 of_by : (octets boundary : List ℕ) (at : ℕ) (line : List ℕ) (rest : List (List ℕ)) (delimiter : Bool) → is_delimiter boundary line ≡ delimiter → AreLinesAt octets (at + length line) rest
     → ArePartsAt octets (parts_of boundary (at + length line) rest) → ArePartsAt octets (parts_of boundary at (line ∷ rest))
-of_by octets boundary at line rest true d behind next = rw (parts_of-delimiter boundary at line rest d) (parts_on_at octets boundary (at + length line) [] rest behind)
-of_by octets boundary at line rest false d behind next = rw (parts_of-on boundary at line rest d) next
+of_by octets boundary at line rest true d following next = rw (parts_of-delimiter boundary at line rest d) (parts_on_at octets boundary (at + length line) [] rest following)
+of_by octets boundary at line rest false d following next = rw (parts_of-on boundary at line rest d) next
 
 -- the parts of lines that stand in the octets stand there
 pub parts_of_at : (octets boundary : List ℕ) (at : ℕ) (lines : List (List ℕ)) → AreLinesAt octets at lines → ArePartsAt octets (parts_of boundary at lines)
 unfolding parts_of
 parts_of_at octets boundary at [] is = tt
 parts_of_at octets boundary at (line ∷ rest) is =
-    let behind = lines_tail octets at line rest is in
-    of_by octets boundary at line rest (is_delimiter boundary line) refl behind (parts_of_at octets boundary (at + length line) rest behind)
+    let following = lines_tail octets at line rest is in
+    of_by octets boundary at line rest (is_delimiter boundary line) refl following (parts_of_at octets boundary (at + length line) rest following)

@@ -10,7 +10,7 @@ use Rattle.mime_tree.specs.Openings.{AreFieldsWithin, AreFieldsJoined}
 use Rattle.mime_tree.specs.Outlines.{outline_of, outlines_of}
 use Rattle.mime_tree.specs.Tree.{raws_of}
 use Rattle.mime_tree.specs.Rewriting.{FieldRelation, KeepsTrees, AreSame, next_entity_place, blocks_of, size_before, sizes_before, moved, moved_outline}
-use Rattle.mime_tree.proofs.Standing.{AreInOrder, IsBehind, AreBehind, AreKept}
+use Rattle.mime_tree.proofs.Standing.{AreInOrder, IsAfter, AreAfter, AreKept}
 use Rattle.mime_tree.proofs.FieldsWithin.{IsFieldWithin}
 use Rattle.mime_tree.proofs.TreeFields.{HasBlockWithin}
 use Rattle.mime_tree.proofs.NewEntities.{slice_length}
@@ -79,12 +79,12 @@ none_yet octets from (entity ∷ entities) made made_from (other ∷ others) pla
     }
 
 -- none behind a place that the next entity isn't before
-none_behind : (octets : List ℕ) (from to : ℕ) (entities : List Entity) (made : List ℕ) (made_from : ℕ) (others : List Entity) (place : ℕ) → AreMoving octets from entities made made_from others
+none_following : (octets : List ℕ) (from to : ℕ) (entities : List Entity) (made : List ℕ) (made_from : ℕ) (others : List Entity) (place : ℕ) → AreMoving octets from entities made made_from others
     → place ≤ next_entity_place to entities → CountsNone octets entities made others place
-none_behind octets from to [] made made_from [] place are less = record { old = refl; new = refl }
-none_behind octets from to [] made made_from (other ∷ others) place are less = absurd are
-none_behind octets from to (entity ∷ entities) made made_from [] place are less = absurd are
-none_behind octets from to (entity ∷ entities) made made_from (other ∷ others) place are less =
+none_following octets from to [] made made_from [] place are less = record { old = refl; new = refl }
+none_following octets from to [] made made_from (other ∷ others) place are less = absurd are
+none_following octets from to (entity ∷ entities) made made_from [] place are less = absurd are
+none_following octets from to (entity ∷ entities) made made_from (other ∷ others) place are less =
     let gap = are.0.gap in
     let low = are.0.low in
     none_yet octets entity.at (entity ∷ entities) made other.at (other ∷ others) place
@@ -108,25 +108,25 @@ met_before octets from entity entities made made_from other others place made_pl
     }
 
 met_here : (octets : List ℕ) (from to : ℕ) (entity : Entity) (entities : List Entity) (made : List ℕ) (made_from : ℕ) (other : Entity) (others : List Entity) (place made_place : ℕ)
-    → IsMoving octets from entity made made_from other → AreMoving octets entity.block.end entities made other.block.end others → IsBehind entity place (next_entity_place to entities) other made_place
+    → IsMoving octets from entity made made_from other → AreMoving octets entity.block.end entities made other.block.end others → IsAfter entity place (next_entity_place to entities) other made_place
     → IsMet octets from (entity ∷ entities) made made_from (other ∷ others) place made_place
-met_here octets from to entity entities made made_from other others place made_place is are behind =
-    let none = none_behind octets entity.block.end to entities made other.block.end others place are behind.high in
-    met_before octets from entity entities made made_from other others place made_place is (record { low = behind.low; meets = omega (arith, none.old, none.new, behind.same) })
+met_here octets from to entity entities made made_from other others place made_place is are following =
+    let none = none_following octets entity.block.end to entities made other.block.end others place are following.high in
+    met_before octets from entity entities made made_from other others place made_place is (record { low = following.low; meets = omega (arith, none.old, none.new, following.same) })
 
-met_behind : (octets : List ℕ) (from to : ℕ) (entities : List Entity) (made : List ℕ) (made_from : ℕ) (others : List Entity) (place made_place : ℕ) → AreMoving octets from entities made made_from others
-    → AreBehind to place entities made_place others → IsMet octets from entities made made_from others place made_place
-met_behind octets from to [] made made_from others place made_place are behind = absurd behind
-met_behind octets from to (entity ∷ entities) made made_from [] place made_place are behind = absurd behind
-met_behind octets from to (entity ∷ entities) made made_from (other ∷ others) place made_place are (inl is) =
+met_after : (octets : List ℕ) (from to : ℕ) (entities : List Entity) (made : List ℕ) (made_from : ℕ) (others : List Entity) (place made_place : ℕ) → AreMoving octets from entities made made_from others
+    → AreAfter to place entities made_place others → IsMet octets from entities made made_from others place made_place
+met_after octets from to [] made made_from others place made_place are following = absurd following
+met_after octets from to (entity ∷ entities) made made_from [] place made_place are following = absurd following
+met_after octets from to (entity ∷ entities) made made_from (other ∷ others) place made_place are (inl is) =
     met_here octets from to entity entities made made_from other others place made_place are.0 are.1 is
-met_behind octets from to (entity ∷ entities) made made_from (other ∷ others) place made_place are (inr is) =
-    met_before octets from entity entities made made_from other others place made_place are.0 (met_behind octets entity.block.end to entities made other.block.end others place made_place are.1 is)
+met_after octets from to (entity ∷ entities) made made_from (other ∷ others) place made_place are (inr is) =
+    met_before octets from entity entities made made_from other others place made_place are.0 (met_after octets entity.block.end to entities made other.block.end others place made_place are.1 is)
 
 met_begin : (octets : List ℕ) (from : ℕ) (entity : Entity) (entities : List Entity) (made : List ℕ) (made_from : ℕ) (other : Entity) (others : List Entity)
     → AreMoving octets from (entity ∷ entities) made made_from (other ∷ others) → IsMet octets from (entity ∷ entities) made made_from (other ∷ others) entity.at other.at
 met_begin octets from entity entities made made_from other others are =
-    let none = none_behind octets from 0 (entity ∷ entities) made made_from (other ∷ others) entity.at are (omega arith) in
+    let none = none_following octets from 0 (entity ∷ entities) made made_from (other ∷ others) entity.at are (omega arith) in
     record { low = are.0.low; meets = omega (arith, are.0.gap, none.old, none.new) }
 
 -- the three places of an entity
@@ -164,7 +164,7 @@ all_met IsMade octets from to (entity ∷ entities) made made_from made_to (othe
     same = rw (kept.0.same.parent, kept.0.same.depth, kept.0.same.shape) refl;
     at = met_begin octets from entity entities made made_from other others moving;
     body = met_here octets from to entity entities made made_from other others entity.body other.body moving.0 moving.1 kept.0.body;
-    end = met_behind octets from to (entity ∷ entities) made made_from (other ∷ others) entity.end other.end moving kept.0.end;
+    end = met_after octets from to (entity ∷ entities) made made_from (other ∷ others) entity.end other.end moving kept.0.end;
   },
   mets_before octets from entity entities made made_from other others entities others moving.0 (all_met IsMade octets entity.block.end to entities made other.block.end made_to others moving.1 kept.1),
 )
@@ -214,7 +214,7 @@ moving IsMade octets keeps from to (entity ∷ entities) made made_from made_to 
     let made_block = All-head (HasBlockWithin made) other others made_blocks in
     let next = next_after entity.block.end to entities order.2 in
     let made_next = next_after other.block.end made_to others made_order.2 in
-    let sizes = sym (slice_length made other.block.end (next_entity_place made_to others) made_next.0 (omega (arith, made_next.1))) ∙ ap length kept.0.same.behind
+    let sizes = sym (slice_length made other.block.end (next_entity_place made_to others) made_next.0 (omega (arith, made_next.1))) ∙ ap length kept.0.same.following
     ∙ slice_length octets entity.block.end (next_entity_place to entities) next.0 (omega (arith, next.1)) in
     let low = next.0 in
     let made_low = made_next.0 in (

@@ -276,11 +276,11 @@ moved_with octets new parent depth at lines entities is front fields middle new_
 IsNamedOther : List ℕ → List ℕ → Type 0
 IsNamedOther name raw = (f : FieldParts) × HasParts raw f × (same_name f.name name ≡ false)
 
-value_behind : (name : List ℕ) (front raws : List (List ℕ)) (value : Option (List ℕ)) → AllByRecursion (IsNamedOther name) front → IsFirstValue name raws value → IsFirstValue name (front ++ raws) value
+value_after : (name : List ℕ) (front raws : List (List ℕ)) (value : Option (List ℕ)) → AllByRecursion (IsNamedOther name) front → IsFirstValue name raws value → IsFirstValue name (front ++ raws) value
 unfolding IsNamedOther
-value_behind name [] raws value others is = is
-value_behind name (raw ∷ front) raws value others is =
-    let later = value_behind name front raws value others.1 is in
+value_after name [] raws value others is = is
+value_after name (raw ∷ front) raws value others is =
+    let later = value_after name front raws value others.1 is in
     let f : FieldParts = others.0.0 in
     (f, others.0.1, subst (λ b. IsValueWhere b f.body (IsFirstValue name (front ++ raws)) value) (sym others.0.2) later)
 
@@ -296,16 +296,16 @@ no_encoding_named : (raw : List ℕ) → IsOtherField raw → IsNamedOther (code
 unfolding IsNamedOther
 no_encoding_named raw is = (is.f, is.is_field, is.no_encoding)
 
-by_fields_behind : (digest : Bool) (front raws : List (List ℕ)) (opening : Opening) → AllByRecursion IsOtherField front → OpensByFields digest raws opening → OpensByFields digest (front ++ raws) opening
-by_fields_behind digest front raws opening others is = (is.0, value_behind (codes "Content-Type") front raws is.0 (all_named (codes "Content-Type") no_type_named front others) is.1, is.2)
+by_fields_after : (digest : Bool) (front raws : List (List ℕ)) (opening : Opening) → AllByRecursion IsOtherField front → OpensByFields digest raws opening → OpensByFields digest (front ++ raws) opening
+by_fields_after digest front raws opening others is = (is.0, value_after (codes "Content-Type") front raws is.0 (all_named (codes "Content-Type") no_type_named front others) is.1, is.2)
 
 -- an entity is opened so behind fields of other names too
-opens_behind : (digest : Bool) (front raws : List (List ℕ)) (opening : Opening) → AllByRecursion IsOtherField front → Opens digest raws opening → Opens digest (front ++ raws) opening
-opens_behind digest front raws opening others is = record {
+opens_after : (digest : Bool) (front raws : List (List ℕ)) (opening : Opening) → AllByRecursion IsOtherField front → Opens digest raws opening → Opens digest (front ++ raws) opening
+opens_after digest front raws opening others is = record {
   encoding = is.encoding;
-  is_encoding = value_behind (codes "Content-Transfer-Encoding") front raws is.encoding (all_named (codes "Content-Transfer-Encoding") no_encoding_named front others) is.is_encoding;
+  is_encoding = value_after (codes "Content-Transfer-Encoding") front raws is.encoding (all_named (codes "Content-Transfer-Encoding") no_encoding_named front others) is.is_encoding;
   opened = elim is.opened [
-    | inl identity ↦ inl (identity.0, by_fields_behind digest front raws opening others identity.1)
+    | inl identity ↦ inl (identity.0, by_fields_after digest front raws opening others identity.1)
     | inr encoded ↦ inr encoded
   ];
 }
@@ -328,7 +328,7 @@ front_entity (suc levels) octets new front fields middle parent digest number at
     let step : Moves octets new (IsEntity levels octets) (IsEntity levels new) =
     λ p d n a new_a ls es e o s. front_entity levels octets new [] [] new_a p d n a new_a ls es (refl, refl) tt e o s in
     let inside = moved_opened octets new (IsEntity levels octets) (IsEntity levels new) step is.1 number is.0.entity.body moved.other.body is.0.content is.0.entity.shape is.0.inner is.3 moved.old_stands moved.new_stands in
-    let opens = opens_behind digest (map (raw_of new) fields) (raws_of octets is.0.entity.block) is.1 others is.2 in
+    let opens = opens_after digest (map (raw_of new) fields) (raws_of octets is.0.entity.block) is.1 others is.2 in
     let count : length entities ≡ suc (length is.0.inner) = ap length is.0.entities_are in
     record {
       others = moved.other ∷ inside.others;

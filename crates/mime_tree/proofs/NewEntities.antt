@@ -19,7 +19,7 @@ use Rattle.mime_tree.specs.Openings.{Opens}
 use Rattle.mime_tree.specs.Tree.{HasHead, IsWithInner, IsOpened, IsEntity, raws_of, depth_max}
 use Rattle.mime_tree.specs.Rewriting.{FieldRelation, RewritesBlocks, KeepsTrees, IsSameEntity, next_entity_place}
 use Rattle.mime_tree.proofs.Heads.{fields_size}
-use Rattle.mime_tree.proofs.Standing.{Stands, AreEnded, IsUnmarked, AreUnmarked, HasNewBlock, AreInOrder, AreBehind, AreKept}
+use Rattle.mime_tree.proofs.Standing.{Stands, AreEnded, IsUnmarked, AreUnmarked, HasNewBlock, AreInOrder, AreAfter, AreKept}
 use Rattle.mime_tree.proofs.NewBlocks.{new_block}
 use Rattle.mime_tree.proofs.InOrder.{split_blocks, slices_join, head_places}
 use Rattle.mime_tree.proofs.LinesAgain.{AreEnded-front, AreLines-ended, Stands-front, Stands-back, Stands-slice}
@@ -178,7 +178,7 @@ cut_entity IsMade octets new keeps parent depth at lines entities made new_at is
 
 -- what was made of a content, with the entities in it
 pub record IsKeptInside (IsMade : FieldRelation) (octets : List ℕ) (body : ℕ) (content : List (List ℕ)) (inner : List Entity) (new : List ℕ) (new_body : ℕ) (made : List ℕ) (others : List Entity) : Type 0 where
-  pub behind : slice_range new new_body (next_entity_place (new_body + length made) others) ≡ slice_range octets body (next_entity_place (body + size content) inner)
+  pub following : slice_range new new_body (next_entity_place (new_body + length made) others) ≡ slice_range octets body (next_entity_place (body + size content) inner)
   pub old_order : AreInOrder body (body + size content) inner
   pub order : AreInOrder new_body (new_body + length made) others
   pub same : AreKept IsMade octets (body + size content) inner new (new_body + length made) others
@@ -233,9 +233,9 @@ next_after from to [] order = order
 next_after from to (entity ∷ entities) order = order.0
 
 -- what stands behind a block, up to the next entity
-behind_by : (octets new : List ℕ) (end body next new_end new_body new_next : ℕ) → end ≤ body → body ≤ next → new_end ≤ new_body → new_body ≤ new_next
+following_by : (octets new : List ℕ) (end body next new_end new_body new_next : ℕ) → end ≤ body → body ≤ next → new_end ≤ new_body → new_body ≤ new_next
     → slice_range new new_end new_body ≡ slice_range octets end body → slice_range new new_body new_next ≡ slice_range octets body next → slice_range new new_end new_next ≡ slice_range octets end next
-behind_by octets new end body next new_end new_body new_next a b c d first second =
+following_by octets new end body next new_end new_body new_next a b c d first second =
     slices_join new new_end new_body new_next c d ∙ ap (λ text. text ++ slice_range new new_body new_next) first ∙ ap (λ text. slice_range octets end body ++ text) second ∙ sym (slices_join octets end body next a b)
 
 -- where there is none inside, there is none in the other one
@@ -254,16 +254,16 @@ pub slice_length : (octets : List ℕ) (from to : ℕ) → from ≤ to → to �
 slice_length octets from to order fits = length-take-le (to - from) (drop from octets) (omega (arith, length-drop from octets))
 
 -- where all ends both are as far behind the last blocks
-behind_last : (IsMade : FieldRelation) (octets : List ℕ) (to : ℕ) (entity : Entity) (inner : List Entity) (new : List ℕ) (new_to : ℕ) (other : Entity) (others : List Entity) → to ≤ length octets → new_to ≤ length new
+after_last : (IsMade : FieldRelation) (octets : List ℕ) (to : ℕ) (entity : Entity) (inner : List Entity) (new : List ℕ) (new_to : ℕ) (other : Entity) (others : List Entity) → to ≤ length octets → new_to ≤ length new
     → AreInOrder entity.block.end to inner → AreInOrder other.block.end new_to others → slice_range new other.block.end (next_entity_place new_to others) ≡ slice_range octets entity.block.end (next_entity_place to inner)
-    → AreKept IsMade octets to inner new new_to others → AreBehind to to (entity ∷ inner) new_to (other ∷ others)
-behind_last IsMade octets to entity [] new new_to other [] fits new_fits order new_order behind kept =
-    let sizes = sym (slice_length new other.block.end new_to new_order new_fits) ∙ ap length behind ∙ slice_length octets entity.block.end to order fits in
+    → AreKept IsMade octets to inner new new_to others → AreAfter to to (entity ∷ inner) new_to (other ∷ others)
+after_last IsMade octets to entity [] new new_to other [] fits new_fits order new_order following kept =
+    let sizes = sym (slice_length new other.block.end new_to new_order new_fits) ∙ ap length following ∙ slice_length octets entity.block.end to order fits in
     inl (record { low = order; high = omega arith; same = omega arith })
-behind_last IsMade octets to entity [] new new_to other (next ∷ others) fits new_fits order new_order behind kept = absurd kept
-behind_last IsMade octets to entity (next ∷ inner) new new_to other [] fits new_fits order new_order behind kept = absurd kept
-behind_last IsMade octets to entity (next ∷ inner) new new_to other (again ∷ others) fits new_fits order new_order behind kept =
-    inr (behind_last IsMade octets to next inner new new_to again others fits new_fits order.2 new_order.2 kept.0.same.behind kept.1)
+after_last IsMade octets to entity [] new new_to other (next ∷ others) fits new_fits order new_order following kept = absurd kept
+after_last IsMade octets to entity (next ∷ inner) new new_to other [] fits new_fits order new_order following kept = absurd kept
+after_last IsMade octets to entity (next ∷ inner) new new_to other (again ∷ others) fits new_fits order new_order following kept =
+    inr (after_last IsMade octets to next inner new new_to again others fits new_fits order.2 new_order.2 kept.0.same.following kept.1)
 
 none_of : lines_of [] ≡ []
 unfolding lines_of
@@ -296,9 +296,9 @@ new_entity IsMade octets new parent depth at lines entities made new_at is cut o
     let new_to : new_body + length cut.inside ≡ new_at + length made = omega arith in
     let old_to = places.whole in
     let other : Entity = record { parent = parent; depth = depth; at = new_at; body = new_body; end = new_at + size new_lines; shape = is.entity.shape; block = record { fields = block.fields; end = block.end } } in
-    let behind : slice_range new new_body (next_entity_place (new_at + length made) others) ≡ slice_range octets is.entity.body (next_entity_place (at + size lines) is.inner) =
+    let following : slice_range new new_body (next_entity_place (new_at + length made) others) ≡ slice_range octets is.entity.body (next_entity_place (at + size lines) is.inner) =
     subst (λ n. slice_range new new_body (next_entity_place n others) ≡ slice_range octets is.entity.body (next_entity_place (at + size lines) is.inner)) new_to
-    (subst (λ n. slice_range new new_body (next_entity_place (new_body + length cut.inside) others) ≡ slice_range octets is.entity.body (next_entity_place n is.inner)) old_to kept.behind) in
+    (subst (λ n. slice_range new new_body (next_entity_place (new_body + length cut.inside) others) ≡ slice_range octets is.entity.body (next_entity_place n is.inner)) old_to kept.following) in
     let old_order : AreInOrder is.entity.body (at + size lines) is.inner = subst (λ n. AreInOrder is.entity.body n is.inner) old_to kept.old_order in
     let order : AreInOrder new_body (new_at + length made) others = subst (λ n. AreInOrder new_body n others) new_to kept.order in
     let same : AreKept IsMade octets (at + size lines) is.inner new (new_at + length made) others =
@@ -309,21 +309,21 @@ new_entity IsMade octets new parent depth at lines entities made new_at is cut o
       depth = sym is.depth_is;
       shape = refl;
       fields = subst (AllZip (IsMade is.entity) (raws_of octets is.entity.block)) (sym block.raws) cut.zip;
-      behind = behind_by octets new is.entity.block.end is.entity.body (next_entity_place (at + size lines) is.inner) block.end new_body (next_entity_place (new_at + length made) others) places.content_after
-          (next_after is.entity.body (at + size lines) is.inner old_order) (omega arith) (next_after new_body (new_at + length made) others order) new_gap behind;
+      following = following_by octets new is.entity.block.end is.entity.body (next_entity_place (at + size lines) is.inner) block.end new_body (next_entity_place (new_at + length made) others) places.content_after
+          (next_after is.entity.body (at + size lines) is.inner old_order) (omega arith) (next_after new_body (new_at + length made) others order) new_gap following;
       content = λ shape.
           let none = leaf shape in
-          let alone = leaf_by IsMade octets new is.entity.body (at + size lines) new_body (new_at + length made) is.inner others none (no_others IsMade octets new (at + size lines) (new_at + length made) is.inner others none same) behind in
+          let alone = leaf_by IsMade octets new is.entity.body (at + size lines) new_body (new_at + length made) is.inner others none (no_others IsMade octets new (at + size lines) (new_at + length made) is.inner others none same) following in
           ap (λ text. slice_range new new_body (new_at + length text)) whole ∙ alone ∙ ap (λ n. slice_range octets is.entity.body n) (sym is.end_is);
     } in
     let old_fits = stands_within octets is.entity.body (concat is.content) cut.content_stands in
     let new_fits = stands_within new new_body cut.inside cut.new_stands in
     let old_first = next_after is.entity.body (at + size lines) is.inner old_order in
-    let last = behind_last IsMade octets (at + size lines) is.entity is.inner new (new_at + length made) other others (omega arith) (omega arith)
-    (order_from is.entity.block.end is.entity.body (at + size lines) is.inner places.content_after old_order) (order_from block.end new_body (new_at + length made) others (omega arith) order) same_entity.behind same in
-    let same_end : AreBehind (at + size lines) is.entity.end (is.entity ∷ is.inner) other.end (other ∷ others) =
-    subst (λ n. AreBehind (at + size lines) n (is.entity ∷ is.inner) other.end (other ∷ others)) (sym is.end_is)
-    (subst (λ n. AreBehind (at + size lines) (at + size lines) (is.entity ∷ is.inner) (new_at + n) (other ∷ others)) (sym (ap length whole)) last) in
+    let last = after_last IsMade octets (at + size lines) is.entity is.inner new (new_at + length made) other others (omega arith) (omega arith)
+    (order_from is.entity.block.end is.entity.body (at + size lines) is.inner places.content_after old_order) (order_from block.end new_body (new_at + length made) others (omega arith) order) same_entity.following same in
+    let same_end : AreAfter (at + size lines) is.entity.end (is.entity ∷ is.inner) other.end (other ∷ others) =
+    subst (λ n. AreAfter (at + size lines) n (is.entity ∷ is.inner) other.end (other ∷ others)) (sym is.end_is)
+    (subst (λ n. AreAfter (at + size lines) (at + size lines) (is.entity ∷ is.inner) (new_at + n) (other ∷ others)) (sym (ap length whole)) last) in
     record {
       new_lines = new_lines;
       other = other;
@@ -352,6 +352,6 @@ new_entity IsMade octets new parent depth at lines entities made new_at is cut o
         → AllByRecursion P (cut.block.lines ++ new_rest is.head.has_block.rest (lines_of cut.inside))
     all_new P front inner all =
         let both = subst (AllByRecursion P) is.head.has_block.lines all in
-        let behind = all-back P is.head.has_block.header is.head.has_block.rest both in
+        let following = all-back P is.head.has_block.header is.head.has_block.rest both in
         all-append P cut.block.lines (new_rest is.head.has_block.rest (lines_of cut.inside)) (front (all-front P is.head.has_block.header is.head.has_block.rest both))
-        (rest-all P is.head.has_block.rest (lines_of cut.inside) behind (inner (subst (AllByRecursion P) (sym is.head.content_is) (drop-all P is.head.has_block.rest behind))))
+        (rest-all P is.head.has_block.rest (lines_of cut.inside) following (inner (subst (AllByRecursion P) (sym is.head.content_is) (drop-all P is.head.has_block.rest following))))

@@ -16,7 +16,7 @@ use Rattle.param_grammar.specs.declared.places.Place.{Place}
 use Rattle.param_grammar.specs.declared.role.Placed.{Placed}
 use Rattle.param_grammar.specs.declared.role.Role.{Role}
 use Rattle.param_grammar.specs.declared.role.Role.TheVariants.{Begins}
-use Rattle.param_grammar.specs.Joining.{ParamValue, HasSaidBody, IsRole, goes_on, params_behind, params_of, unit_at}
+use Rattle.param_grammar.specs.Joining.{ParamValue, HasSaidBody, IsRole, goes_on, params_after, params_of, unit_at}
 use Rattle.param_grammar.specs.Placed.{HasPlaced, HasBodyAt}
 use Rattle.param_grammar.specs.Places.{IsPlaced, no_piece, piece_in}
 use Rattle.param_grammar.proofs.PlaceLemmas.{ArePlaced-at, ArePlaced-length}
@@ -29,15 +29,15 @@ use Rattle.mime_tree.proofs.PlainNames.{other_length}
 
 -- what the parameters from a piece on say of a boundary is what all say
 pub record GoesOnFor (pieces : List Piece) (k : ℕ) : Type 0 where
-  pub same : boundary_in (params_of pieces) ≡ boundary_in (params_behind pieces (take k pieces) (drop k pieces))
+  pub same : boundary_in (params_of pieces) ≡ boundary_in (params_after pieces (take k pieces) (drop k pieces))
 
 -- whether a piece begins the parameter
 abbrev begins : List Piece → ℕ → Bool
 begins pieces k = not (goes_on (take k pieces) (piece_in pieces k)) && bytes_eq (piece_in pieces k).base (codes "boundary")
 
 boundary_at : (pieces : List Piece) (k : ℕ) → k < length pieces
-    → boundary_in (params_behind pieces (take k pieces) (drop k pieces)) ≡ boundary_in (params_behind pieces (take k pieces) (piece_in pieces k ∷ drop (k + 1) pieces))
-boundary_at pieces k below = ap (λ rest. boundary_in (params_behind pieces (take k pieces) rest)) (drop_more pieces k no_piece below)
+    → boundary_in (params_after pieces (take k pieces) (drop k pieces)) ≡ boundary_in (params_after pieces (take k pieces) (piece_in pieces k ∷ drop (k + 1) pieces))
+boundary_at pieces k below = ap (λ rest. boundary_in (params_after pieces (take k pieces) rest)) (drop_more pieces k no_piece below)
 
 named_first : (g : Bool) (param : ParamValue) (params : List ParamValue) → (not g && bytes_eq param.name (codes "boundary")) ≡ true
     → boundary_in (if g then params else param ∷ params) ≡ Some param.unit
@@ -57,18 +57,18 @@ param_at pieces k = record { name = (piece_in pieces k).base; unit = unit_at pie
 pub boundary-here : (pieces : List Piece) (k : ℕ) → GoesOnFor pieces k → k < length pieces → begins pieces k ≡ true → boundary_in (params_of pieces) ≡ Some (unit_at pieces (piece_in pieces k))
 boundary-here pieces k goes below is =
     goes.same ∙ boundary_at pieces k below
-    ∙ named_first (goes_on (take k pieces) (piece_in pieces k)) (param_at pieces k) (params_behind pieces (take k pieces ++ piece_in pieces k ∷ []) (drop (k + 1) pieces)) is
+    ∙ named_first (goes_on (take k pieces) (piece_in pieces k)) (param_at pieces k) (params_after pieces (take k pieces ++ piece_in pieces k ∷ []) (drop (k + 1) pieces)) is
 
 pub boundary-later : (pieces : List Piece) (k : ℕ) → GoesOnFor pieces k → k < length pieces → begins pieces k ≡ false → GoesOnFor pieces (k + 1)
 boundary-later pieces k goes below other = record {
   same = goes.same ∙ boundary_at pieces k below
-      ∙ named_later (goes_on (take k pieces) (piece_in pieces k)) (param_at pieces k) (params_behind pieces (take k pieces ++ piece_in pieces k ∷ []) (drop (k + 1) pieces)) other
-      ∙ ap (λ before. boundary_in (params_behind pieces before (drop (k + 1) pieces))) (sym (take_more pieces k no_piece below));
+      ∙ named_later (goes_on (take k pieces) (piece_in pieces k)) (param_at pieces k) (params_after pieces (take k pieces ++ piece_in pieces k ∷ []) (drop (k + 1) pieces)) other
+      ∙ ap (λ before. boundary_in (params_after pieces before (drop (k + 1) pieces))) (sym (take_more pieces k no_piece below));
 }
 
 pub boundary-none : (pieces : List Piece) (k : ℕ) → GoesOnFor pieces k → length pieces ≤ k → boundary_in (params_of pieces) ≡ None
 unfolding boundary_in
-boundary-none pieces k goes past = goes.same ∙ ap (λ rest. boundary_in (params_behind pieces (take k pieces) rest)) (drop_of_length-le pieces past)
+boundary-none pieces k goes past = goes.same ∙ ap (λ rest. boundary_in (params_after pieces (take k pieces) rest)) (drop_of_length-le pieces past)
 
 -- the number of a place is that of a piece
 pub piece_below : (text : List ℕ) (placed : Placed) (pieces : List Piece) (k : ℕ) → HasPlaced text placed pieces → k < length placed.places.items → k < length pieces

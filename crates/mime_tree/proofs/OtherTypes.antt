@@ -65,14 +65,14 @@ main_begins : (text : List ℕ) (x : ℕ) (after : List ℕ) → text ≡ x ∷ 
 main_begins text x after is high [] are first others sections main = absurd (no_main text first others [] sections main)
 main_begins text x after is high (t ∷ ts) are first others sections main =
     let token : Token = record { kind = t.kind; span = record { at = 0; len = length t.octets } } in
-    let behind : List Token = tokens_from (0 + length t.octets) ts in
+    let following : List Token = tokens_from (0 + length t.octets) ts in
     let p = is_mark_at text 59 in
     let begins = first_token x t.kind after t.octets are.0 high (sym is ∙ are.1) are.2 in
     let own : octets_at text token.span ≡ x ∷ begins.more = ap (λ all. take (length t.octets) all) are.1 ∙ take-append_seam t.octets are.0 ∙ begins.octets_are in
     elim (cases_Bool (p token)) [
-      | inl ends ↦ absurd (no_main text first others (slice_split p behind) (sym (slice_split-cons_yes p token behind ends) ∙ sections) main)
+      | inl ends ↦ absurd (no_main text first others (slice_split p following) (sym (slice_split-cons_yes p token following ends) ∙ sections) main)
       | inr goes ↦
-          let part = first_part token (slice_split p behind) first others (sym (slice_split-cons_no p token behind goes) ∙ sections) in
+          let part = first_part token (slice_split p following) first others (sym (slice_split-cons_no p token following goes) ∙ sections) in
           let solids : solid (token ∷ part.0) ≡ token ∷ solid part.0 = rw (begins.solid_kind) refl in (
             begins.more ++ run_octets text (solid part.0),
             ap (λ f. run_octets text (solid f)) part.1 ∙ ap (run_octets text) solids ∙ ap (λ octets. octets ++ run_octets text (solid part.0)) own,

@@ -1,6 +1,7 @@
 -- Delimiter lines and close lines (RFC 2046, 5.1.1).
 use Rattle.std.specs.Prelude.{ℕ, List, [], ◌∷◌, ◌++◌, Bool, ◌&&◌, if◌then◌else◌, length, drop, nat_eq}
 use Rattle.std.specs.List.{starts_with, list_all}
+use Rattle.mail_wire.specs.Characters.{dash}
 use Rattle.mail_wire.specs.Lines.{is_crlf}
 use Rattle.mail_wire.specs.Octets.{is_white}
 
@@ -12,7 +13,7 @@ text_of (x ∷ y ∷ rest) = if is_crlf x y then [] else x ∷ text_of (y ∷ re
 
 -- two hyphens
 abbrev pub dashes : List ℕ
-dashes = 45 ∷ 45 ∷ []
+dashes = dash ∷ dash ∷ []
 
 -- these octets, and then white only
 abbrev pub is_padded : List ℕ → List ℕ → Bool

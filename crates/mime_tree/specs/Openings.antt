@@ -2,6 +2,7 @@
 use Rattle.std.specs.Prelude.{◌≡◌, ℕ, ◌+◌, ◌-◌, ◌≤◌, ◌⊎◌, List, [], ◌∷◌, Bool, true, false, ◌&&◌, ◌||◌, ◌==◌, not, if◌then◌else◌, length, slice_index, nat_eq, nat_le, codes, Option, Some, None, ⊤}
 use Rattle.std.specs.List.{All, starts_with, list_all}
 use Rattle.std.specs.Str.{bytes_eq}
+use Rattle.mail_wire.specs.Characters.{space, equals_sign, question_mark, underscore}
 use Rattle.mail_wire.specs.Lines.{crlf}
 use Rattle.mail_wire.specs.Message.{IsNul}
 use Rattle.mail_wire.specs.Octets.{same_name}
@@ -29,7 +30,7 @@ is_digit_or_sign x = (nat_le 39 x && nat_le x 41) || (nat_le 43 x && nat_le x 58
 
 -- a space or one of =?_
 abbrev pub is_other_sign : ℕ → Bool
-is_other_sign x = (x == 32 || x == 61) || (x == 63 || x == 95)
+is_other_sign x = (x == space || x == equals_sign) || (x == question_mark || x == underscore)
 
 -- An octet that may stand in a boundary: bchars (RFC 2046, 5.1.1).
 abbrev pub is_boundary_octet : ℕ → Bool
@@ -37,7 +38,7 @@ is_boundary_octet x = is_letter x || is_digit_or_sign x || is_other_sign x
 
 -- 1 to 70 of these octets, the last of them no space
 unfoldable pub is_usable : List ℕ → Bool
-is_usable boundary = nat_le 1 (length boundary) && (nat_le (length boundary) 70 && (list_all is_boundary_octet boundary && not (slice_index boundary (length boundary - 1) == 32)))
+is_usable boundary = nat_le 1 (length boundary) && (nat_le (length boundary) 70 && (list_all is_boundary_octet boundary && not (slice_index boundary (length boundary - 1) == space)))
 
 -- A message inside another one: message/rfc822 (RFC 2046, 5.2.1) or message/global (RFC 6532, 3.7).
 abbrev pub is_message_type : List ℕ → Bool

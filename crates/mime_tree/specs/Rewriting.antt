@@ -49,7 +49,7 @@ pub record IsSameEntity (IsMade : FieldRelation) (octets : List ℕ) (entity : E
   pub depth : other.depth ≡ entity.depth
   pub shape : other.shape ≡ entity.shape
   pub fields : AllZip (IsMade entity) (raws_of octets entity.block) (raws_of made other.block)
-  pub behind : slice_range made other.block.end other_next ≡ slice_range octets entity.block.end next
+  pub following : slice_range made other.block.end other_next ≡ slice_range octets entity.block.end next
   pub content : entity.shape ≡ Leaf → slice_range made other.body other.end ≡ slice_range octets entity.body entity.end
 
 -- The entities of the octets and those of the made octets, in order.

@@ -27,9 +27,9 @@ token_alike style Comment octets x y alike is = is
 token_alike style Quoted octets x y alike is = is
 token_alike style Literal octets x y alike is = is
 
-alike_behind : (style : Style) (octets x y : List ℕ) → EndsAlike style x y → EndsAlike style (octets ++ x) (octets ++ y)
-alike_behind style [] x y alike = alike
-alike_behind style (b ∷ octets) x y alike = record { gap = λ s. s; atom = λ s. s }
+alike_after : (style : Style) (octets x y : List ℕ) → EndsAlike style x y → EndsAlike style (octets ++ x) (octets ++ y)
+alike_after style [] x y alike = alike
+alike_after style (b ∷ octets) x y alike = record { gap = λ s. s; atom = λ s. s }
 
 abbrev pub atom_of : List ℕ → TokenValue
 atom_of octets = record { kind = Atom; octets = octets }
@@ -64,7 +64,7 @@ atom_changed style (t ∷ front) rest old new text stands are =
     record {
       changed = t.octets ++ more.changed;
       are_tokens = (more.changed, refl, token_alike style t.kind t.octets are.0 more.changed more.alike are.2, more.are_tokens);
-      alike = subst (λ x. EndsAlike style x (t.octets ++ more.changed)) (sym are.1) (alike_behind style t.octets are.0 more.changed more.alike);
+      alike = subst (λ x. EndsAlike style x (t.octets ++ more.changed)) (sym are.1) (alike_after style t.octets are.0 more.changed more.alike);
     }
 
 -- ---- places

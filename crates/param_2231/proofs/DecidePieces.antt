@@ -20,7 +20,7 @@ use Rattle.param_grammar.specs.Names.{leads_with_zero, IsNumber, NameParts, IsBa
 use Rattle.param_grammar.specs.Bodies.{is_mark_at, are_quoted, are_plain, is_parameter, is_main, is_filled, solid, sections_of, value_content, is_first, SaysOctets, IsParameterOf, IsPieceOf, IsPiece, ArePieces, IsBody}
 use Rattle.param_grammar.proofs.EscapeLemmas.{ReadsTo, ReadsTo-none, ReadsTo-push, IsEscaped-read, not-IsEscaped, BeginsEscaped-plain, BeginsEscaped-escape}
 use Rattle.param_grammar.proofs.ExtendedLemmas.{not-IsExtended-first, not-IsExtended-second, not-IsExtended-charset}
-use Rattle.param_grammar.proofs.NameLemmas.{not-HasSuffix, HasNameParts-once, HasNameParts-made, not-HasNameParts-base, not-HasNameParts-behind}
+use Rattle.param_grammar.proofs.NameLemmas.{not-HasSuffix, HasNameParts-once, HasNameParts-made, not-HasNameParts-base, not-HasNameParts-following}
 use Rattle.param_grammar.proofs.ReadLemmas.{not-SaysOctets-text}
 use Rattle.param_grammar.proofs.BodyLemmas.{piece_moved}
 use Rattle.param_grammar.proofs.PlaceLemmas.{not-IsPiece-sides}
@@ -183,7 +183,7 @@ decide_name name = elim (cut_at 42 name) [
   | inl c ↦ elim (decide_base c.0) [
     | inr other ↦ inr (not-HasNameParts-base name c.0 (Some c.1) c.2.whole c.2.first other)
     | inl is ↦ elim (decide_suffix c.1) [
-      | inr none ↦ inr (not-HasNameParts-behind name c.0 (Some c.1) c.2.whole c.2.first none)
+      | inr none ↦ inr (not-HasNameParts-following name c.0 (Some c.1) c.2.whole c.2.first none)
       | inl s ↦ inl (parts c.0 s.0 s.1, HasNameParts-made name c.0 (Some c.1) s.0 s.1 c.2.whole c.2.first is s.2)
     ]
   ]
@@ -197,8 +197,8 @@ decide_parameter text (a ∷ []) = inr (λ name value p. omega (arith, ap length
 decide_parameter text (a ∷ e ∷ value) = elim (cases_Bool (is_parameter text a e value)) [
   | inl is ↦
       let all = and_parts (is_atom_kind a.kind) (is_mark_at text 61 e && (are_quoted value || are_plain text value)) is in
-      let behind = and_parts (is_mark_at text 61 e) (are_quoted value || are_plain text value) all.1 in
-      inl (octets_at text a.span, value, record { atom = a; equals = e; tokens_are = refl; is_name = all.0; is_equals = behind.0; is_value = behind.1; name_is = refl })
+      let following = and_parts (is_mark_at text 61 e) (are_quoted value || are_plain text value) all.1 in
+      inl (octets_at text a.span, value, record { atom = a; equals = e; tokens_are = refl; is_name = all.0; is_equals = following.0; is_value = following.1; name_is = refl })
   | inr other ↦ inr (λ name v p. both_ways (is_parameter text a e value) other (is_one v p.atom p.equals p.tokens_are p.is_name p.is_equals p.is_value))
 ]
   where
@@ -207,11 +207,11 @@ decide_parameter text (a ∷ e ∷ value) = elim (cases_Bool (is_parameter text 
     is_one v atom equals same name mark said =
         let first : atom ≡ a = cc same in
         let second : equals ≡ e = cc same in
-        let behind : v ≡ value = cc same in
+        let following : v ≡ value = cc same in
         let made : is_parameter text atom equals v ≡ true
         = and_from (is_atom_kind atom.kind) (is_mark_at text 61 equals && (are_quoted v || are_plain text v)) name (and_from (is_mark_at text 61 equals) (are_quoted v || are_plain text v) mark said) in
         subst (λ t. is_parameter text t e value ≡ true) first
-        (subst (λ t. is_parameter text atom t value ≡ true) second (subst (λ r. is_parameter text atom equals r ≡ true) behind made))
+        (subst (λ t. is_parameter text atom t value ≡ true) second (subst (λ r. is_parameter text atom equals r ≡ true) following made))
 
 none_says : (text name : List ℕ) (value : List Token) (p : NameParts) → HasNameParts name p
     → ((charset octets : List ℕ) → SaysOctets p.is_extended (is_first p.number) (value_content text value) charset octets → ⊥) → (piece : Piece) → IsPieceOf text name value piece → ⊥

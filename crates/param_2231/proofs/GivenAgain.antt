@@ -75,9 +75,9 @@ says_good true false said piece h says =
 says_good true true said piece h says =
     let is = says.1 in
     let whole : list_all is_octet (piece.charset ++ 39 ∷ (is.language ++ 39 ∷ says.0)) ≡ true = sym (ap (list_all is_octet) is.spelled) ∙ h in
-    let behind : list_all is_octet (is.language ++ 39 ∷ says.0) ≡ true = pass-back is_octet (piece.charset ++ 39 ∷ []) (is.language ++ 39 ∷ says.0)
+    let following : list_all is_octet (is.language ++ 39 ∷ says.0) ≡ true = pass-back is_octet (piece.charset ++ 39 ∷ []) (is.language ++ 39 ∷ says.0)
     (ap (list_all is_octet) (append_assoc piece.charset (39 ∷ []) (is.language ++ 39 ∷ says.0)) ∙ whole) in
-    let text : list_all is_octet says.0 ≡ true = pass-back is_octet (is.language ++ 39 ∷ []) says.0 (ap (list_all is_octet) (append_assoc is.language (39 ∷ []) says.0) ∙ behind) in
+    let text : list_all is_octet says.0 ≡ true = pass-back is_octet (is.language ++ 39 ∷ []) says.0 (ap (list_all is_octet) (append_assoc is.language (39 ∷ []) says.0) ∙ following) in
     record { names = is.charset_is; first = is.charset_first; octets = escaped-octets says.0 piece.octets says.2 text }
 
 pub core_good : (piece : Piece) → HasCore piece → IsGood piece

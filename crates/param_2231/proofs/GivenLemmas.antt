@@ -33,7 +33,7 @@ use Rattle.param_grammar.proofs.PlaceLemmas.{ArePlaced-at, ArePlaced-length}
 use Rattle.param_2231.specs.Layout.{ParamPieces, GivesWhere, PieceGives, PiecesGive}
 use Rattle.param_2231.specs.private.Given.{is_ascii_role}
 use Rattle.param_2231.specs.private.Parts.{IsWritableUnit}
-use Rattle.param_2231.specs.private.Lines.{line_behind, lines_behind, AddsBehind}
+use Rattle.param_2231.specs.private.Lines.{line_after, lines_after, AddsAfter}
 use Rattle.param_2231.proofs.ParamsSome.{unit_at-writable}
 
 -- ---- main parts
@@ -47,26 +47,26 @@ same_test false xs ys h = elim (cases_Bool (bytes_eq xs ys)) [
 
 -- ---- one piece
 
-pub adds_written : (lead : List ℕ) (is_ascii further doubled : Bool) (written name : List ℕ) (unit : UnitValue) (old new : List ℕ) → is_ascii ≡ true → new ≡ old ++ line_behind lead written
-    → AddsBehind lead (GivesWhere is_ascii further doubled written name unit) old new
+pub adds_written : (lead : List ℕ) (is_ascii further doubled : Bool) (written name : List ℕ) (unit : UnitValue) (old new : List ℕ) → is_ascii ≡ true → new ≡ old ++ line_after lead written
+    → AddsAfter lead (GivesWhere is_ascii further doubled written name unit) old new
 adds_written lead true further doubled written name unit old new e put = record {
   pieces = written ∷ [];
   holds = refl;
-  added = put ∙ ap (λ r. old ++ r) (sym (append-nil (line_behind lead written)));
+  added = put ∙ ap (λ r. old ++ r) (sym (append-nil (line_after lead written)));
 }
 adds_written lead false further doubled written name unit old new e put = cc e
 
 pub adds_none : (lead : List ℕ) (is_ascii further doubled : Bool) (written name : List ℕ) (unit : UnitValue) (old : List ℕ) → is_ascii ≡ false → further ≡ true
-    → AddsBehind lead (GivesWhere is_ascii further doubled written name unit) old old
+    → AddsAfter lead (GivesWhere is_ascii further doubled written name unit) old old
 adds_none lead true further doubled written name unit old e f = cc e
 adds_none lead false false doubled written name unit old e f = cc f
 adds_none lead false true doubled written name unit old e f = record { pieces = []; holds = refl; added = sym (append-nil old) }
 
 pub adds_param : (lead : List ℕ) (is_ascii further doubled is_doubled : Bool) (written name : List ℕ) (unit : UnitValue) (old new : List ℕ) → is_ascii ≡ false → further ≡ false → is_doubled ≡ doubled
-    → AddsBehind lead (ParamPieces is_doubled name unit) old new → AddsBehind lead (GivesWhere is_ascii further doubled written name unit) old new
+    → AddsAfter lead (ParamPieces is_doubled name unit) old new → AddsAfter lead (GivesWhere is_ascii further doubled written name unit) old new
 adds_param lead true further doubled is_doubled written name unit old new e f d adds = cc e
 adds_param lead false true doubled is_doubled written name unit old new e f d adds = cc f
-adds_param lead false false doubled is_doubled written name unit old new e f d adds = subst (λ k. AddsBehind lead (ParamPieces k name unit) old new) d adds
+adds_param lead false false doubled is_doubled written name unit old new e f d adds = subst (λ k. AddsAfter lead (ParamPieces k name unit) old new) d adds
 
 -- ---- a piece by its place
 
@@ -87,9 +87,9 @@ place_is text placed pieces number place has within read =
     subst (λ p. IsPlaced text p (piece_in pieces number)) (sym read) (ArePlaced-at text placed.places.items pieces number place has.are_placed within)
 
 pub param_named : (lead : List ℕ) (doubled : Bool) (name base : List ℕ) (unit value : UnitValue) (old new : List ℕ) → name ≡ base → unit ≡ value
-    → AddsBehind lead (ParamPieces doubled name unit) old new → AddsBehind lead (ParamPieces doubled base value) old new
+    → AddsAfter lead (ParamPieces doubled name unit) old new → AddsAfter lead (ParamPieces doubled base value) old new
 param_named lead doubled name base unit value old new e f adds =
-    subst (λ k. AddsBehind lead (ParamPieces doubled base k) old new) f (subst (λ k. AddsBehind lead (ParamPieces doubled k unit) old new) e adds)
+    subst (λ k. AddsAfter lead (ParamPieces doubled base k) old new) f (subst (λ k. AddsAfter lead (ParamPieces doubled k unit) old new) e adds)
 
 pub unit_placed : (pieces : List Piece) (number : ℕ) (unit : UnitValue) → unit ≡ unit_at pieces (piece_in pieces number) → IsWritableUnit unit
 unit_placed pieces number unit is = subst IsWritableUnit (sym is) (unit_at-writable pieces (piece_in pieces number))
@@ -103,14 +103,14 @@ abbrev pub NumberGives : List Piece → ℕ → List (List ℕ) → Type 0
 NumberGives pieces number made = PieceGives pieces (params_of pieces) (take number pieces) (piece_in pieces number) made
 
 pub gives_written : (lead : List ℕ) (pieces : List Piece) (number : ℕ) (role : Role) (old new : List ℕ) → IsRole pieces (take number pieces) (piece_in pieces number) role → is_ascii_role role ≡ true
-    → new ≡ old ++ line_behind lead (piece_in pieces number).written → AddsBehind lead (NumberGives pieces number) old new
+    → new ≡ old ++ line_after lead (piece_in pieces number).written → AddsAfter lead (NumberGives pieces number) old new
 gives_written lead pieces number role old new is ascii put =
     let piece = piece_in pieces number in
     adds_written lead (is_ascii_parameter pieces piece) (goes_on (take number pieces) piece) (is_doubled (params_of pieces) piece.base) piece.written piece.base (unit_at pieces piece) old new
     (sym (role_ascii pieces (take number pieces) piece role is) ∙ ascii) put
 
 pub gives_none : (lead : List ℕ) (pieces : List Piece) (number : ℕ) (is_ascii : Bool) (role : Role) (old : List ℕ) → IsRole pieces (take number pieces) (piece_in pieces number) role
-    → is_ascii_role role ≡ false → role ≡ GoesOn is_ascii → AddsBehind lead (NumberGives pieces number) old old
+    → is_ascii_role role ≡ false → role ≡ GoesOn is_ascii → AddsAfter lead (NumberGives pieces number) old old
 gives_none lead pieces number is_ascii role old is ascii e =
     let piece = piece_in pieces number in
     let goes : IsRole pieces (take number pieces) piece (GoesOn is_ascii) = subst (IsRole pieces (take number pieces) piece) e is in
@@ -118,8 +118,8 @@ gives_none lead pieces number is_ascii role old is ascii e =
     (sym (role_ascii pieces (take number pieces) piece role is) ∙ ascii) goes.0
 
 pub gives_param : (lead : List ℕ) (pieces : List Piece) (number : ℕ) (is_ascii doubled : Bool) (role : Role) (old new : List ℕ) → IsRole pieces (take number pieces) (piece_in pieces number) role
-    → is_ascii_role role ≡ false → role ≡ Begins is_ascii doubled → AddsBehind lead (ParamPieces doubled (piece_in pieces number).base (unit_at pieces (piece_in pieces number))) old new
-    → AddsBehind lead (NumberGives pieces number) old new
+    → is_ascii_role role ≡ false → role ≡ Begins is_ascii doubled → AddsAfter lead (ParamPieces doubled (piece_in pieces number).base (unit_at pieces (piece_in pieces number))) old new
+    → AddsAfter lead (NumberGives pieces number) old new
 gives_param lead pieces number is_ascii doubled role old new is ascii e adds =
     let piece = piece_in pieces number in
     let begins : IsRole pieces (take number pieces) piece (Begins is_ascii doubled) = subst (IsRole pieces (take number pieces) piece) e is in
@@ -131,13 +131,13 @@ gives_param lead pieces number is_ascii doubled role old new is ascii e adds =
 -- What the pieces before this number gave was put: what those behind give completes it.
 abbrev pub PiecesLeft : List ℕ → List ℕ → Placed → ℕ → List ℕ → List ℕ → Type 0
 PiecesLeft lead text placed number old mid = (all : List Piece) → HasPlaced text placed all → (given : List (List ℕ))
-    → PiecesGive all (params_of all) (take number all) (drop number all) given → AddsBehind lead (PiecesGive all (params_of all) [] all) old (mid ++ lines_behind lead given)
+    → PiecesGive all (params_of all) (take number all) (drop number all) given → AddsAfter lead (PiecesGive all (params_of all) [] all) old (mid ++ lines_after lead given)
 
 pub PiecesLeft-all : (lead text : List ℕ) (placed : Placed) (old : List ℕ) → PiecesLeft lead text placed 0 old old
 PiecesLeft-all lead text placed old all has given gives = record { pieces = given; holds = gives; added = refl }
 
 pub PiecesLeft-next : (lead text : List ℕ) (placed : Placed) (number : ℕ) (old mid new : List ℕ) → number < length placed.places.items → PiecesLeft lead text placed number old mid
-    → ((all : List Piece) → HasPlaced text placed all → AddsBehind lead (PieceGives all (params_of all) (take number all) (piece_in all number)) mid new) → PiecesLeft lead text placed (number + 1) old new
+    → ((all : List Piece) → HasPlaced text placed all → AddsAfter lead (PieceGives all (params_of all) (take number all) (piece_in all number)) mid new) → PiecesLeft lead text placed (number + 1) old new
 PiecesLeft-next lead text placed number old mid new within left step all has given gives =
     let below = number_within text placed all number has within in
     let adds = step all has in
@@ -145,17 +145,17 @@ PiecesLeft-next lead text placed number old mid new within left step all has giv
     = subst (λ b. PiecesGive all (params_of all) b (drop (number + 1) all) given) (take_more all number no_piece below) gives in
     let both : PiecesGive all (params_of all) (take number all) (piece_in all number ∷ drop (number + 1) all) (adds.pieces ++ given) = (adds.pieces, given, refl, adds.holds, others) in
     let whole = left all has (adds.pieces ++ given) (subst (λ b. PiecesGive all (params_of all) (take number all) b (adds.pieces ++ given)) (sym (drop_more all number no_piece below)) both) in
-    let put : mid ++ lines_behind lead (adds.pieces ++ given) ≡ new ++ lines_behind lead given
-    = ap (λ r. mid ++ r) (flat_map-append (line_behind lead) adds.pieces given) ∙ sym (append_assoc mid (lines_behind lead adds.pieces) (lines_behind lead given))
-    ∙ ap (λ r. r ++ lines_behind lead given) (sym adds.added) in
-    subst (AddsBehind lead (PiecesGive all (params_of all) [] all) old) put whole
+    let put : mid ++ lines_after lead (adds.pieces ++ given) ≡ new ++ lines_after lead given
+    = ap (λ r. mid ++ r) (flat_map-append (line_after lead) adds.pieces given) ∙ sym (append_assoc mid (lines_after lead adds.pieces) (lines_after lead given))
+    ∙ ap (λ r. r ++ lines_after lead given) (sym adds.added) in
+    subst (AddsAfter lead (PiecesGive all (params_of all) [] all) old) put whole
 
 pub PiecesLeft-end : (lead text : List ℕ) (placed : Placed) (number : ℕ) (old mid : List ℕ) → length placed.places.items ≤ number → PiecesLeft lead text placed number old mid
-    → (all : List Piece) → HasPlaced text placed all → AddsBehind lead (PiecesGive all (params_of all) [] all) old mid
+    → (all : List Piece) → HasPlaced text placed all → AddsAfter lead (PiecesGive all (params_of all) [] all) old mid
 PiecesLeft-end lead text placed number old mid end left all has =
     let none : drop number all ≡ [] = drop_all number all (omega (arith, end, ArePlaced-length text placed.places.items all has.are_placed)) in
     let gives : PiecesGive all (params_of all) (take number all) (drop number all) [] = subst (λ b. PiecesGive all (params_of all) (take number all) b []) (sym none) refl in
-    subst (AddsBehind lead (PiecesGive all (params_of all) [] all) old) (append-nil mid) (left all has [] gives)
+    subst (AddsAfter lead (PiecesGive all (params_of all) [] all) old) (append-nil mid) (left all has [] gives)
 
 -- ---- comments
 

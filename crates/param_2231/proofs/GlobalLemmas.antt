@@ -9,7 +9,7 @@ use Rattle.std.specs.List.{list_all}
 use Rattle.std.specs.Str.{bytes_eq}
 use Rattle.std.specs.Prelude.{codes, IfSome, IfNone}
 use Rattle.mail_wire.specs.Octets.{is_white, is_ascii}
-use Rattle.mail_wire.specs.Spans.{Stops, StopsBehind}
+use Rattle.mail_wire.specs.Spans.{Stops, StopsAfter}
 use Rattle.field_tokens.specs.declared.Style.TheVariants.{Mime}
 use Rattle.field_tokens.specs.declared.Token.{Token}
 use Rattle.field_tokens.specs.declared.TokenKind.{TokenKind}
@@ -20,7 +20,7 @@ use Rattle.field_tokens.specs.Squeezed.{is_blank, octets_of, words_of, comments_
 use Rattle.field_tokens.specs.Comments.{CommentValue, CommentsSay}
 use Rattle.field_tokens.proofs.TokenLists.{AreTokens-once, HasTokens-once, token_at}
 use Rattle.field_tokens.proofs.TokenLines.{AreLineTokens, tokens_lines, line_none, line_append, ascii_line}
-use Rattle.field_tokens.proofs.Parts.{octets_of-tokens, comments_of-append, StopsBehind-append, octets_of-append}
+use Rattle.field_tokens.proofs.Parts.{octets_of-tokens, comments_of-append, StopsAfter-append, octets_of-append}
 use Rattle.param_grammar.specs.declared.ParamKind.{ParamKind}
 use Rattle.param_grammar.specs.declared.ParamKind.TheVariants.{Content}
 use Rattle.param_grammar.specs.Bodies.{solid, is_mark_at, IsBody}
@@ -134,9 +134,9 @@ main_once kind text main other params others comments more p q =
 more_words : (text main : List ℕ) (params : List ParamValue) (body : HasSaidBody Content text main params) → 2 < length (words_of body.has_tokens.values)
 more_words text main params body =
     let three = main_size text (solid body.is_body.first) body.is_body.is_main_part in
-    let behind = first_part (λ token. Unit {0}) (is_mark_at text 59) body.tokens body.is_body.first body.is_body.others body.is_body.sections in
-    let size : length (solid body.tokens) ≡ length (solid body.is_body.first) + length (solid behind.tail) =
-    ap (λ r. length (solid r)) behind.whole ∙ ap length (solid_append body.is_body.first behind.tail) ∙ length-append (solid body.is_body.first) (solid behind.tail) in
+    let following = first_part (λ token. Unit {0}) (is_mark_at text 59) body.tokens body.is_body.first body.is_body.others body.is_body.sections in
+    let size : length (solid body.tokens) ≡ length (solid body.is_body.first) + length (solid following.tail) =
+    ap (λ r. length (solid r)) following.whole ∙ ap length (solid_append body.is_body.first following.tail) ∙ length-append (solid body.is_body.first) (solid following.tail) in
     let words : length (solid body.tokens) ≡ length (words_of body.has_tokens.values) = ap (λ r. length (solid r)) body.has_tokens.placed ∙ solid-words 0 body.has_tokens.values in
     omega (arith, three, size, words)
 
@@ -286,22 +286,22 @@ with_rfc822-ascii text at names ascii =
 pub with_rfc822-stops : (text : List ℕ) (at : ℕ) → NamesGlobal text at → Stops is_white text → Stops is_white (with_rfc822 text at)
 with_rfc822-stops text at names stops = (global_at text at names).alike stops
 
-last_stops : (p : ℕ → Bool) (xs ys : List ℕ) → 0 < length ys → StopsBehind p (xs ++ ys) → StopsBehind p ys
+last_stops : (p : ℕ → Bool) (xs ys : List ℕ) → 0 < length ys → StopsAfter p (xs ++ ys) → StopsAfter p ys
 last_stops p [] ys some stops = stops
 last_stops p (x ∷ []) [] some stops = absurd (omega (arith, some))
 last_stops p (x ∷ []) (y ∷ ys) some stops = stops
 last_stops p (x ∷ z ∷ xs) ys some stops = last_stops p (z ∷ xs) ys some stops
 
-stops_changed : (front word rest : List ℕ) → StopsBehind is_white (front ++ (word ++ rest)) → StopsBehind is_white (front ++ (codes "rfc822" ++ rest))
-stops_changed front word [] stops = StopsBehind-append is_white front (codes "rfc822" ++ []) (omega arith) refl
+stops_changed : (front word rest : List ℕ) → StopsAfter is_white (front ++ (word ++ rest)) → StopsAfter is_white (front ++ (codes "rfc822" ++ rest))
+stops_changed front word [] stops = StopsAfter-append is_white front (codes "rfc822" ++ []) (omega arith) refl
 stops_changed front word (x ∷ rest) stops =
-    let last : StopsBehind is_white (x ∷ rest) = last_stops is_white (front ++ word) (x ∷ rest) (omega arith) (subst (StopsBehind is_white) (sym (append_assoc front word (x ∷ rest))) stops) in
-    StopsBehind-append is_white front (codes "rfc822" ++ (x ∷ rest)) (omega arith) (StopsBehind-append is_white (codes "rfc822") (x ∷ rest) (omega arith) last)
+    let last : StopsAfter is_white (x ∷ rest) = last_stops is_white (front ++ word) (x ∷ rest) (omega arith) (subst (StopsAfter is_white) (sym (append_assoc front word (x ∷ rest))) stops) in
+    StopsAfter-append is_white front (codes "rfc822" ++ (x ∷ rest)) (omega arith) (StopsAfter-append is_white (codes "rfc822") (x ∷ rest) (omega arith) last)
 
-pub with_rfc822-stops_behind : (text : List ℕ) (at : ℕ) → NamesGlobal text at → StopsBehind is_white text → StopsBehind is_white (with_rfc822 text at)
-with_rfc822-stops_behind text at names stops =
+pub with_rfc822-stops_after : (text : List ℕ) (at : ℕ) → NamesGlobal text at → StopsAfter is_white text → StopsAfter is_white (with_rfc822 text at)
+with_rfc822-stops_after text at names stops =
     let g = global_at text at names in
-    subst (StopsBehind is_white) (sym g.changed) (stops_changed g.front g.word g.rest (subst (StopsBehind is_white) g.whole stops))
+    subst (StopsAfter is_white) (sym g.changed) (stops_changed g.front g.word g.rest (subst (StopsAfter is_white) g.whole stops))
 
 -- ---- it says the same of message/rfc822
 

@@ -17,7 +17,7 @@ use Rattle.param_grammar.specs.declared.ParamKind.TheVariants.{Content}
 use Rattle.param_grammar.specs.declared.Piece.{Piece}
 use Rattle.param_grammar.specs.Bodies.{solid, is_ascii_atom, is_main, is_mark_at, IsBody, is_filled}
 use Rattle.param_2231.proofs.ChangedTokens.{IsSameAt, AreSameAt}
-use Rattle.param_2231.proofs.SameOctets.{all_filter, all_parts, split_alike, same_marks, same_mark, same_pieces, Behind, first_part}
+use Rattle.param_2231.proofs.SameOctets.{all_filter, all_parts, split_alike, same_marks, same_mark, same_pieces, Following, first_part}
 
 abbrev keeps : Token → Bool
 keeps token = not (is_blank token.kind)
@@ -43,12 +43,12 @@ pub record HasWord (ts : List TokenValue) (n : ℕ) : Type 0 where
 pub find_word : (n : ℕ) (ts : List TokenValue) → n < length (words_of ts) → HasWord ts n
 find_word n [] some = absurd (omega (arith, some))
 find_word n (t ∷ ts) some = elim (cases_Bool (is_blank t.kind)) [
-  | inl blank ↦ behind_blank blank (find_word n ts (rw (blank) at some))
+  | inl blank ↦ after_blank blank (find_word n ts (rw (blank) at some))
   | inr kept ↦ by n (λ m. find_word m ts) kept (rw (kept) at some)
 ]
   where
-    behind_blank : is_blank t.kind ≡ true → HasWord ts n → HasWord (t ∷ ts) n
-    behind_blank blank has = record {
+    after_blank : is_blank t.kind ≡ true → HasWord ts n → HasWord (t ∷ ts) n
+    after_blank blank has = record {
       front = t ∷ has.front;
       rest = has.rest;
       word = has.word;
@@ -70,8 +70,8 @@ find_word n (t ∷ ts) some = elim (cases_Bool (is_blank t.kind)) [
 
 -- ---- the first section has the word
 
-below_behind : (t : Token) (xs ys : List Token) → length (solid (t ∷ xs)) < length (solid (t ∷ ys)) → length (solid xs) < length (solid ys)
-below_behind t xs ys below = elim (cases_Bool (is_blank t.kind)) [
+below_after : (t : Token) (xs ys : List Token) → length (solid (t ∷ xs)) < length (solid (t ∷ ys)) → length (solid xs) < length (solid ys)
+below_after t xs ys below = elim (cases_Bool (is_blank t.kind)) [
   | inl blank ↦ rw (blank) at below
   | inr kept ↦ fewer (rw (kept) at below)
 ]
@@ -96,7 +96,7 @@ reaches (f ∷ first) tail (x ∷ tf) tr t e below =
     let here : f ≡ x = cc e in
     let more : first ++ tail ≡ tf ++ t ∷ tr = cc e in
     let less : length (solid (f ∷ tf)) < length (solid (f ∷ first)) = subst (λ y. length (solid (y ∷ tf)) < length (solid (f ∷ first))) (sym here) below in
-    let rest = reaches first tail tf tr t more (below_behind f tf first less) in
+    let rest = reaches first tail tf tr t more (below_after f tf first less) in
     reaches_more f x first tail tf tr t here rest
 
 -- ---- the main part
@@ -136,7 +136,7 @@ pub record IsSubtype (text : List ℕ) (first tail tf tr : List Token) (t : Toke
   pub before : solid tf ≡ a ∷ b ∷ []
   pub solid_is : solid first ≡ a ∷ b ∷ t ∷ []
   pub mid : List Token
-  pub behind : tr ≡ mid ++ tail
+  pub following : tr ≡ mid ++ tail
   pub first_word : is_ascii_atom text a ≡ true
   pub slash : is_mark_at text 47 b ≡ true
   pub second_word : is_ascii_atom text t ≡ true
@@ -161,21 +161,21 @@ subtype_of text first tail tf tr t e size kept main =
       before = two.2;
       solid_is = words ∙ ap (λ r. two.0 ∷ two.1 ∷ t ∷ r) none;
       mid = cut.0;
-      behind = cut.2;
+      following = cut.2;
       first_word = subst (λ x. is_ascii_atom text x ≡ true) same_a has.first;
       slash = subst (λ x. is_mark_at text 47 x ≡ true) same_b has.slash;
       second_word = subst (λ x. is_ascii_atom text x ≡ true) same_c has.second;
     }
 
 pub record BodySubtype (P : Token → Type 0) (text : List ℕ) (tokens first : List Token) (others : List (List Token)) (tf tr : List Token) (t : Token) : Type 0 where
-  pub behind : Behind P tokens first others
-  pub subtype : IsSubtype text first behind.tail tf tr t
+  pub following : Following P tokens first others
+  pub subtype : IsSubtype text first following.tail tf tr t
 
 pub body_subtype : (P : Token → Type 0) (text : List ℕ) (tokens tf tr : List Token) (t : Token) (main : List ℕ) (pieces : List Piece) → tokens ≡ tf ++ t ∷ tr → length (solid tf) ≡ 2
     → is_blank t.kind ≡ false → (is : IsBody Content text tokens main pieces) → BodySubtype P text tokens is.first is.others tf tr t
 body_subtype P text tokens tf tr t main pieces e size kept is =
-    let behind = first_part P (is_mark_at text 59) tokens is.first is.others is.sections in
-    record { behind = behind; subtype = subtype_of text is.first behind.tail tf tr t (sym behind.whole ∙ e) size kept is.is_main_part }
+    let following = first_part P (is_mark_at text 59) tokens is.first is.others is.sections in
+    record { following = following; subtype = subtype_of text is.first following.tail tf tr t (sym following.whole ∙ e) size kept is.is_main_part }
 
 -- ---- the octets of the main part
 
@@ -243,7 +243,7 @@ body_changed text changed tokens tf tr t pieces e front rest size kept new is =
     let s = found.subtype in
     let octets = global_octets (octets_at text s.a.span) (octets_at text s.b.span) (octets_at text t.span) s.slash (is.main_is ∙ ap (λ r. str_to_ascii_lowercase (run_octets text r)) s.solid_is) in
     let words = subst (AreSameAt text changed) s.before (all_filter (IsSameAt text changed) keeps tf front) in
-    let tail = (all_parts (IsSameAt text changed) s.mid found.behind.tail (subst (AreSameAt text changed) s.behind rest)).1 in
+    let tail = (all_parts (IsSameAt text changed) s.mid found.following.tail (subst (AreSameAt text changed) s.following rest)).1 in
     let here : is_mark_at text 59 t ≡ is_mark_at changed 59 t = no_mark (octets_at text t.span) 59 octets.size ∙ sym (ap (λ o. bytes_eq o (59 ∷ [])) new) in
     let marks = all_with (λ x. is_mark_at text 59 x ≡ is_mark_at changed 59 x) tf tr t (same_marks text changed 59 tf front) here (same_marks text changed 59 tr rest) in
     let atom = and_parts (is_atom_kind t.kind) (list_all is_ascii (octets_at text t.span)) s.second_word in
@@ -257,5 +257,5 @@ body_changed text changed tokens tf tr t pieces e front rest size kept new is =
       sections = sym (split_alike (is_mark_at text 59) (is_mark_at changed 59) tokens (subst (AllByRecursion (λ x. is_mark_at text 59 x ≡ is_mark_at changed 59 x)) (sym e) marks)) ∙ is.sections;
       is_main_part = subst (λ r. is_main Content changed r ≡ true) (sym s.solid_is) (and_from (is_ascii_atom changed s.a) (is_mark_at changed 47 s.b && is_ascii_atom changed t) first (and_from (is_mark_at changed 47 s.b) (is_ascii_atom changed t) slash second));
       main_is = octets.changed ∙ sym (ap str_to_ascii_lowercase run) ∙ sym (ap (λ r. str_to_ascii_lowercase (run_octets changed r)) s.solid_is);
-      are_pieces = same_pieces text changed (filter is_filled is.others) pieces (all_filter (AreSameAt text changed) is_filled is.others (found.behind.onward tail)) is.are_pieces;
+      are_pieces = same_pieces text changed (filter is_filled is.others) pieces (all_filter (AreSameAt text changed) is_filled is.others (found.following.onward tail)) is.are_pieces;
     }

@@ -13,7 +13,7 @@ use Rattle.encoded_words.specs.Words.{UnitValue}
 use Rattle.encoded_words.proofs.Deciding.{decide_same}
 use Rattle.param_grammar.specs.declared.Piece.{Piece}
 use Rattle.param_grammar.specs.Extended.{unit_of}
-use Rattle.param_grammar.specs.Joining.{is_part_of, parts_named, AreNumbered, joined_unit, ParamValue, unit_at, goes_on, params_behind, params_of, AreParams, is_ascii_parameter, is_doubled}
+use Rattle.param_grammar.specs.Joining.{is_part_of, parts_named, AreNumbered, joined_unit, ParamValue, unit_at, goes_on, params_after, params_of, AreParams, is_ascii_parameter, is_doubled}
 
 -- ---- what stands for a piece
 
@@ -45,9 +45,9 @@ StandForAll-append all before (x ∷ xs) ys made others a b =
     let rest : StandForAll all ((before ++ x ∷ []) ++ xs) ys others = rw (append_assoc before (x ∷ []) xs) b in
     (a.0, a.1 ++ others, ap (λ r. r ++ others) a.2 ∙ append_assoc a.0 a.1 others, a.3, StandForAll-append all (before ++ x ∷ []) xs ys a.1 others a.4 rest)
 
-stand_behind : (all before mb : List Piece) (piece : Piece) (first : List Piece) → StandForAll all [] before mb → StandsFor all before piece first
+stand_after : (all before mb : List Piece) (piece : Piece) (first : List Piece) → StandForAll all [] before mb → StandsFor all before piece first
     → StandForAll all [] (before ++ piece ∷ []) (mb ++ first)
-stand_behind all before mb piece first a s = StandForAll-append all [] before (piece ∷ []) mb first a (first, [], sym (append-nil first), s, refl)
+stand_after all before mb piece first a s = StandForAll-append all [] before (piece ∷ []) mb first a (first, [], sym (append-nil first), s, refl)
 
 -- ---- names
 
@@ -149,20 +149,20 @@ count_none b x xs e = elim (cases_Bool (bytes_eq x.name b)) [
 abbrev begun : List Piece → Piece → ParamValue
 begun all p = record { name = p.base; unit = unit_at all p }
 
-going : (all before : List Piece) (p : Piece) (more : List Piece) → goes_on before p ≡ true → params_behind all before (p ∷ more) ≡ params_behind all (before ++ p ∷ []) more
+going : (all before : List Piece) (p : Piece) (more : List Piece) → goes_on before p ≡ true → params_after all before (p ∷ more) ≡ params_after all (before ++ p ∷ []) more
 going all before p more h = cond-true _ _ _ h
 
-beginning : (all before : List Piece) (p : Piece) (more : List Piece) → goes_on before p ≡ false → params_behind all before (p ∷ more) ≡ begun all p ∷ params_behind all (before ++ p ∷ []) more
+beginning : (all before : List Piece) (p : Piece) (more : List Piece) → goes_on before p ≡ false → params_after all before (p ∷ more) ≡ begun all p ∷ params_after all (before ++ p ∷ []) more
 beginning all before p more h = cond-false _ _ _ h
 
-params_append : (all before xs ys : List Piece) → params_behind all before (xs ++ ys) ≡ params_behind all before xs ++ params_behind all (before ++ xs) ys
+params_append : (all before xs ys : List Piece) → params_after all before (xs ++ ys) ≡ params_after all before xs ++ params_after all (before ++ xs) ys
 params_append all before [] ys = rw (append-nil before) refl
 params_append all before (x ∷ xs) ys =
-    let more : params_behind all (before ++ x ∷ []) (xs ++ ys) ≡ params_behind all (before ++ x ∷ []) xs ++ params_behind all (before ++ x ∷ xs) ys =
-    params_append all (before ++ x ∷ []) xs ys ∙ ap (λ r. params_behind all (before ++ x ∷ []) xs ++ params_behind all r ys) (append_assoc before (x ∷ []) xs) in
+    let more : params_after all (before ++ x ∷ []) (xs ++ ys) ≡ params_after all (before ++ x ∷ []) xs ++ params_after all (before ++ x ∷ xs) ys =
+    params_append all (before ++ x ∷ []) xs ys ∙ ap (λ r. params_after all (before ++ x ∷ []) xs ++ params_after all r ys) (append_assoc before (x ∷ []) xs) in
     elim (cases_Bool (goes_on before x)) [
-      | inl t ↦ going all before x (xs ++ ys) t ∙ more ∙ ap (λ r. r ++ params_behind all (before ++ x ∷ xs) ys) (sym (going all before x xs t))
-      | inr f ↦ beginning all before x (xs ++ ys) f ∙ ap (λ r. begun all x ∷ r) more ∙ ap (λ r. r ++ params_behind all (before ++ x ∷ xs) ys) (sym (beginning all before x xs f))
+      | inl t ↦ going all before x (xs ++ ys) t ∙ more ∙ ap (λ r. r ++ params_after all (before ++ x ∷ xs) ys) (sym (going all before x xs t))
+      | inr f ↦ beginning all before x (xs ++ ys) f ∙ ap (λ r. begun all x ∷ r) more ∙ ap (λ r. r ++ params_after all (before ++ x ∷ xs) ys) (sym (beginning all before x xs f))
     ]
 
 -- each piece of this name goes on
@@ -170,12 +170,12 @@ abbrev GoOn : List ℕ → List Piece → List Piece → Type 0
 GoOn b before [] = Unit {0}
 GoOn b before (p ∷ more) = (p.base ≡ b → goes_on before p ≡ true) × GoOn b (before ++ p ∷ []) more
 
-go_on : (b : List ℕ) (all before xs : List Piece) → count b (params_behind all before xs) ≡ 0 → GoOn b before xs
+go_on : (b : List ℕ) (all before xs : List Piece) → count b (params_after all before xs) ≡ 0 → GoOn b before xs
 go_on b all before [] e = tt
 go_on b all before (x ∷ xs) e = elim (cases_Bool (goes_on before x)) [
   | inl t ↦ ((λ same. t), go_on b all (before ++ x ∷ []) xs (sym (ap (count b) (going all before x xs t)) ∙ e))
   | inr f ↦
-      let none = count_none b (begun all x) (params_behind all (before ++ x ∷ []) xs) (sym (ap (count b) (beginning all before x xs f)) ∙ e) in
+      let none = count_none b (begun all x) (params_after all (before ++ x ∷ []) xs) (sym (ap (count b) (beginning all before x xs f)) ∙ e) in
       ((λ same. absurd (none.0 same)), go_on b all (before ++ x ∷ []) xs none.1)
 ]
 
@@ -204,23 +204,23 @@ none_at b [] p ys all e = all.0 e
 none_at b (x ∷ xs) p ys all e = none_at b xs p ys all.1 e
 
 -- Where a name isn't doubled, no piece before the one that begins has it, and those behind go on.
-record IsAlone (b : List ℕ) (before : List Piece) (q : Piece) (behind : List Piece) : Type 0 where
+record IsAlone (b : List ℕ) (before : List Piece) (q : Piece) (following : List Piece) : Type 0 where
   before_none : NoneNamed b before
-  behind_on : GoOn b (before ++ q ∷ []) behind
+  after_on : GoOn b (before ++ q ∷ []) following
 
 at_most_one : (n : ℕ) → nat_lt 1 n ≡ false → n ≤ 1
 at_most_one n h = grind (arith, nat_tests)
 
-alone : (all before : List Piece) (q : Piece) (behind : List Piece) → all ≡ before ++ q ∷ behind → goes_on before q ≡ false → is_doubled (params_of all) q.base ≡ false → IsAlone q.base before q behind
-alone all before q behind e begins single =
+alone : (all before : List Piece) (q : Piece) (following : List Piece) → all ≡ before ++ q ∷ following → goes_on before q ≡ false → is_doubled (params_of all) q.base ≡ false → IsAlone q.base before q following
+alone all before q following e begins single =
     let b : List ℕ = q.base in
-    let total : count b (params_of all) ≡ count b (params_behind all [] before) + suc (count b (params_behind all (before ++ q ∷ []) behind)) =
-    ap (λ r. count b (params_behind all [] r)) e ∙ ap (count b) (params_append all [] before (q ∷ behind)) ∙ count_append b (params_behind all [] before) (params_behind all before (q ∷ behind))
-    ∙ ap (λ r. count b (params_behind all [] before) + r) (ap (count b) (beginning all before q behind begins) ∙ count_named b (begun all q) (params_behind all (before ++ q ∷ []) behind) refl) in
+    let total : count b (params_of all) ≡ count b (params_after all [] before) + suc (count b (params_after all (before ++ q ∷ []) following)) =
+    ap (λ r. count b (params_after all [] r)) e ∙ ap (count b) (params_append all [] before (q ∷ following)) ∙ count_append b (params_after all [] before) (params_after all before (q ∷ following))
+    ∙ ap (λ r. count b (params_after all [] before) + r) (ap (count b) (beginning all before q following begins) ∙ count_named b (begun all q) (params_after all (before ++ q ∷ []) following) refl) in
     let most = at_most_one (count b (params_of all)) single in
     record {
       before_none = none_named b [] before refl (go_on b all [] before (omega (arith, total, most)));
-      behind_on = go_on b all (before ++ q ∷ []) behind (omega (arith, total, most));
+      after_on = go_on b all (before ++ q ∷ []) following (omega (arith, total, most));
     }
 
 -- ---- what stands for pieces, by name
@@ -319,9 +319,9 @@ none_ascii : (b : List ℕ) (all xs : List Piece) → parts_named b xs ≡ [] �
 none_ascii b all xs none = ascii_named all b xs ∙ ap (λ r. cond (ascii_parts all b) r []) none ∙ sym (nothing_either [] (ascii_parts all b))
 
 -- behind the piece that a series stands for, no part of the name is ASCII
-quiet_behind : (b : List ℕ) (all x : List Piece) (q : Piece) (y : List Piece) → NoneNamed b x → GoOn b (x ++ q ∷ []) y → is_ascii_parameter all q ≡ false → q.base ≡ b
+quiet_after : (b : List ℕ) (all x : List Piece) (q : Piece) (y : List Piece) → NoneNamed b x → GoOn b (x ++ q ∷ []) y → is_ascii_parameter all q ≡ false → q.base ≡ b
     → parts_named b (filter (is_ascii_parameter all) y) ≡ []
-quiet_behind b all x q y none on high named = elim (cases_Bool (is_some q.number)) [
+quiet_after b all x q y none on high named = elim (cases_Bool (is_some q.number)) [
   | inl s ↦ ascii_named all b y ∙ cond-false _ _ _ (sym (ascii_of_part all b q (part_named b q s named)) ∙ high)
   | inr u ↦
       let no_part : list_any (is_part_of b) (x ++ q ∷ []) ≡ false = list_any-append (is_part_of b) x (q ∷ []) ∙ rw (any_none b x none, unnumbered b q u) refl in
@@ -338,10 +338,10 @@ front_parts b all x mx none stand = elim (decide_series b all [] x mx stand) [
   | inr h ↦ absurd (none_at b h.x h.q h.y (subst (NoneNamed b) h.xs_are none) h.named)
 ]
 
-behind_parts : (b : List ℕ) (all x : List Piece) (q : Piece) (y my : List Piece) → NoneNamed b x → GoOn b (x ++ q ∷ []) y → is_ascii_parameter all q ≡ false → q.base ≡ b
+after_parts : (b : List ℕ) (all x : List Piece) (q : Piece) (y my : List Piece) → NoneNamed b x → GoOn b (x ++ q ∷ []) y → is_ascii_parameter all q ≡ false → q.base ≡ b
     → StandForAll all (x ++ q ∷ []) y my → parts_named b my ≡ []
-behind_parts b all x q y my none on high named stand = elim (decide_series b all (x ++ q ∷ []) y my stand) [
-  | inl plain ↦ plain ∙ quiet_behind b all x q y none on high named
+after_parts b all x q y my none on high named stand = elim (decide_series b all (x ++ q ∷ []) y my stand) [
+  | inl plain ↦ plain ∙ quiet_after b all x q y none on high named
   | inr h ↦ absurd (true≢false (sym (go_on_at b (x ++ q ∷ []) h.x h.q h.y (subst (GoOn b (x ++ q ∷ [])) h.xs_are on) h.named) ∙ h.begins))
 ]
 
@@ -351,7 +351,7 @@ series_parts b all z w made e h =
     let a : IsAlone b h.x h.q (h.y ++ w) = subst (λ n. IsAlone n h.x h.q (h.y ++ w)) h.named (alone all h.x h.q (h.y ++ w) whole h.begins h.single) in
     let f : parts_named b h.mx ≡ [] = front_parts b all h.x h.mx a.before_none h.front in
     let o : parts_named b h.series ≡ h.series = subst (λ n. parts_named n h.series ≡ h.series) h.named (series_own h.q.base h.series h.is_series.parts) in
-    let k : parts_named b h.my ≡ [] = behind_parts b all h.x h.q h.y h.my a.before_none (go_on_front b (h.x ++ h.q ∷ []) h.y w a.behind_on) h.high h.named h.back in
+    let k : parts_named b h.my ≡ [] = after_parts b all h.x h.q h.y h.my a.before_none (go_on_front b (h.x ++ h.q ∷ []) h.y w a.after_on) h.high h.named h.back in
     record {
       front_none = f;
       parts_are = ap (parts_named b) h.made_are ∙ parts_append b h.mx (h.series ++ h.my) ∙ rw (f) (parts_append b h.series h.my ∙ rw (o, k) (append-nil h.series));
@@ -368,7 +368,7 @@ no_series b all z w made u p v e h at part ascii =
     ap (λ r. parts_named b (filter (is_ascii_parameter all) r)) whole ∙ ap (parts_named b) (filter-append (is_ascii_parameter all) h.x (h.q ∷ (h.y ++ w)))
     ∙ parts_append b (filter (is_ascii_parameter all) h.x) (filter (is_ascii_parameter all) (h.q ∷ (h.y ++ w)))
     ∙ rw (none_ascii b all h.x (none_parts b h.x a.before_none))
-    (ap (parts_named b) (cond-false _ _ _ h.high) ∙ quiet_behind b all h.x h.q (h.y ++ w) a.before_none a.behind_on h.high h.named) in
+    (ap (parts_named b) (cond-false _ _ _ h.high) ∙ quiet_after b all h.x h.q (h.y ++ w) a.before_none a.after_on h.high h.named) in
     let some : parts_named b all ≡ parts_named b u ++ p ∷ parts_named b v =
     ap (parts_named b) at ∙ parts_append b u (p ∷ v) ∙ ap (λ r. parts_named b u ++ r) (cond-true _ _ _ part) in
     let same : parts_named b all ≡ [] = sym (cond-true _ _ _ b_ascii) ∙ sym (ascii_named all b all) ∙ none in
@@ -415,13 +415,13 @@ any_same b xs ys e = any_there b xs ∙ ap there e ∙ sym (any_there b ys)
 
 -- parts behind the first go on
 parts_go_on : (base : List ℕ) (made before os rest : List Piece) → list_any (is_part_of base) before ≡ true → AllByRecursion (λ (m : Piece). (m.base ≡ base) × (is_some m.number ≡ true)) os
-    → params_behind made before (os ++ rest) ≡ params_behind made (before ++ os) rest
+    → params_after made before (os ++ rest) ≡ params_after made (before ++ os) rest
 parts_go_on base made before [] rest h all = rw (append-nil before) refl
 parts_go_on base made before (o ∷ os) rest h all =
     let goes : goes_on before o ≡ true = rw (all.0.0, all.0.1) h in
     going made before o (os ++ rest) goes
     ∙ parts_go_on base made (before ++ o ∷ []) os rest (list_any-append (is_part_of base) before (o ∷ []) ∙ rw (h) refl) all.1
-    ∙ ap (λ r. params_behind made r rest) (append_assoc before (o ∷ []) os)
+    ∙ ap (λ r. params_after made r rest) (append_assoc before (o ∷ []) os)
 
 goes_alike : (p : Piece) (xs ys : List Piece) → (is_some p.number ≡ true → list_any (is_part_of p.base) xs ≡ list_any (is_part_of p.base) ys) → goes_on xs p ≡ goes_on ys p
 goes_alike p xs ys same = elim (cases_Bool (is_some p.number)) [
@@ -444,19 +444,19 @@ record Turn (all made before : List Piece) (p : Piece) (xs mb first others : Lis
   whole : all ≡ before ++ p ∷ xs
   made_are : made ≡ mb ++ (first ++ others)
   before_stand : StandForAll all [] before mb
-  next : params_behind made (mb ++ first) others ≡ params_behind all (before ++ p ∷ []) xs
+  next : params_after made (mb ++ first) others ≡ params_after all (before ++ p ∷ []) xs
 
 -- one piece of another begins where that began
 one_begins : (all made before : List Piece) (p : Piece) (xs mb first others : List Piece) → Turn all made before p xs mb first others → (m : Piece) → first ≡ m ∷ [] → goes_on mb m ≡ false
-    → goes_on before p ≡ false → m.base ≡ p.base → unit_at made m ≡ unit_at all p → params_behind made mb (first ++ others) ≡ params_behind all before (p ∷ xs)
+    → goes_on before p ≡ false → m.base ≡ p.base → unit_at made m ≡ unit_at all p → params_after made mb (first ++ others) ≡ params_after all before (p ∷ xs)
 one_begins all made before p xs mb first others turn m e new old named unit =
-    ap (λ r. params_behind made mb (r ++ others)) e ∙ beginning made mb m others new
-    ∙ param_alike m.base p.base (unit_at made m) (unit_at all p) (params_behind made (mb ++ m ∷ []) others) (params_behind all (before ++ p ∷ []) xs) named unit
-    (ap (λ r. params_behind made (mb ++ r) others) (sym e) ∙ turn.next)
+    ap (λ r. params_after made mb (r ++ others)) e ∙ beginning made mb m others new
+    ∙ param_alike m.base p.base (unit_at made m) (unit_at all p) (params_after made (mb ++ m ∷ []) others) (params_after all (before ++ p ∷ []) xs) named unit
+    (ap (λ r. params_after made (mb ++ r) others) (sym e) ∙ turn.next)
     ∙ sym (beginning all before p xs old)
 
 copied_turn : (all made before : List Piece) (p : Piece) (xs mb first others : List Piece) → Turn all made before p xs mb first others → is_ascii_parameter all p ≡ true → first ≡ p ∷ []
-    → params_behind made mb (first ++ others) ≡ params_behind all before (p ∷ xs)
+    → params_after made mb (first ++ others) ≡ params_after all before (p ∷ xs)
 copied_turn all made before p xs mb first others turn ascii e =
     let same : ((z w mz : List Piece) → all ≡ z ++ w → StandForAll all [] z mz → is_some p.number ≡ true → parts_named p.base mz ≡ parts_named p.base z) =
     λ z w mz cut stand s. same_parts p.base all z w mz before p xs cut stand turn.whole (part_named p.base p s refl) ascii in
@@ -465,14 +465,14 @@ copied_turn all made before p xs mb first others turn ascii e =
     let unit : unit_at made p ≡ unit_at all p = unit_alike p made all (same all [] made (sym (append-nil all)) turn.stand) in
     elim (cases_Bool (goes_on before p)) [
       | inl t ↦
-          ap (λ r. params_behind made mb (r ++ others)) e ∙ going made mb p others (goes ∙ t) ∙ ap (λ r. params_behind made (mb ++ r) others) (sym e) ∙ turn.next
+          ap (λ r. params_after made mb (r ++ others)) e ∙ going made mb p others (goes ∙ t) ∙ ap (λ r. params_after made (mb ++ r) others) (sym e) ∙ turn.next
           ∙ sym (going all before p xs t)
       | inr f ↦ one_begins all made before p xs mb first others turn p e (goes ∙ f) f refl unit
     ]
 
 series_turn : (all made before : List Piece) (p : Piece) (xs mb first others : List Piece) → Turn all made before p xs mb first others → StandForAll all (before ++ p ∷ []) xs others
     → is_ascii_parameter all p ≡ false → goes_on before p ≡ false → is_doubled (params_of all) p.base ≡ false → IsSeries p.base (unit_at all p) first
-    → params_behind made mb (first ++ others) ≡ params_behind all before (p ∷ xs)
+    → params_after made mb (first ++ others) ≡ params_after all before (p ∷ xs)
 series_turn all made before p xs mb first others turn back high begins single is =
     let b : List ℕ = p.base in
     let h : HasSeries b all [] all made = record {
@@ -499,11 +499,11 @@ series_turn all made before p xs mb first others turn back high begins single is
     let new : goes_on mb f ≡ false = rw (named, parts.0.1) (any_there b mb ∙ ap there s.front_none) in
     let unit : unit_at made f ≡ unit_at all p = cond-true _ _ _ parts.0.1 ∙ ap (λ n. joined_unit (parts_named n made)) named ∙ ap joined_unit s.parts_are ∙ is.joined in
     let has : list_any (is_part_of b) (mb ++ f ∷ []) ≡ true = list_any-append (is_part_of b) mb (f ∷ []) ∙ last (list_any (is_part_of b) mb) (part_named b f parts.0.1 named) in
-    let rest : params_behind made (mb ++ f ∷ []) (is.others ++ others) ≡ params_behind all (before ++ p ∷ []) xs =
-    parts_go_on b made (mb ++ f ∷ []) is.others others has parts.1 ∙ ap (λ r. params_behind made r others) (append_assoc mb (f ∷ []) is.others)
-    ∙ ap (λ r. params_behind made (mb ++ r) others) (sym is.made_are) ∙ turn.next in
-    ap (λ r. params_behind made mb (r ++ others)) is.made_are ∙ beginning made mb f (is.others ++ others) new
-    ∙ param_alike f.base b (unit_at made f) (unit_at all p) (params_behind made (mb ++ f ∷ []) (is.others ++ others)) (params_behind all (before ++ p ∷ []) xs) named unit rest
+    let rest : params_after made (mb ++ f ∷ []) (is.others ++ others) ≡ params_after all (before ++ p ∷ []) xs =
+    parts_go_on b made (mb ++ f ∷ []) is.others others has parts.1 ∙ ap (λ r. params_after made r others) (append_assoc mb (f ∷ []) is.others)
+    ∙ ap (λ r. params_after made (mb ++ r) others) (sym is.made_are) ∙ turn.next in
+    ap (λ r. params_after made mb (r ++ others)) is.made_are ∙ beginning made mb f (is.others ++ others) new
+    ∙ param_alike f.base b (unit_at made f) (unit_at all p) (params_after made (mb ++ f ∷ []) (is.others ++ others)) (params_after all (before ++ p ∷ []) xs) named unit rest
     ∙ sym (beginning all before p xs begins)
   where
     last : (c : Bool) {d : Bool} → d ≡ true → (c || (d || false)) ≡ true
@@ -511,23 +511,23 @@ series_turn all made before p xs mb first others turn back high begins single is
     last false e = rw (e) refl
 
 turn_by : (all made before : List Piece) (p : Piece) (xs mb first others : List Piece) → Turn all made before p xs mb first others → StandForAll all (before ++ p ∷ []) xs others
-    → StandsFor all before p first → params_behind made mb (first ++ others) ≡ params_behind all before (p ∷ xs)
+    → StandsFor all before p first → params_after made mb (first ++ others) ≡ params_after all before (p ∷ xs)
 turn_by all made before p xs mb first others turn back (Copied ascii e) = copied_turn all made before p xs mb first others turn ascii e
 turn_by all made before p xs mb first others turn back (Nothing high goes e) =
-    ap (λ r. params_behind made mb (r ++ others)) e ∙ ap (λ r. params_behind made r others) (sym (append-nil mb) ∙ ap (λ r. mb ++ r) (sym e)) ∙ turn.next ∙ sym (going all before p xs goes)
+    ap (λ r. params_after made mb (r ++ others)) e ∙ ap (λ r. params_after made r others) (sym (append-nil mb) ∙ ap (λ r. mb ++ r) (sym e)) ∙ turn.next ∙ sym (going all before p xs goes)
 turn_by all made before p xs mb first others turn back (One high begins m n named unit e) =
     let none : is_some m.number ≡ false = ap is_some n in
     one_begins all made before p xs mb first others turn m e (rw (none) refl) begins named (cond-false _ _ _ none ∙ unit)
 turn_by all made before p xs mb first others turn back (Series high begins single is) = series_turn all made before p xs mb first others turn back high begins single is
 
 params_same : (all made : List Piece) → StandForAll all [] all made → (before xs mb rest : List Piece) → all ≡ before ++ xs → made ≡ mb ++ rest → StandForAll all [] before mb → StandForAll all before xs rest
-    → params_behind made mb rest ≡ params_behind all before xs
-params_same all made stand before [] mb rest cut e s r = ap (params_behind made mb) r
+    → params_after made mb rest ≡ params_after all before xs
+params_same all made stand before [] mb rest cut e s r = ap (params_after made mb) r
 params_same all made stand before (p ∷ xs) mb rest cut e s r =
     let next = params_same all made stand (before ++ p ∷ []) xs (mb ++ r.0) r.1 (cut ∙ sym (append_assoc before (p ∷ []) xs)) (e ∙ ap (λ t. mb ++ t) r.2 ∙ sym (append_assoc mb r.0 r.1))
-    (stand_behind all before mb p r.0 s r.3) r.4 in
+    (stand_after all before mb p r.0 s r.3) r.4 in
     let turn : Turn all made before p xs mb r.0 r.1 = record { stand = stand; whole = cut; made_are = e ∙ ap (λ t. mb ++ t) r.2; before_stand = s; next = next } in
-    ap (params_behind made mb) r.2 ∙ turn_by all made before p xs mb r.0 r.1 turn r.4 r.3
+    ap (params_after made mb) r.2 ∙ turn_by all made before p xs mb r.0 r.1 turn r.4 r.3
 
 -- Pieces that stand for all of others are the same parameters.
 pub AreParams-again : (all made : List Piece) (params : List ParamValue) → StandForAll all [] all made → AreParams all params → AreParams made params

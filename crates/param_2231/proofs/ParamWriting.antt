@@ -7,18 +7,18 @@ use Rattle.std.specs.List.{concat}
 use Rattle.encoded_words.specs.Words.{UnitValue}
 use Rattle.param_grammar.specs.Escapes.{escaped}
 use Rattle.param_2231.specs.Layout.{octets_in, IsPartOf, AreSectionTexts, charset_part, whole_piece, numbered_piece, numbered_pieces, is_short, ParamPieces, Whole, Parts, GivesWhere}
-use Rattle.param_2231.specs.private.Lines.{line_behind, lines_behind, AddsBehind}
+use Rattle.param_2231.specs.private.Lines.{line_after, lines_after, AddsAfter}
 use Rattle.param_2231.specs.private.Parts.{IsCuttable, IsWritableUnit, IsFitting}
 use Rattle.param_2231.proofs.PartLemmas.{fitting_short, fitting_long, AreParts-once, AreParts-some}
 
 -- ---- one piece
 
-pub adds_whole : (lead name : List ℕ) (unit : UnitValue) (whole : Bool) (old new : List ℕ) → (whole || is_short unit) ≡ true → new ≡ old ++ line_behind lead (whole_piece name unit)
-    → AddsBehind lead (ParamPieces whole name unit) old new
+pub adds_whole : (lead name : List ℕ) (unit : UnitValue) (whole : Bool) (old new : List ℕ) → (whole || is_short unit) ≡ true → new ≡ old ++ line_after lead (whole_piece name unit)
+    → AddsAfter lead (ParamPieces whole name unit) old new
 adds_whole lead name unit whole old new is put = record {
   pieces = whole_piece name unit ∷ [];
   holds = Whole is refl;
-  added = put ∙ ap (λ r. old ++ r) (sym (append-nil (line_behind lead (whole_piece name unit))));
+  added = put ∙ ap (λ r. old ++ r) (sym (append-nil (line_after lead (whole_piece name unit))));
 }
 
 -- ---- several pieces
@@ -27,22 +27,22 @@ adds_whole lead name unit whole old new is put = record {
 pub record WritesParts (lead name : List ℕ) (unit : UnitValue) (old mid : List ℕ) (number : ℕ) (rest : List ℕ) : Type 0 where
   pub can : IsCuttable unit rest
   pub counted : number + length rest ≤ length (octets_in unit)
-  pub onward : (parts : List (List ℕ)) → AreSectionTexts unit parts → rest ≡ concat parts → AddsBehind lead (ParamPieces false name unit) old (mid ++ lines_behind lead (numbered_pieces name number parts))
+  pub onward : (parts : List (List ℕ)) → AreSectionTexts unit parts → rest ≡ concat parts → AddsAfter lead (ParamPieces false name unit) old (mid ++ lines_after lead (numbered_pieces name number parts))
 
 pub WritesParts-first : (lead name : List ℕ) (unit : UnitValue) (first rest : List ℕ) (old mid : List ℕ) → is_short unit ≡ false → octets_in unit ≡ first ++ rest → IsPartOf unit first rest
-    → IsCuttable unit rest → mid ≡ old ++ line_behind lead (numbered_piece name 0 (charset_part unit ++ escaped first)) → WritesParts lead name unit old mid 1 rest
+    → IsCuttable unit rest → mid ≡ old ++ line_after lead (numbered_piece name 0 (charset_part unit ++ escaped first)) → WritesParts lead name unit old mid 1 rest
 WritesParts-first lead name unit first rest old mid long whole is can put = record {
   can = can;
   counted = let some = is.some in omega (arith, some, ap length whole, length-append first rest);
   onward = λ parts are e. record {
     pieces = numbered_piece name 0 (charset_part unit ++ escaped first) ∷ numbered_pieces name 1 parts;
     holds = Parts first parts long (subst (IsPartOf unit first) e is, are) (whole ∙ ap (λ r. first ++ r) e) refl;
-    added = rw put (append_assoc old (line_behind lead (numbered_piece name 0 (charset_part unit ++ escaped first))) (lines_behind lead (numbered_pieces name 1 parts)));
+    added = rw put (append_assoc old (line_after lead (numbered_piece name 0 (charset_part unit ++ escaped first))) (lines_after lead (numbered_pieces name 1 parts)));
   };
 }
 
 pub WritesParts-more : (lead name : List ℕ) (unit : UnitValue) (part after rest : List ℕ) (old mid new : List ℕ) (number : ℕ) → rest ≡ part ++ after → IsPartOf unit part after
-    → IsCuttable unit after → new ≡ mid ++ line_behind lead (numbered_piece name number (escaped part)) → WritesParts lead name unit old mid number rest
+    → IsCuttable unit after → new ≡ mid ++ line_after lead (numbered_piece name number (escaped part)) → WritesParts lead name unit old mid number rest
     → WritesParts lead name unit old new (number + 1) after
 WritesParts-more lead name unit part after rest old mid new number whole is can put so_far = record {
   can = can;
@@ -50,13 +50,13 @@ WritesParts-more lead name unit part after rest old mid new number whole is can 
   onward = λ parts are e.
       let next : number + 1 ≡ suc number = omega arith in
       let all = so_far.onward (part ∷ parts) (subst (IsPartOf unit part) e is, are) (whole ∙ ap (λ r. part ++ r) e) in
-      rw (put, next, append_assoc mid (line_behind lead (numbered_piece name number (escaped part))) (lines_behind lead (numbered_pieces name (suc number) parts))) all;
+      rw (put, next, append_assoc mid (line_after lead (numbered_piece name number (escaped part))) (lines_after lead (numbered_pieces name (suc number) parts))) all;
 }
 
 pub WritesParts-end : (lead name : List ℕ) (unit : UnitValue) (rest : List ℕ) (old mid : List ℕ) (number : ℕ) → length rest ≡ 0 → WritesParts lead name unit old mid number rest
-    → AddsBehind lead (ParamPieces false name unit) old mid
+    → AddsAfter lead (ParamPieces false name unit) old mid
 WritesParts-end lead name unit rest old mid number end so_far =
-    subst (AddsBehind lead (ParamPieces false name unit) old) (append-nil mid) (so_far.onward [] tt (nil_from_length rest end))
+    subst (AddsAfter lead (ParamPieces false name unit) old) (append-nil mid) (so_far.onward [] tt (nil_from_length rest end))
 
 pub not_short_some : (unit : UnitValue) → is_short unit ≡ false → 0 < length (octets_in unit)
 not_short_some unit long = by (octets_in unit) long

@@ -28,7 +28,7 @@ use Rattle.param_grammar.proofs.BodyLemmas.{IsBody-once}
 use Rattle.param_2231.proofs.JoinedAgain.{AreParams-again}
 use Rattle.param_2231.proofs.CoresAgain.{CanStand, HasCore}
 use Rattle.param_2231.proofs.PlacedAgain.{kept_solid, CanBeCopied, body_copied}
-use Rattle.param_2231.proofs.SectionsAgain.{behind, IsTail, tail_is, kept_begins, core_tokens, behind_tokens, made_ends, made_comments, cores_of, cores_stand, body_made, made_octets, semicolons_some}
+use Rattle.param_2231.proofs.SectionsAgain.{following, IsTail, tail_is, kept_begins, core_tokens, after_tokens, made_ends, made_comments, cores_of, cores_stand, body_made, made_octets, semicolons_some}
 use Rattle.param_2231.proofs.MadePiecesAgain.{IsMade, written_all}
 use Rattle.param_2231.proofs.GivenAgain.{AllGiven, pieces_given}
 use Rattle.param_2231.proofs.MainAgain.{MainAgain, main_again}
@@ -111,7 +111,7 @@ made_again kind open_global main params values w made comments written again are
     let text : List ℕ = join_with_byte 32 pieces in
     let cores : AllByRecursion HasCore made = made_cores made are_made in
     let tail : List TokenValue = spaced c.made in
-    let ts : List TokenValue = again.core ++ behind (cores_of made cores) tail in
+    let ts : List TokenValue = again.core ++ following (cores_of made cores) tail in
     let is_tail : IsTail tail = tail_is c.made (comments_groups c.made c.are_comments) in
     let stand : AllByRecursion CanStand (cores_of made cores) = cores_stand made cores in
     let main_stands : CanStand again.core = again.stands.stands in
@@ -119,7 +119,7 @@ made_again kind open_global main params values w made comments written again are
     made_octets w again.core made cores c.made again.octets
     ∙ join_after front c.made written (λ none. no_pieces comments written pieces_are (c.none.0 none)) (λ none. c.none.1 (no_comments comments written pieces_are none)) c.joined in
     let are : AreTokens Mime ts text =
-    subst (AreTokens Mime ts) joined (core_tokens again.core (cores_of made cores) tail main_stands is_tail (behind_tokens (cores_of made cores) tail stand is_tail)) in
+    subst (AreTokens Mime ts) joined (core_tokens again.core (cores_of made cores) tail main_stands is_tail (after_tokens (cores_of made cores) tail stand is_tail)) in
     let each : AllByRecursion IsLinePiece pieces =
     all-append IsLinePiece front written (semicolon_lines (w ∷ written_all made) (core_line again.core w again.octets main_stands (sym (ap (list_all is_ascii) again.octets) ∙ again.stands.ascii), made_lines made are_made))
     (CommentsPieces-line comments written writable plain pieces_are) in
@@ -134,7 +134,7 @@ made_again kind open_global main params values w made comments written again are
         };
         comments_say = subst (λ cs. CommentsSay cs values) (sym (made_comments again.core (cores_of made cores) c.made main_stands stand)) c.say;
       };
-      begins = AreTokens-begin Mime ts text are (kept_begins again.core (behind (cores_of made cores) tail) main_stands.some main_stands.kept);
+      begins = AreTokens-begin Mime ts text are (kept_begins again.core (following (cores_of made cores) tail) main_stands.some main_stands.kept);
       ends = AreTokens-end Mime ts text are (made_ends again.core (cores_of made cores) tail main_stands stand is_tail);
       some = semicolons_some w (written_all made) written;
       are_pieces = each;

@@ -51,12 +51,12 @@ SaysParams-once kind text main other params others comments more a b =
       comments = CommentsSay-once (comments_of b.body.has_tokens.values) comments more (subst (λ ts. CommentsSay (comments_of ts) comments) same.values a.comments_say) b.comments_say;
     }
 
-PiecesGive-once : (all : List Piece) (params : List ParamValue) (before behind : List Piece) (ps qs : List (List ℕ)) → PiecesGive all params before behind ps → PiecesGive all params before behind qs
+PiecesGive-once : (all : List Piece) (params : List ParamValue) (before following : List Piece) (ps qs : List (List ℕ)) → PiecesGive all params before following ps → PiecesGive all params before following qs
     → ps ≡ qs
 PiecesGive-once all params before [] ps qs a b = a ∙ sym b
-PiecesGive-once all params before (piece ∷ behind) ps qs a b =
+PiecesGive-once all params before (piece ∷ following) ps qs a b =
     let first : a.0 ≡ b.0 = GivesWhere-once (is_ascii_parameter all piece) (goes_on before piece) (is_doubled params piece.base) piece.written piece.base (unit_at all piece) a.0 b.0 a.3 b.3 in
-    let others : a.1 ≡ b.1 = PiecesGive-once all params (before ++ piece ∷ []) behind a.1 b.1 a.4 b.4 in
+    let others : a.1 ≡ b.1 = PiecesGive-once all params (before ++ piece ∷ []) following a.1 b.1 a.4 b.4 in
     a.2 ∙ rw (first, others) refl ∙ sym b.2
 
 pieces_made : (open_global : Bool) (kind : ParamKind) (text m n : List ℕ) (f g : List Token) (x y c d : List (List ℕ)) → m ≡ n → f ≡ g → x ≡ y → c ≡ d

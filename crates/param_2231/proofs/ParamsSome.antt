@@ -69,11 +69,11 @@ unit_at-writable all piece = elim (cases_Bool (is_some piece.number)) [
 
 -- ---- pieces
 
-PiecesGive-some : (all : List Piece) (params : List ParamValue) (before behind : List Piece) → (given : List (List ℕ)) × PiecesGive all params before behind given
+PiecesGive-some : (all : List Piece) (params : List ParamValue) (before following : List Piece) → (given : List (List ℕ)) × PiecesGive all params before following given
 PiecesGive-some all params before [] = ([], refl)
-PiecesGive-some all params before (piece ∷ behind) =
+PiecesGive-some all params before (piece ∷ following) =
     let first = GivesWhere-some (is_ascii_parameter all piece) (goes_on before piece) (is_doubled params piece.base) piece.written piece.base (unit_at all piece) (unit_at-writable all piece) in
-    let others = PiecesGive-some all params (before ++ piece ∷ []) behind in
+    let others = PiecesGive-some all params (before ++ piece ∷ []) following in
     (first.0 ++ others.0, (first.0, others.0, refl, first.1, others.1))
 
 -- the comments of a text can be written

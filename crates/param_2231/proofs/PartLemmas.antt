@@ -33,13 +33,13 @@ escaped_longer (suc n) (suc m) (x ∷ xs) h =
     let more = escaped_longer n m xs (omega (arith, h)) in
     omega (arith, more, length-append (escaped_octet x) (escaped (take n xs)), length-append (escaped_octet x) (escaped (take m xs)))
 
-behind_none : (xs : List ℕ) → length (xs ++ []) ≡ 0 + length xs
-behind_none xs = omega (arith, length-append xs [])
+after_none : (xs : List ℕ) → length (xs ++ []) ≡ 0 + length xs
+after_none xs = omega (arith, length-append xs [])
 
 -- one octet more
 escaped_next : (xs : List ℕ) (i : ℕ) → i < length xs → length (escaped (take (suc i) xs)) ≡ length (escaped (take i xs)) + length (escaped_octet (get_or xs i 0))
 escaped_next [] i l = absurd (omega (arith, l))
-escaped_next (x ∷ xs) zero l = behind_none (escaped_octet x)
+escaped_next (x ∷ xs) zero l = after_none (escaped_octet x)
 escaped_next (x ∷ xs) (suc i) l =
     let more = escaped_next xs i (omega (arith, l)) in
     omega (arith, more, length-append (escaped_octet x) (escaped (take i xs)), length-append (escaped_octet x) (escaped (take (suc i) xs)))
@@ -192,9 +192,9 @@ IsPartOf-once unit p q rest more a b e =
     let fronts : p ≡ q = sym (take_at p rest (length p) refl) ∙ ap (take (length p)) e ∙ take_at q more (length p) (sym same) in
     (fronts, append_cancel_left q rest more (ap (λ x. x ++ rest) (sym fronts) ∙ e))
   where
-    longest : (r behind whole : List ℕ) → r ++ behind ≡ whole → IsPartOf unit r behind → 60 < length (escaped (take (length r) whole)) → ⊥
-    longest r behind whole f is over =
-        let front : take (length r) whole ≡ r = ap (take (length r)) (sym f) ∙ take_at r behind (length r) refl in
+    longest : (r following whole : List ℕ) → r ++ following ≡ whole → IsPartOf unit r following → 60 < length (escaped (take (length r) whole)) → ⊥
+    longest r following whole f is over =
+        let front : take (length r) whole ≡ r = ap (take (length r)) (sym f) ∙ take_at r following (length r) refl in
         let small = is.fits in
         omega (arith, over, small, ap (λ xs. length (escaped xs)) front)
 

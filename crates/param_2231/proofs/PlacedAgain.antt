@@ -43,8 +43,8 @@ placed_from text front rest (t ∷ ts) line octets e are =
     let onward : text ≡ (front ++ t.octets) ++ are.0 = e ∙ ap (λ r. front ++ r) are.1 ∙ sym (append_assoc front t.octets are.0) in
     let more = placed_from text (front ++ t.octets) are.0 ts line octets onward are.3 in
     let place : length (front ++ t.octets) ≡ length front + length t.octets = length-append front t.octets in
-    let behind : drop (length front) text ≡ rest = ap (drop (length front)) e ∙ drop_at front rest (length front) refl in
-    let head : octets_at text (token_at (length front) t).span ≡ t.octets = rw (behind) (ap (take (length t.octets)) are.1 ∙ take_at t.octets are.0 (length t.octets) refl) in
+    let following : drop (length front) text ≡ rest = ap (drop (length front)) e ∙ drop_at front rest (length front) refl in
+    let head : octets_at text (token_at (length front) t).span ≡ t.octets = rw (following) (ap (take (length t.octets)) are.1 ∙ take_at t.octets are.0 (length t.octets) refl) in
     let after : drop (length front + length t.octets) text ≡ are.0 = ap (λ n. drop n text) (sym place) ∙ ap (drop (length (front ++ t.octets))) onward ∙ drop_at (front ++ t.octets) are.0 (length (front ++ t.octets)) refl in
     let is : IsToken Mime t.kind (octets_at text (token_at (length front) t).span) (drop (length front + length t.octets) text) =
     subst (λ o. IsToken Mime t.kind o (drop (length front + length t.octets) text)) (sym head) (subst (IsToken Mime t.kind t.octets) (sym after) are.2) in

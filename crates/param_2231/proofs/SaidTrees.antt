@@ -42,8 +42,8 @@ said_items at (Last text) value says = let run = said_run at text says.0 says.1 
 said_items at (Before text inner more) value says =
     let run = said_run at text says.0 says.3 in
     let nested = said_items (at + length (spelling text) + 1) inner says.1 says.4 in
-    let behind = said_items (at + length (spelling text) + length (body_octets inner) + 2) more says.2 says.5 in
-    (run_then run.0 (NestedThen nested.0 behind.0), (run.0, nested.0, behind.0, run.1, nested.1, behind.1, refl))
+    let following = said_items (at + length (spelling text) + length (body_octets inner) + 2) more says.2 says.5 in
+    (run_then run.0 (NestedThen nested.0 following.0), (run.0, nested.0, following.0, run.1, nested.1, following.1, refl))
 
 -- the comments among tokens by their places have trees where those by their octets say something
 said_trees : (text front rest : List ℕ) (at : ℕ) (ts : List TokenValue) (said : List CommentValue) → text ≡ front ++ (octets_of ts ++ rest) → at ≡ length front → CommentsSay (comments_of ts) said
@@ -51,12 +51,12 @@ said_trees : (text front rest : List ℕ) (at : ℕ) (ts : List TokenValue) (sai
 said_trees text front rest at [] said e place says = ([], refl)
 said_trees text front rest at (t ∷ ts) said e place says =
     let first : text ≡ front ++ (t.octets ++ (octets_of ts ++ rest)) = e ∙ ap (λ r. front ++ r) (append_assoc t.octets (octets_of ts) rest) in
-    let behind = said_trees text (front ++ t.octets) rest (at + length t.octets) ts in
+    let following = said_trees text (front ++ t.octets) rest (at + length t.octets) ts in
     let onward = first ∙ sym (append_assoc front t.octets (octets_of ts ++ rest)) in
     let here : at + length t.octets ≡ length (front ++ t.octets) = omega (arith, place, length-append front t.octets) in
     elim (cases_Bool (is_comment t.kind)) [
-      | inl comment ↦ by comment (octets_between front t.octets (octets_of ts ++ rest) text at first place) (rw (comment) at says) (λ more s. behind more onward here s)
-      | inr other ↦ rw (other) (behind said onward here (rw (other) at says))
+      | inl comment ↦ by comment (octets_between front t.octets (octets_of ts ++ rest) text at first place) (rw (comment) at says) (λ more s. following more onward here s)
+      | inr other ↦ rw (other) (following said onward here (rw (other) at says))
     ]
   where
     by : is_comment t.kind ≡ true → take (length t.octets) (drop at text) ≡ t.octets → CommentsSay (t.octets ∷ comments_of ts) said

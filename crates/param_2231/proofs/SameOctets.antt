@@ -39,34 +39,34 @@ all_split P p [] all = (tt, tt)
 all_split P p (x ∷ xs) all = all_split-more P (p x) x (slice_split p xs) all.0 (all_split P p xs all.1)
 
 -- the first part, and what the others are parts of
-pub record Behind (P : Token → Type 0) (tokens first : List Token) (others : List (List Token)) : Type 0 where
+pub record Following (P : Token → Type 0) (tokens first : List Token) (others : List (List Token)) : Type 0 where
   pub tail : List Token
   pub whole : tokens ≡ first ++ tail
   pub onward : AllByRecursion P tail → AllByRecursion (AllByRecursion P) others
 
-behind_more : (P : Token → Type 0) (p : Token → Bool) (b : Bool) (t : Token) (ts first : List Token) (others parts : List (List Token)) → parts ≡ slice_split p ts
-    → ((front : List Token) (back : List (List Token)) → parts ≡ front ∷ back → Behind P ts front back) → cond b ([] ∷ parts) (onto_first t parts) ≡ first ∷ others → Behind P (t ∷ ts) first others
-behind_more P p true t ts first others parts are more e =
+after_more : (P : Token → Type 0) (p : Token → Bool) (b : Bool) (t : Token) (ts first : List Token) (others parts : List (List Token)) → parts ≡ slice_split p ts
+    → ((front : List Token) (back : List (List Token)) → parts ≡ front ∷ back → Following P ts front back) → cond b ([] ∷ parts) (onto_first t parts) ≡ first ∷ others → Following P (t ∷ ts) first others
+after_more P p true t ts first others parts are more e =
     let none : first ≡ [] = sym (cc e) in
     let same : others ≡ parts = sym (cc e) in
     record { tail = t ∷ ts; whole = rw (none) refl; onward = λ all. rw (same, are) (all_split P p ts all.1) }
-behind_more P p false t ts first others [] are more e =
+after_more P p false t ts first others [] are more e =
     let one : first ≡ t ∷ [] = sym (cc e) in
     let none : others ≡ [] = sym (cc e) in
     record { tail = ts; whole = rw (one) refl; onward = λ all. rw (none) tt }
-behind_more P p false t ts first others (part ∷ parts) are more e =
+after_more P p false t ts first others (part ∷ parts) are more e =
     let one : first ≡ t ∷ part = sym (cc e) in
     let same : others ≡ parts = sym (cc e) in
     let rest = more part parts refl in
     record { tail = rest.tail; whole = rw (one) (ap (λ r. t ∷ r) rest.whole); onward = λ all. rw (same) (rest.onward all) }
 
-pub first_part : (P : Token → Type 0) (p : Token → Bool) (ts first : List Token) (others : List (List Token)) → slice_split p ts ≡ first ∷ others → Behind P ts first others
+pub first_part : (P : Token → Type 0) (p : Token → Bool) (ts first : List Token) (others : List (List Token)) → slice_split p ts ≡ first ∷ others → Following P ts first others
 first_part P p [] first others e =
     let none : first ≡ [] = sym (cc e) in
     let last : others ≡ [] = sym (cc e) in
     record { tail = []; whole = rw (none) refl; onward = λ all. rw (last) tt }
 first_part P p (t ∷ ts) first others e =
-    behind_more P p (p t) t ts first others (slice_split p ts) refl (λ front back f. first_part P p ts front back f) e
+    after_more P p (p t) t ts first others (slice_split p ts) refl (λ front back f. first_part P p ts front back f) e
 
 -- ---- tokens
 

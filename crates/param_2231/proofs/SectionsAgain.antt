@@ -31,9 +31,9 @@ abbrev pub semicolon : TokenValue
 semicolon = record { kind = Special; octets = 59 ∷ [] }
 
 -- parameters behind others, each behind a semicolon and a space, and what stands behind the last
-abbrev pub behind : List (List TokenValue) → List TokenValue → List TokenValue
-behind [] tail = tail
-behind (core ∷ cores) tail = semicolon ∷ space ∷ (core ++ behind cores tail)
+abbrev pub following : List (List TokenValue) → List TokenValue → List TokenValue
+following [] tail = tail
+following (core ∷ cores) tail = semicolon ∷ space ∷ (core ++ following cores tail)
 
 abbrev pub AreBlank : List TokenValue → Type 0
 AreBlank ts = AllByRecursion (λ (t : TokenValue). is_blank t.kind ≡ true) ts
@@ -75,36 +75,36 @@ pub kept_begins : (ts more : List TokenValue) → 0 < length ts → AreKept ts �
 kept_begins [] more some kept = absurd (omega (arith, some))
 kept_begins (t ∷ ts) more some kept = kept_no_gap t.kind kept.0
 
-behind_stops : (cores : List (List TokenValue)) (tail : List TokenValue) → IsTail tail → Stops (is_atom_octet Mime) (octets_of (behind cores tail))
-behind_stops [] tail is = is.stops
-behind_stops (core ∷ cores) tail is = refl
+after_stops : (cores : List (List TokenValue)) (tail : List TokenValue) → IsTail tail → Stops (is_atom_octet Mime) (octets_of (following cores tail))
+after_stops [] tail is = is.stops
+after_stops (core ∷ cores) tail is = refl
 
-pub core_tokens : (core : List TokenValue) (cores : List (List TokenValue)) (tail : List TokenValue) → CanStand core → IsTail tail → AreTokens Mime (behind cores tail) (octets_of (behind cores tail))
-    → AreTokens Mime (core ++ behind cores tail) (octets_of (core ++ behind cores tail))
+pub core_tokens : (core : List TokenValue) (cores : List (List TokenValue)) (tail : List TokenValue) → CanStand core → IsTail tail → AreTokens Mime (following cores tail) (octets_of (following cores tail))
+    → AreTokens Mime (core ++ following cores tail) (octets_of (core ++ following cores tail))
 core_tokens core cores tail stands is more =
-    subst (AreTokens Mime (core ++ behind cores tail)) (sym (octets_of-append core (behind cores tail)))
-    (AreTokens-append Mime core (behind cores tail) (octets_of core) (octets_of (behind cores tail)) stands.are_tokens (kept_ends core stands.kept) (behind_stops cores tail is) more)
+    subst (AreTokens Mime (core ++ following cores tail)) (sym (octets_of-append core (following cores tail)))
+    (AreTokens-append Mime core (following cores tail) (octets_of core) (octets_of (following cores tail)) stands.are_tokens (kept_ends core stands.kept) (after_stops cores tail is) more)
 
-pub behind_tokens : (cores : List (List TokenValue)) (tail : List TokenValue) → AllByRecursion CanStand cores → IsTail tail → AreTokens Mime (behind cores tail) (octets_of (behind cores tail))
-behind_tokens [] tail all is = is.are_tokens
-behind_tokens (core ∷ cores) tail all is =
-    let more = core_tokens core cores tail all.0 is (behind_tokens cores tail all.1 is) in
-    AreTokens-space Mime (semicolon ∷ []) (core ++ behind cores tail) (59 ∷ []) (octets_of (core ++ behind cores tail)) ([], refl, (59, refl, refl), refl) refl more
-    (kept_begins core (behind cores tail) all.0.some all.0.kept)
+pub after_tokens : (cores : List (List TokenValue)) (tail : List TokenValue) → AllByRecursion CanStand cores → IsTail tail → AreTokens Mime (following cores tail) (octets_of (following cores tail))
+after_tokens [] tail all is = is.are_tokens
+after_tokens (core ∷ cores) tail all is =
+    let more = core_tokens core cores tail all.0 is (after_tokens cores tail all.1 is) in
+    AreTokens-space Mime (semicolon ∷ []) (core ++ following cores tail) (59 ∷ []) (octets_of (core ++ following cores tail)) ([], refl, (59, refl, refl), refl) refl more
+    (kept_begins core (following cores tail) all.0.some all.0.kept)
 
-pub made_ends : (core : List TokenValue) (cores : List (List TokenValue)) (tail : List TokenValue) → CanStand core → AllByRecursion CanStand cores → IsTail tail → EndsNoGap (core ++ behind cores tail)
+pub made_ends : (core : List TokenValue) (cores : List (List TokenValue)) (tail : List TokenValue) → CanStand core → AllByRecursion CanStand cores → IsTail tail → EndsNoGap (core ++ following cores tail)
 made_ends core [] [] stands all is = rw (append-nil core) (kept_ends core stands.kept)
 made_ends core [] (t ∷ tail) stands all is = EndsNoGap-append core (t ∷ tail) (omega arith) is.ends
 made_ends core (next ∷ cores) tail stands all is =
-    EndsNoGap-append core (behind (next ∷ cores) tail) (omega arith)
-    (EndsNoGap-append (semicolon ∷ space ∷ []) (next ++ behind cores tail) (omega (arith, all.0.some, length-append next (behind cores tail))) (made_ends next cores tail all.0 all.1 is))
+    EndsNoGap-append core (following (next ∷ cores) tail) (omega arith)
+    (EndsNoGap-append (semicolon ∷ space ∷ []) (next ++ following cores tail) (omega (arith, all.0.some, length-append next (following cores tail))) (made_ends next cores tail all.0 all.1 is))
 
 -- ---- the comments
 
-pub made_comments : (core : List TokenValue) (cores : List (List TokenValue)) (cs : List (List ℕ)) → CanStand core → AllByRecursion CanStand cores → comments_of (core ++ behind cores (spaced cs)) ≡ cs
+pub made_comments : (core : List TokenValue) (cores : List (List TokenValue)) (cs : List (List ℕ)) → CanStand core → AllByRecursion CanStand cores → comments_of (core ++ following cores (spaced cs)) ≡ cs
 made_comments core [] cs stands all = comments_of-append core (spaced cs) ∙ rw (kept_comments core stands.kept) (spaced_comments cs)
 made_comments core (next ∷ cores) cs stands all =
-    comments_of-append core (behind (next ∷ cores) (spaced cs)) ∙ rw (kept_comments core stands.kept) (made_comments next cores cs all.0 all.1)
+    comments_of-append core (following (next ∷ cores) (spaced cs)) ∙ rw (kept_comments core stands.kept) (made_comments next cores cs all.0 all.1)
 
 -- ---- the sections
 
@@ -174,23 +174,23 @@ marked : (text : List ℕ) (at : ℕ) → StandAt text at (semicolon ∷ []) →
 marked text at e = let head : value_at text (token_at at semicolon) ≡ semicolon = cc e in ap (is_mark 59) head
 
 sections_made : (text : List ℕ) (at : ℕ) (lead core : List TokenValue) (cores : List (List TokenValue)) (tail : List TokenValue) → AreBlank lead → HaveNoSemicolon lead → CanStand core
-    → AllByRecursion CanStand cores → IsTail tail → StandAt text at (lead ++ (core ++ behind cores tail))
-    → AreSectionsOf text (core ∷ cores) (sections_of text (tokens_from at (lead ++ (core ++ behind cores tail))))
+    → AllByRecursion CanStand cores → IsTail tail → StandAt text at (lead ++ (core ++ following cores tail))
+    → AreSectionsOf text (core ∷ cores) (sections_of text (tokens_from at (lead ++ (core ++ following cores tail))))
 sections_made text at lead core [] tail blank free stands all is e =
     let ts : List TokenValue = lead ++ (core ++ tail) in
     let none : HaveNoSemicolon ts = no_semicolon_append lead (core ++ tail) free (no_semicolon_append core tail stands.no_semicolon is.no_semicolon) in
     (tokens_from at ts, [], slice_split_none (is_mark_at text 59) (tokens_from at ts) (unmarked text at ts e none), section_of text at lead core tail blank stands.kept is.blank e, refl)
 sections_made text at lead core (next ∷ cores) tail blank free stands all is e =
     let front : List TokenValue = lead ++ core in
-    let rest : List TokenValue = space ∷ (next ++ behind cores tail) in
+    let rest : List TokenValue = space ∷ (next ++ following cores tail) in
     let end : ℕ = at + length (octets_of front) in
-    let whole : lead ++ (core ++ behind (next ∷ cores) tail) ≡ front ++ semicolon ∷ rest = sym (append_assoc lead core (semicolon ∷ rest)) in
+    let whole : lead ++ (core ++ following (next ∷ cores) tail) ≡ front ++ semicolon ∷ rest = sym (append_assoc lead core (semicolon ∷ rest)) in
     let cut = stand_cut text at front (semicolon ∷ rest) (subst (StandAt text at) whole e) in
     let mark = stand_cut text end (semicolon ∷ []) rest cut.1 in
     let none : HaveNoSemicolon front = no_semicolon_append lead core free stands.no_semicolon in
     let is_mark_there : is_mark_at text 59 (token_at end semicolon) ≡ true = marked text end mark.0 in
     let split = slice_split_at (is_mark_at text 59) (tokens_from at front) (token_at end semicolon) (tokens_from (end + 1) rest) (unmarked text at front cut.0 none) is_mark_there in
-    let as_placed : tokens_from at (lead ++ (core ++ behind (next ∷ cores) tail)) ≡ tokens_from at front ++ token_at end semicolon ∷ tokens_from (end + 1) rest =
+    let as_placed : tokens_from at (lead ++ (core ++ following (next ∷ cores) tail)) ≡ tokens_from at front ++ token_at end semicolon ∷ tokens_from (end + 1) rest =
     ap (tokens_from at) whole ∙ tokens_from-append at front (semicolon ∷ rest) in
     let bare : lead ++ (core ++ []) ≡ front = ap (λ r. lead ++ r) (append-nil core) in
     let first : IsSectionOf text core (tokens_from at front) =
@@ -238,7 +238,7 @@ pub record IsMainCore (kind : ParamKind) (core : List TokenValue) (main : List �
   pub main_is : main ≡ str_to_ascii_lowercase (octets_of core)
 
 pub body_made : (kind : ParamKind) (text main : List ℕ) (core : List TokenValue) (pieces : List Piece) (all : AllByRecursion HasCore pieces) (tail : List TokenValue) → IsMainCore kind core main
-    → CanStand core → IsTail tail → StandAt text 0 (core ++ behind (cores_of pieces all) tail) → IsBody kind text (tokens_from 0 (core ++ behind (cores_of pieces all) tail)) main pieces
+    → CanStand core → IsTail tail → StandAt text 0 (core ++ following (cores_of pieces all) tail) → IsBody kind text (tokens_from 0 (core ++ following (cores_of pieces all) tail)) main pieces
 body_made kind text main core pieces all tail is stands tail_is e =
     let s = sections_made text 0 [] core (cores_of pieces all) tail tt tt stands (cores_stand pieces all) tail_is e in
     let same : map (value_at text) (solid s.0) ≡ core = ap (map (value_at text)) s.3.solid_is ∙ s.3.values in
@@ -262,12 +262,12 @@ semicolons_some w [] cs = omega arith
 semicolons_some w (v ∷ ws) cs = omega arith
 
 pub made_octets : (w : List ℕ) (core : List TokenValue) (pieces : List Piece) (all : AllByRecursion HasCore pieces) (cs : List (List ℕ)) → octets_of core ≡ w
-    → octets_of (core ++ behind (cores_of pieces all) (spaced cs)) ≡ join_with_byte 32 (with_semicolons (w ∷ map (λ (p : Piece). p.written) pieces) ++ cs)
+    → octets_of (core ++ following (cores_of pieces all) (spaced cs)) ≡ join_with_byte 32 (with_semicolons (w ∷ map (λ (p : Piece). p.written) pieces) ++ cs)
 made_octets w core [] all cs e = octets_of-append core (spaced cs) ∙ ap (λ r. r ++ octets_of (spaced cs)) e ∙ join_tail w cs
 made_octets w core (p ∷ pieces) all cs e =
     let tail : List TokenValue = spaced cs in
     let ws : List (List ℕ) = map (λ (p : Piece). p.written) pieces in
     let more = made_octets p.written all.0.core pieces all.1 cs (sym all.0.is_core.written_is) in
-    octets_of-append core (behind (cores_of (p ∷ pieces) all) tail) ∙ ap (λ r. r ++ octets_of (behind (cores_of (p ∷ pieces) all) tail)) e ∙ ap (λ r. w ++ 59 ∷ 32 ∷ r) more
+    octets_of-append core (following (cores_of (p ∷ pieces) all) tail) ∙ ap (λ r. r ++ octets_of (following (cores_of (p ∷ pieces) all) tail)) e ∙ ap (λ r. w ++ 59 ∷ 32 ∷ r) more
     ∙ sym (append_assoc w (59 ∷ []) (32 ∷ join_with_byte 32 (with_semicolons (p.written ∷ ws) ++ cs)))
     ∙ sym (join_more (w ++ 59 ∷ []) (with_semicolons (p.written ∷ ws) ++ cs) (semicolons_some p.written ws cs))

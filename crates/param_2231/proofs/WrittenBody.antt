@@ -19,7 +19,7 @@ use Rattle.param_grammar.specs.Joining.{ParamValue, params_of, AreParams, HasSai
 use Rattle.param_grammar.proofs.BodyLemmas.{IsBody-once}
 use Rattle.param_2231.specs.Layout.{PiecesGive, with_semicolons, written_main, ParamsPieces}
 use Rattle.param_2231.specs.private.Given.{SaysPlaced}
-use Rattle.param_2231.specs.private.Lines.{lines_behind, AddsBehind}
+use Rattle.param_2231.specs.private.Lines.{lines_after, AddsAfter}
 use Rattle.param_2231.proofs.GivenLemmas.{by_tokens}
 
 -- ---- where there is none
@@ -44,26 +44,26 @@ one_line : (piece : List ℕ) → lines_of (piece ∷ []) ≡ line piece
 one_line piece = append-nil (line piece)
 
 -- a semicolon is put behind each piece but the last where the next one begins
-given_lines : (main : List ℕ) (given : List (List ℕ)) → lines_of (with_semicolons (main ∷ given)) ≡ lines_of (main ∷ []) ++ lines_behind (codes ";") given
+given_lines : (main : List ℕ) (given : List (List ℕ)) → lines_of (with_semicolons (main ∷ given)) ≡ lines_of (main ∷ []) ++ lines_after (codes ";") given
 given_lines main [] = sym (append-nil (lines_of (main ∷ [])))
 given_lines main (piece ∷ given) =
     let ended : List ℕ = line (main ++ 59 ∷ []) in
-    let behind : List ℕ = lines_behind (codes ";") given in
-    let more : lines_of (with_semicolons (main ∷ piece ∷ given)) ≡ ended ++ (lines_of (piece ∷ []) ++ behind) = ap (λ r. ended ++ r) (given_lines piece given) in
-    let first : ended ++ (lines_of (piece ∷ []) ++ behind) ≡ ended ++ (line piece ++ behind) = ap (λ r. ended ++ (r ++ behind)) (one_line piece) in
-    let parted : ended ++ (line piece ++ behind) ≡ line main ++ (59 ∷ (line piece ++ behind)) = ap (λ r. 13 ∷ 10 ∷ 32 ∷ r) (append_assoc main (59 ∷ []) (line piece ++ behind)) in
-    more ∙ first ∙ parted ∙ ap (λ r. r ++ (59 ∷ (line piece ++ behind))) (sym (one_line main))
+    let following : List ℕ = lines_after (codes ";") given in
+    let more : lines_of (with_semicolons (main ∷ piece ∷ given)) ≡ ended ++ (lines_of (piece ∷ []) ++ following) = ap (λ r. ended ++ r) (given_lines piece given) in
+    let first : ended ++ (lines_of (piece ∷ []) ++ following) ≡ ended ++ (line piece ++ following) = ap (λ r. ended ++ (r ++ following)) (one_line piece) in
+    let parted : ended ++ (line piece ++ following) ≡ line main ++ (59 ∷ (line piece ++ following)) = ap (λ r. 13 ∷ 10 ∷ 32 ∷ r) (append_assoc main (59 ∷ []) (line piece ++ following)) in
+    more ∙ first ∙ parted ∙ ap (λ r. r ++ (59 ∷ (line piece ++ following))) (sym (one_line main))
 
 -- a main part, and what pieces give, with semicolons
 abbrev GiveBody : List Piece → List ℕ → List (List ℕ) → Type 0
 GiveBody pieces main made = (given : List (List ℕ)) × PiecesGive pieces (params_of pieces) [] pieces given × (made ≡ with_semicolons (main ∷ given))
 
-body_made : (pieces : List Piece) (main old mid new : List ℕ) → mid ≡ old ++ lines_of (main ∷ []) → AddsBehind (codes ";") (PiecesGive pieces (params_of pieces) [] pieces) mid new
+body_made : (pieces : List Piece) (main old mid new : List ℕ) → mid ≡ old ++ lines_of (main ∷ []) → AddsAfter (codes ";") (PiecesGive pieces (params_of pieces) [] pieces) mid new
     → AddsLines (GiveBody pieces main) old new
 body_made pieces main old mid new put gives = record {
   pieces = with_semicolons (main ∷ gives.pieces);
   holds = let same : with_semicolons (main ∷ gives.pieces) ≡ with_semicolons (main ∷ gives.pieces) = refl in (gives.pieces, gives.holds, same);
-  added = gives.added ∙ ap (λ r. r ++ lines_behind (codes ";") gives.pieces) put ∙ append_assoc old (lines_of (main ∷ [])) (lines_behind (codes ";") gives.pieces)
+  added = gives.added ∙ ap (λ r. r ++ lines_after (codes ";") gives.pieces) put ∙ append_assoc old (lines_of (main ∷ [])) (lines_after (codes ";") gives.pieces)
       ∙ ap (λ r. old ++ r) (sym (given_lines main gives.pieces));
 }
 
@@ -96,7 +96,7 @@ said_tokens kind text written placed says = record { is_line = says.has_tokens.i
 
 pub params_made : (kind : ParamKind) (open_global : Bool) (text written main : List ℕ) (placed : Placed) (old first mid new : List ℕ) → (says : SaysPlaced kind text written placed)
     → main ≡ written_main open_global kind (str_to_ascii_lowercase written) written → first ≡ old ++ lines_of (main ∷ [])
-    → AddsBehind (codes ";") (PiecesGive says.pieces (params_of says.pieces) [] says.pieces) first mid → AddsLines (CommentsPieces (comments_of says.has_tokens.values)) mid new
+    → AddsAfter (codes ";") (PiecesGive says.pieces (params_of says.pieces) [] says.pieces) first mid → AddsLines (CommentsPieces (comments_of says.has_tokens.values)) mid new
     → AddsLines (ParamsPieces kind open_global text) old new
 params_made kind open_global text written main placed old first mid new says main_is put given comments =
     adds_both (ParamsPieces-made kind open_global text written main placed says main_is) (body_made says.pieces main old first mid put given) comments

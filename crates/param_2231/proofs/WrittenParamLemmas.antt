@@ -14,7 +14,7 @@ use Rattle.field_tokens.specs.declared.TokenKind.TheVariants.{Atom, Quoted, Lite
 use Rattle.field_tokens.specs.Tokens.{IsToken, octets_at, HasTokens}
 use Rattle.field_tokens.specs.Squeezed.{is_blank, run_octets, octets_of, is_atom_kind}
 use Rattle.encoded_words.specs.Folding.{AddsLines}
-use Rattle.param_2231.specs.private.Lines.{AddsBehind}
+use Rattle.param_2231.specs.private.Lines.{AddsAfter}
 use Rattle.mail_wire.specs.Octets.{is_white}
 use Rattle.field_tokens.proofs.Parts.{octets_of-tokens}
 use Rattle.field_tokens.proofs.SqueezedValues.{value_at, values_at, AreKept}
@@ -26,7 +26,7 @@ use Rattle.encoded_words.specs.private.Values.{value_of}
 use Rattle.field_tokens.specs.Trees.{Tree}
 use Rattle.param_grammar.specs.declared.Param.{Param}
 use Rattle.param_2231.proofs.SaidTrees.{HasParams-says}
-use Rattle.param_grammar.specs.Joining.{ParamValue, HasParams, param_value, unit_at, goes_on, params_behind, params_of, AreParams, is_doubled, HasSaidBody, SaysParams}
+use Rattle.param_grammar.specs.Joining.{ParamValue, HasParams, param_value, unit_at, goes_on, params_after, params_of, AreParams, is_doubled, HasSaidBody, SaysParams}
 use Rattle.param_2231.specs.Layout.{charset_of, octets_in, with_semicolons, ParamPieces}
 use Rattle.param_2231.specs.private.Parts.{IsWritableUnit}
 use Rattle.param_2231.specs.ParamsReadBack.{AreParamsAgain}
@@ -49,10 +49,10 @@ record IsSaid (param : ParamValue) : Type 0 where
   can : CanBeWritten param.unit
   writable : IsWritableUnit param.unit
 
-params_said : (all before pieces : List Piece) → AllByRecursion IsGood all → AllByRecursion HasCore pieces → All IsSaid (params_behind all before pieces)
+params_said : (all before pieces : List Piece) → AllByRecursion IsGood all → AllByRecursion HasCore pieces → All IsSaid (params_after all before pieces)
 params_said all before [] good cores = All-nil IsSaid
 params_said all before (piece ∷ more) good cores =
-    let others : All IsSaid (params_behind all (before ++ piece ∷ []) more) = params_said all (before ++ piece ∷ []) more good cores.1 in
+    let others : All IsSaid (params_after all (before ++ piece ∷ []) more) = params_said all (before ++ piece ∷ []) more good cores.1 in
     let param : ParamValue = record { name = piece.base; unit = unit_at all piece } in
     let said : IsSaid param = record {
       name = core_name piece cores.0;
@@ -61,7 +61,7 @@ params_said all before (piece ∷ more) good cores =
     } in
     elim (cases_Bool (goes_on before piece)) [
       | inl t ↦ subst (All IsSaid) (sym (cond-true _ _ _ t)) others
-      | inr f ↦ subst (All IsSaid) (sym (cond-false _ _ _ f)) (All-cons IsSaid param (params_behind all (before ++ piece ∷ []) more) said others)
+      | inr f ↦ subst (All IsSaid) (sym (cond-false _ _ _ f)) (All-cons IsSaid param (params_after all (before ++ piece ∷ []) more) said others)
     ]
 
 comes_said : (name : List ℕ) (unit : UnitValue) → ComesInParams name unit → IsSaid (record { name = name; unit = unit })
@@ -167,8 +167,8 @@ pub adds_reads : (name : List ℕ) (unit : UnitValue) (old new : List ℕ) → C
 adds_reads name unit old new comes adds = record { pieces = adds.pieces; holds = ParamPieces-reads name unit adds.pieces comes adds.holds; added = adds.added }
 
 -- lines behind nothing
-pub behind_nothing : (P : List (List ℕ) → Type 0) (old new : List ℕ) → AddsBehind [] P old new → AddsLines P old new
-behind_nothing P old new adds = record { pieces = adds.pieces; holds = adds.holds; added = adds.added }
+pub after_nothing : (P : List (List ℕ) → Type 0) (old new : List ℕ) → AddsAfter [] P old new → AddsLines P old new
+after_nothing P old new adds = record { pieces = adds.pieces; holds = adds.holds; added = adds.added }
 
 -- the first of parameters that were read comes in a text
 pub ComesInParams-first : (kind : ParamKind) (text main : List ℕ) (list items : List Param) (trees : List Tree) (first : Param) → HasParams kind text main (map param_value list) trees → items ≡ list

@@ -3,6 +3,7 @@ use Rattle.std.specs.Prelude.{◌≡◌, ℕ, zero, suc, ◌+◌, ◌<◌, ◌�
 use Rattle.std.specs.List.{concat}
 use Rattle.std.specs.Str.{IsCharBoundary, bytes_eq}
 use Rattle.std.specs.Int.Digits.{digits_of}
+use Rattle.mail_wire.specs.Characters.{digit_zero, semicolon}
 use Rattle.encoded_words.specs.Words.{UnitValue, Text, Opaque}
 use Rattle.field_tokens.specs.Squeezed.{comments_of, run_octets}
 use Rattle.field_tokens.specs.Comments.{CommentsPieces}
@@ -52,7 +53,7 @@ whole_piece name unit = name ++ codes "*=" ++ charset_part unit ++ escaped (octe
 
 -- the decimal digits of a number
 abbrev pub number_digits : ℕ → List ℕ
-number_digits zero = 48 ∷ []
+number_digits zero = digit_zero ∷ []
 number_digits (suc n) = map (λ d. 48 + d) (digits_of 10 (suc n))
 
 -- the piece of this number
@@ -99,7 +100,7 @@ PiecesGive all params before (piece ∷ more) pieces = (first others : List (Lis
 abbrev pub with_semicolons : List (List ℕ) → List (List ℕ)
 with_semicolons [] = []
 with_semicolons (piece ∷ []) = piece ∷ []
-with_semicolons (piece ∷ next ∷ pieces) = (piece ++ 59 ∷ []) ∷ with_semicolons (next ∷ pieces)
+with_semicolons (piece ∷ next ∷ pieces) = (piece ++ semicolon ∷ []) ∷ with_semicolons (next ∷ pieces)
 
 -- The type of a message whose headers are UTF-8 is the one of a message (RFC 6532, 3.7) where its headers are shown as ASCII.
 abbrev pub is_global : ParamKind → List ℕ → Bool

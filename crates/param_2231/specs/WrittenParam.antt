@@ -2,6 +2,7 @@
 use Rattle.std.specs.Prelude.{◌≡◌, ℕ, true, List, [], ◌∷◌, Contains}
 use Rattle.std.specs.List.{join_with_byte}
 use Rattle.std.specs.Str.{str_to_ascii_lowercase}
+use Rattle.mail_wire.specs.Characters.{space}
 use Rattle.encoded_words.specs.Words.{UnitValue}
 use Rattle.field_tokens.specs.declared.Style.TheVariants.{Mime}
 use Rattle.field_tokens.specs.declared.Token.{Token}
@@ -31,4 +32,4 @@ pub record IsMainText (kind : ParamKind) (main : List ℕ) : Type 0 where
 -- Behind any main part, with a semicolon behind each but the last and a space between any two, the pieces are this one parameter.
 abbrev pub ReadsAsOne : List ℕ → UnitValue → List (List ℕ) → Type 0
 ReadsAsOne name unit pieces = (kind : ParamKind) (main : List ℕ) → IsMainText kind main
-    → SaysParams kind (join_with_byte 32 (with_semicolons (main ∷ pieces))) (str_to_ascii_lowercase main) (record { name = name; unit = unit } ∷ []) []
+    → SaysParams kind (join_with_byte space (with_semicolons (main ∷ pieces))) (str_to_ascii_lowercase main) (record { name = name; unit = unit } ∷ []) []

@@ -40,13 +40,13 @@ fn third_place(tokens: Tokens<'_>) -> Option<usize>
         × (solid (tokens_of tokens.entry) ≡ first ∷ second ∷ third ∷ more) × (third.span.at ≡ at)) }
     ensures none { IfNone result ((first second third : Token) (more : List Token) → solid (tokens_of tokens.entry) ≢ first ∷ second ∷ third ∷ more) }
 {
-    let Some((_, behind)) = next_solid(tokens) else {
+    let Some((_, following)) = next_solid(tokens) else {
         return None;
     };
-    let Some((_, behind)) = next_solid(behind) else {
+    let Some((_, following)) = next_solid(following) else {
         return None;
     };
-    match next_solid(behind) {
+    match next_solid(following) {
         Some((third, _)) => Some(third.span.at),
         None => None,
     }

@@ -13,7 +13,7 @@ ghost use Rattle.param_grammar.specs.Places.{IsPlaced, piece_in};
 ghost use Rattle.param_2231.specs.Layout.{ParamPieces, PieceGives, PiecesGive, is_global as is_global_of, written_main as written_main_of, ParamsPieces};
 ghost use Rattle.param_2231.specs.ParamsReadBack.{AreParamsAgain};
 ghost use Rattle.param_2231.specs.private.Given.{is_ascii_role, SaysPlaced};
-ghost use Rattle.param_2231.specs.private.Lines.{AddsBehind, line_behind};
+ghost use Rattle.param_2231.specs.private.Lines.{AddsAfter, line_after};
 
 use crate::writing::{begin_line, push_param};
 use encoded_words::{lower_case, push_line};
@@ -27,7 +27,7 @@ use std::alloc::Global;
 
 // Puts the piece at a place last as it is written, on a line behind a semicolon.
 fn push_copy(text: &[u8], place: Place, made: &mut Octets) -> Result<(), Memory>
-    ensures { (piece : Piece) → IsPlaced text.now place piece → OnOk result (made.new ≡ made.old ++ line_behind (codes ";") piece.written) }
+    ensures { (piece : Piece) → IsPlaced text.now place piece → OnOk result (made.new ≡ made.old ++ line_after (codes ";") piece.written) }
 {
     begin_line(made, b";")?;
     push_written(made, text, place)
@@ -65,7 +65,7 @@ fn push_begun(
     requires number { number < length placed.now.places.items }
     requires placed { (pieces : List Piece) × HasPlaced text.now placed.now pieces }
     ensures { (pieces : List Piece) → HasPlaced text.now placed.now pieces
-        → OnOk result (AddsBehind (codes ";") (ParamPieces is_doubled (piece_in pieces number).base (unit_at pieces (piece_in pieces number))) made.old made.new) }
+        → OnOk result (AddsAfter (codes ";") (ParamPieces is_doubled (piece_in pieces number).base (unit_at pieces (piece_in pieces number))) made.old made.new) }
 {
     let name = lower_case(alloc, base_at(text, placed.places[number]))?;
     let unit = placed.unit(alloc, text, number)?;
@@ -93,7 +93,7 @@ fn push_given(
     requires number { number < length placed.now.places.items }
     requires placed { (pieces : List Piece) × HasPlaced text.now placed.now pieces }
     ensures { (pieces : List Piece) → HasPlaced text.now placed.now pieces
-        → OnOk result (AddsBehind (codes ";") (PieceGives pieces (params_of pieces) (take number pieces) (piece_in pieces number)) made.old made.new) }
+        → OnOk result (AddsAfter (codes ";") (PieceGives pieces (params_of pieces) (take number pieces) (piece_in pieces number)) made.old made.new) }
 {
     let role = placed.roles[number];
     if is_ascii(role) {
@@ -116,7 +116,7 @@ fn push_all_given(
 ) -> Result<(), Memory>
     requires { (pieces : List Piece) × HasPlaced text.now placed.now pieces }
     ensures { (pieces : List Piece) → HasPlaced text.now placed.now pieces
-        → OnOk result (AddsBehind (codes ";") (PiecesGive pieces (params_of pieces) [] pieces) made.old made.new) }
+        → OnOk result (AddsAfter (codes ";") (PiecesGive pieces (params_of pieces) [] pieces) made.old made.new) }
 {
     for number in 0..placed.places.len() {
         push_given(alloc, text, placed, number, made)?;

@@ -5,7 +5,7 @@ ghost use Rattle.encoded_words.specs.private.Values.{value_of};
 ghost use Rattle.encoded_words.specs.Folding.{AddsLines};
 ghost use Rattle.param_grammar.specs.Escapes.{escaped};
 ghost use Rattle.param_2231.specs.Layout.{number_digits, charset_of as charset_value, octets_in as octets_value, IsPartOf, charset_part, whole_piece, numbered_piece, is_short as is_short_value, ParamPieces};
-ghost use Rattle.param_2231.specs.private.Lines.{AddsBehind, line_behind};
+ghost use Rattle.param_2231.specs.private.Lines.{AddsAfter, line_after};
 ghost use Rattle.param_2231.specs.private.Parts.{IsCuttable, IsWritableUnit, IsFitting, IsLastBoundary, IsLastEnd};
 ghost use Rattle.param_2231.specs.WrittenParam.{ComesInParams, ReadsAsOne};
 
@@ -92,7 +92,7 @@ fn split_part<'a>(unit: &Unit, octets: &'a [u8]) -> (&'a [u8], &'a [u8])
     requires text { IsCuttable (value_of unit.now) octets.now }
     ensures whole { octets.now ≡ result.0.now ++ result.1.now }
     ensures part { IsPartOf (value_of unit.now) result.0.now result.1.now }
-    ensures behind { IsCuttable (value_of unit.now) result.1.now }
+    ensures following { IsCuttable (value_of unit.now) result.1.now }
 {
     octets.split_at(last_end(unit, octets, fitting(octets)))
 }
@@ -107,7 +107,7 @@ fn push_charset(made: &mut Octets, unit: &Unit) -> Result<(), Memory>
 
 // Begins a line, with this put behind the line before.
 pub(crate) fn begin_line(made: &mut Octets, lead: &[u8]) -> Result<(), Memory>
-    ensures { OnOk result (made.new ≡ made.old ++ line_behind lead.now []) }
+    ensures { OnOk result (made.new ≡ made.old ++ line_after lead.now []) }
 {
     made.push_slice(lead)?;
     made.push_slice(b"\r\n ")
@@ -115,7 +115,7 @@ pub(crate) fn begin_line(made: &mut Octets, lead: &[u8]) -> Result<(), Memory>
 
 // Puts a whole value last.
 fn push_whole(name: &[u8], unit: &Unit, lead: &[u8], made: &mut Octets) -> Result<(), Memory>
-    ensures { OnOk result (made.new ≡ made.old ++ line_behind lead.now (whole_piece name.now (value_of unit.now))) }
+    ensures { OnOk result (made.new ≡ made.old ++ line_after lead.now (whole_piece name.now (value_of unit.now))) }
 {
     begin_line(made, lead)?;
     made.push_slice(name)?;
@@ -134,7 +134,7 @@ fn push_number(piece: &mut Octets, number: usize) -> Result<(), Memory>
 
 // Puts what stands before the value of a numbered piece last.
 fn begin_piece(name: &[u8], number: usize, lead: &[u8], made: &mut Octets) -> Result<(), Memory>
-    ensures { OnOk result (made.new ≡ made.old ++ line_behind lead.now (name.now ++ codes "*" ++ number_digits number ++ codes "*=")) }
+    ensures { OnOk result (made.new ≡ made.old ++ line_after lead.now (name.now ++ codes "*" ++ number_digits number ++ codes "*=")) }
 {
     begin_line(made, lead)?;
     made.push_slice(name)?;
@@ -151,7 +151,7 @@ fn push_first(
     lead: &[u8],
     made: &mut Octets,
 ) -> Result<(), Memory>
-    ensures { OnOk result (made.new ≡ made.old ++ line_behind lead.now (numbered_piece name.now 0 (charset_part (value_of unit.now) ++ escaped part.now))) }
+    ensures { OnOk result (made.new ≡ made.old ++ line_after lead.now (numbered_piece name.now 0 (charset_part (value_of unit.now) ++ escaped part.now))) }
 {
     begin_piece(name, 0, lead, made)?;
     push_charset(made, unit)?;
@@ -166,7 +166,7 @@ fn push_part(
     lead: &[u8],
     made: &mut Octets,
 ) -> Result<(), Memory>
-    ensures { OnOk result (made.new ≡ made.old ++ line_behind lead.now (numbered_piece name.now number (escaped part.now))) }
+    ensures { OnOk result (made.new ≡ made.old ++ line_after lead.now (numbered_piece name.now number (escaped part.now))) }
 {
     begin_piece(name, number, lead, made)?;
     push_escaped(made, part)
@@ -176,11 +176,11 @@ fn push_part(
 fn push_parts(name: &[u8], unit: &Unit, lead: &[u8], made: &mut Octets) -> Result<(), Memory>
     requires text { IsWritableUnit (value_of unit.now) }
     requires long { is_short_value (value_of unit.now) ≡ false }
-    ensures { OnOk result (AddsBehind lead.now (ParamPieces false name.now (value_of unit.now)) made.old made.new) }
+    ensures { OnOk result (AddsAfter lead.now (ParamPieces false name.now (value_of unit.now)) made.old made.new) }
 {
-    let (first, behind) = split_part(unit, octets_in(unit));
+    let (first, following) = split_part(unit, octets_in(unit));
     push_first(name, unit, first, lead, made)?;
-    let mut rest = behind;
+    let mut rest = following;
     let mut number = 1;
     while !rest.is_empty() {
         let (part, after) = split_part(unit, rest);
@@ -214,7 +214,7 @@ pub(crate) fn push_param(
     made: &mut Octets,
 ) -> Result<(), Memory>
     requires { IsWritableUnit (value_of unit.now) }
-    ensures { OnOk result (AddsBehind lead.now (ParamPieces whole name.now (value_of unit.now)) made.old made.new) }
+    ensures { OnOk result (AddsAfter lead.now (ParamPieces whole name.now (value_of unit.now)) made.old made.new) }
 {
     if is_whole(unit, whole) {
         return push_whole(name, unit, lead, made);

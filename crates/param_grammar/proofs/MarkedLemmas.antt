@@ -83,10 +83,10 @@ pub record PassesTo (text : List ℕ) (tokens rest : List Token) : Type 0 where
 pub PassesTo-start : (text : List ℕ) (tokens : List Token) → PassesTo text tokens tokens
 PassesTo-start text tokens = record { front = []; whole = refl; fails = search rules }
 
-pub PassesTo-more : (text : List ℕ) (tokens rest behind : List Token) (token : Token) → PassesTo text tokens rest → rest ≡ token ∷ behind → is_mark_at text 59 token ≡ false → PassesTo text tokens behind
-PassesTo-more text tokens rest behind token p cut isnt = record {
+pub PassesTo-more : (text : List ℕ) (tokens rest following : List Token) (token : Token) → PassesTo text tokens rest → rest ≡ token ∷ following → is_mark_at text 59 token ≡ false → PassesTo text tokens following
+PassesTo-more text tokens rest following token p cut isnt = record {
   front = p.front ++ token ∷ [];
-  whole = p.whole ∙ ap (λ r. p.front ++ r) cut ∙ sym (append_assoc p.front (token ∷ []) behind);
+  whole = p.whole ∙ ap (λ r. p.front ++ r) cut ∙ sym (append_assoc p.front (token ∷ []) following);
   fails = All-push (λ t. is_mark_at text 59 t ≡ false) p.front token p.fails isnt;
 }
 
@@ -96,16 +96,16 @@ PassesTo-length text tokens rest p = ap length p.whole ∙ length-append p.front
 pub PassesTo-within : (text : List ℕ) (tokens rest : List Token) → PassesTo text tokens rest → length rest ≤ length tokens
 PassesTo-within text tokens rest p = let n = PassesTo-length text tokens rest p in omega (arith, n)
 
-pub SplitsSection-cut : (text : List ℕ) (tokens rest behind section : List Token) (token : Token) → PassesTo text tokens rest → rest ≡ token ∷ behind → is_mark_at text 59 token ≡ true
-    → section ≡ take (length tokens - length rest) tokens → SplitsSection text tokens section behind
-SplitsSection-cut text tokens rest behind section token p cut is taken =
-    let whole : tokens ≡ p.front ++ token ∷ behind = p.whole ∙ ap (λ r. p.front ++ r) cut in
+pub SplitsSection-cut : (text : List ℕ) (tokens rest following section : List Token) (token : Token) → PassesTo text tokens rest → rest ≡ token ∷ following → is_mark_at text 59 token ≡ true
+    → section ≡ take (length tokens - length rest) tokens → SplitsSection text tokens section following
+SplitsSection-cut text tokens rest following section token p cut is taken =
+    let whole : tokens ≡ p.front ++ token ∷ following = p.whole ∙ ap (λ r. p.front ++ r) cut in
     let n = PassesTo-length text tokens rest p in
     let counted : length p.front ≡ length tokens - length rest = omega (arith, n) in
-    let front : section ≡ p.front = taken ∙ ap (take (length tokens - length rest)) whole ∙ take_at p.front (token ∷ behind) (length tokens - length rest) counted in
+    let front : section ≡ p.front = taken ∙ ap (take (length tokens - length rest)) whole ∙ take_at p.front (token ∷ following) (length tokens - length rest) counted in
     record {
-      others = sections_of text behind;
-      first = ap (sections_of text) whole ∙ slice_split_at (is_mark_at text 59) p.front token behind p.fails is ∙ ap (λ f. f ∷ sections_of text behind) (sym front);
+      others = sections_of text following;
+      first = ap (sections_of text) whole ∙ slice_split_at (is_mark_at text 59) p.front token following p.fails is ∙ ap (λ f. f ∷ sections_of text following) (sym front);
       same = refl;
       shorter = λ some. let len = ap length cut in omega (arith, len, n);
     }
@@ -123,11 +123,11 @@ SplitsSection-whole text tokens rest p end =
 
 -- ---- tokens that are no gaps and no comments
 
-pub solid_blank : (rest behind : List Token) (token : Token) → rest ≡ token ∷ behind → is_blank token.kind ≡ true → solid rest ≡ solid behind
-solid_blank rest behind token cut is = ap solid cut ∙ rw is refl
+pub solid_blank : (rest following : List Token) (token : Token) → rest ≡ token ∷ following → is_blank token.kind ≡ true → solid rest ≡ solid following
+solid_blank rest following token cut is = ap solid cut ∙ rw is refl
 
-pub solid_first : (rest behind : List Token) (token : Token) → rest ≡ token ∷ behind → is_blank token.kind ≡ false → solid rest ≡ token ∷ solid behind
-solid_first rest behind token cut isnt = ap solid cut ∙ rw isnt refl
+pub solid_first : (rest following : List Token) (token : Token) → rest ≡ token ∷ following → is_blank token.kind ≡ false → solid rest ≡ token ∷ solid following
+solid_first rest following token cut isnt = ap solid cut ∙ rw isnt refl
 
 filled_one : (token : Token) (tokens : List Token) (b : Bool) → not (is_blank token.kind) ≡ b → is_filled tokens ≡ list_any (λ token. true) (solid tokens)
     → is_filled (token ∷ tokens) ≡ list_any (λ token. true) (solid (token ∷ tokens))
@@ -138,17 +138,17 @@ filled_is : (tokens : List Token) → is_filled tokens ≡ list_any (λ token. t
 filled_is [] = refl
 filled_is (token ∷ tokens) = filled_one token tokens (not (is_blank token.kind)) refl (filled_is tokens)
 
-pub filled_some : (tokens behind : List Token) (token : Token) → solid tokens ≡ token ∷ behind → is_filled tokens ≡ true
-filled_some tokens behind token e = filled_is tokens ∙ ap (list_any (λ token. true)) e
+pub filled_some : (tokens following : List Token) (token : Token) → solid tokens ≡ token ∷ following → is_filled tokens ≡ true
+filled_some tokens following token e = filled_is tokens ∙ ap (list_any (λ token. true)) e
 
 pub filled_none : (tokens : List Token) → solid tokens ≡ [] → is_filled tokens ≡ false
 filled_none tokens e = filled_is tokens ∙ ap (list_any (λ token. true)) e
 
 -- one more of the first tokens
-pub few_more : (found all rest behind : List Token) (token : Token) (n : ℕ) → n < 4 → rest ≡ token ∷ behind → found ++ take (4 - n) rest ≡ all → (found ++ token ∷ []) ++ take (4 - (n + 1)) behind ≡ all
-few_more found all rest behind token n l cut e =
+pub few_more : (found all rest following : List Token) (token : Token) (n : ℕ) → n < 4 → rest ≡ token ∷ following → found ++ take (4 - n) rest ≡ all → (found ++ token ∷ []) ++ take (4 - (n + 1)) following ≡ all
+few_more found all rest following token n l cut e =
     let next : 4 - n ≡ suc (4 - (n + 1)) = omega (arith, l) in
-    append_assoc found (token ∷ []) (take (4 - (n + 1)) behind) ∙ ap (λ k. found ++ take k (token ∷ behind)) (sym next) ∙ ap (λ r. found ++ take (4 - n) r) (sym cut) ∙ e
+    append_assoc found (token ∷ []) (take (4 - (n + 1)) following) ∙ ap (λ k. found ++ take k (token ∷ following)) (sym next) ∙ ap (λ r. found ++ take (4 - n) r) (sym cut) ∙ e
 
 -- four tokens tell whether all are a main part
 pub is_main-front : (kind : ParamKind) (text : List ℕ) (tokens : List Token) → is_main kind text (take 4 tokens) ≡ is_main kind text tokens

@@ -9,7 +9,7 @@ use Rattle.encoded_words.specs.Words.{language_suffix}
 use Rattle.encoded_words.specs.private.Parts.{lacks}
 use Rattle.encoded_words.proofs.Cuts.{suffix_once, not_lacking}
 use Rattle.mail_wire.specs.Numbers.{is_digit}
-use Rattle.param_grammar.specs.Names.{IsNumber, NameParts, number_suffix, star_suffix, IsBase, HasNameParts, HasSuffix, HasBehind}
+use Rattle.param_grammar.specs.Names.{IsNumber, NameParts, number_suffix, star_suffix, IsBase, HasNameParts, HasSuffix, HasAfter}
 
 -- digits are no stars
 no_star : (x : ℕ) → is_digit x ≡ true → eqb x 42 ≡ false
@@ -37,40 +37,40 @@ not-HasSuffix suffix digits e some p none other None f has = omega (arith, ap le
 not-HasSuffix suffix digits e some p none other (Some ds) f has = other (subst IsNumber (sym (suffix_digits suffix digits ds e f p none has.0 has.1)) has.1)
 
 -- what stands behind the base of a name with these parts
-pub behind_name : (number : Option (List ℕ)) (f : Bool) → IfSome number IsNumber
-    → (behind : Option (List ℕ)) × HasBehind behind number f × (number_suffix number ++ star_suffix f ≡ language_suffix behind)
-behind_name None false h = (None, (refl, refl), refl)
-behind_name None true h = (Some [], (refl, refl), refl)
-behind_name (Some digits) f h = (Some (digits ++ star_suffix f), (refl, h), refl)
+pub after_name : (number : Option (List ℕ)) (f : Bool) → IfSome number IsNumber
+    → (following : Option (List ℕ)) × HasAfter following number f × (number_suffix number ++ star_suffix f ≡ language_suffix following)
+after_name None false h = (None, (refl, refl), refl)
+after_name None true h = (Some [], (refl, refl), refl)
+after_name (Some digits) f h = (Some (digits ++ star_suffix f), (refl, h), refl)
 
 -- and the other way round
-behind_parts : (behind number : Option (List ℕ)) (f : Bool) → HasBehind behind number f → (language_suffix behind ≡ number_suffix number ++ star_suffix f) × IfSome number IsNumber
-behind_parts None number f has = rw (has.0, has.1) (refl, tt)
-behind_parts (Some suffix) None f has = rw (has.0, has.1) (refl, tt)
-behind_parts (Some suffix) (Some digits) f has = (ap (λ s. 42 ∷ s) has.0, has.1)
+after_parts : (following number : Option (List ℕ)) (f : Bool) → HasAfter following number f → (language_suffix following ≡ number_suffix number ++ star_suffix f) × IfSome number IsNumber
+after_parts None number f has = rw (has.0, has.1) (refl, tt)
+after_parts (Some suffix) None f has = rw (has.0, has.1) (refl, tt)
+after_parts (Some suffix) (Some digits) f has = (ap (λ s. 42 ∷ s) has.0, has.1)
 
-pub HasNameParts-made : (name base : List ℕ) (behind number : Option (List ℕ)) (f : Bool) → name ≡ base ++ language_suffix behind → lacks 42 base ≡ true → IsBase base
-    → HasBehind behind number f → HasNameParts name (record { base = base; number = number; is_extended = f })
-HasNameParts-made name base behind number f cut first is has =
-    let parts = behind_parts behind number f has in
+pub HasNameParts-made : (name base : List ℕ) (following number : Option (List ℕ)) (f : Bool) → name ≡ base ++ language_suffix following → lacks 42 base ≡ true → IsBase base
+    → HasAfter following number f → HasNameParts name (record { base = base; number = number; is_extended = f })
+HasNameParts-made name base following number f cut first is has =
+    let parts = after_parts following number f has in
     record { spelled = cut ∙ ap (λ s. base ++ s) parts.0; base = is; first = first; number = parts.1 }
 
 -- A name that is cut at its first star has its base before that, and the rest behind.
-pub parts_cut : (name base : List ℕ) (behind : Option (List ℕ)) (p : NameParts) → name ≡ base ++ language_suffix behind → lacks 42 base ≡ true → HasNameParts name p
-    → (p.base ≡ base) × HasBehind behind p.number p.is_extended
-parts_cut name base behind p cut first has =
-    let b = behind_name p.number p.is_extended has.number in
-    let same : p.base ++ language_suffix b.0 ≡ base ++ language_suffix behind = ap (λ s. p.base ++ s) (sym b.2) ∙ sym has.spelled ∙ cut in
-    let once = suffix_once p.base base b.0 behind has.first first same in
-    (once.0, subst (λ o. HasBehind o p.number p.is_extended) once.1 b.1)
+pub parts_cut : (name base : List ℕ) (following : Option (List ℕ)) (p : NameParts) → name ≡ base ++ language_suffix following → lacks 42 base ≡ true → HasNameParts name p
+    → (p.base ≡ base) × HasAfter following p.number p.is_extended
+parts_cut name base following p cut first has =
+    let b = after_name p.number p.is_extended has.number in
+    let same : p.base ++ language_suffix b.0 ≡ base ++ language_suffix following = ap (λ s. p.base ++ s) (sym b.2) ∙ sym has.spelled ∙ cut in
+    let once = suffix_once p.base base b.0 following has.first first same in
+    (once.0, subst (λ o. HasAfter o p.number p.is_extended) once.1 b.1)
 
-pub not-HasNameParts-base : (name base : List ℕ) (behind : Option (List ℕ)) → name ≡ base ++ language_suffix behind → lacks 42 base ≡ true → (IsBase base → ⊥)
+pub not-HasNameParts-base : (name base : List ℕ) (following : Option (List ℕ)) → name ≡ base ++ language_suffix following → lacks 42 base ≡ true → (IsBase base → ⊥)
     → (p : NameParts) → HasNameParts name p → ⊥
-not-HasNameParts-base name base behind cut first none p has = none (subst IsBase (parts_cut name base behind p cut first has).0 has.base)
+not-HasNameParts-base name base following cut first none p has = none (subst IsBase (parts_cut name base following p cut first has).0 has.base)
 
-pub not-HasNameParts-behind : (name base : List ℕ) (behind : Option (List ℕ)) → name ≡ base ++ language_suffix behind → lacks 42 base ≡ true
-    → ((number : Option (List ℕ)) (f : Bool) → HasBehind behind number f → ⊥) → (p : NameParts) → HasNameParts name p → ⊥
-not-HasNameParts-behind name base behind cut first none p has = none p.number p.is_extended (parts_cut name base behind p cut first has).1
+pub not-HasNameParts-following : (name base : List ℕ) (following : Option (List ℕ)) → name ≡ base ++ language_suffix following → lacks 42 base ≡ true
+    → ((number : Option (List ℕ)) (f : Bool) → HasAfter following number f → ⊥) → (p : NameParts) → HasNameParts name p → ⊥
+not-HasNameParts-following name base following cut first none p has = none p.number p.is_extended (parts_cut name base following p cut first has).1
 
 -- a name has one list of parts
 digits_same : (digits others : List ℕ) (e f : Bool) → IsNumber digits → IsNumber others → digits ++ star_suffix e ≡ others ++ star_suffix f → (digits ≡ others) × (e ≡ f)
@@ -91,9 +91,9 @@ HasSuffix-once suffix (Some ds) (Some os) e f p q =
     let once = digits_same ds os e f p.1 q.1 (sym p.0 ∙ q.0) in
     (ap (λ d. Some d) once.0, once.1)
 
-HasBehind-once : (behind m n : Option (List ℕ)) (e f : Bool) → HasBehind behind m e → HasBehind behind n f → (m ≡ n) × (e ≡ f)
-HasBehind-once None m n e f p q = (p.0 ∙ sym q.0, p.1 ∙ sym q.1)
-HasBehind-once (Some suffix) m n e f p q = HasSuffix-once suffix m n e f p q
+HasAfter-once : (following m n : Option (List ℕ)) (e f : Bool) → HasAfter following m e → HasAfter following n f → (m ≡ n) × (e ≡ f)
+HasAfter-once None m n e f p q = (p.0 ∙ sym q.0, p.1 ∙ sym q.1)
+HasAfter-once (Some suffix) m n e f p q = HasSuffix-once suffix m n e f p q
 
 abbrev parts : List ℕ → Option (List ℕ) → Bool → NameParts
 parts base number f = record { base = base; number = number; is_extended = f }
@@ -103,7 +103,7 @@ made a b m n e f p q r = cc
 
 pub HasNameParts-once : (name : List ℕ) (p q : NameParts) → HasNameParts name p → HasNameParts name q → p ≡ q
 HasNameParts-once name p q hp hq =
-    let b = behind_name q.number q.is_extended hq.number in
+    let b = after_name q.number q.is_extended hq.number in
     let cut = parts_cut name q.base b.0 p (hq.spelled ∙ ap (λ s. q.base ++ s) b.2) hq.first hp in
-    let once = HasBehind-once b.0 p.number q.number p.is_extended q.is_extended cut.1 b.1 in
+    let once = HasAfter-once b.0 p.number q.number p.is_extended q.is_extended cut.1 b.1 in
     made p.base q.base p.number q.number p.is_extended q.is_extended cut.0 once.0 once.1

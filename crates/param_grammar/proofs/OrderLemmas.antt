@@ -103,8 +103,8 @@ module _ (name : ℕ → List ℕ) where
       filter_as (is_of x) _ by_ties order ∙ o.stable x ∙ filter_as _ (is_of x) (λ y. sym (by_ties y)) (numbers_below count)
 
   -- what stands behind an element isn't below it
-  behind_up : (order pre post : List ℕ) (x : ℕ) → IsSortedByKey name order_of order → order ≡ pre ++ x ∷ post → All (λ y. is_lt (order_of (name y) (name x)) ≡ false) post
-  behind_up order pre post x sorted cut = All-from_get_or (λ y. is_lt (order_of (name y) (name x)) ≡ false) post 0 (λ k l.
+  after_up : (order pre post : List ℕ) (x : ℕ) → IsSortedByKey name order_of order → order ≡ pre ++ x ∷ post → All (λ y. is_lt (order_of (name y) (name x)) ≡ false) post
+  after_up order pre post x sorted cut = All-from_get_or (λ y. is_lt (order_of (name y) (name x)) ≡ false) post 0 (λ k l.
       let here : get_or order (length pre) 0 ≡ x = ap (λ xs. get_or xs (length pre) 0) cut ∙ get_or_at pre x post 0 (length pre) refl in
       let place : length pre + (1 + k) ≡ (length pre + 1) + k = omega arith in
       let there : get_or order (length pre + (1 + k)) 0 ≡ get_or post k 0
@@ -143,35 +143,35 @@ module _ (name : ℕ → List ℕ) where
   turned x y = nat_list_eq_equiv.symm (name x) (name y)
 
   -- a run begins with the first
-  pub run_begins : (first : ℕ) (more run behind : List ℕ) → first ∷ more ≡ run ++ behind → Stops (is_of first) behind → (others : List ℕ) × (run ≡ first ∷ others) × (more ≡ others ++ behind)
+  pub run_begins : (first : ℕ) (more run following : List ℕ) → first ∷ more ≡ run ++ following → Stops (is_of first) following → (others : List ℕ) × (run ≡ first ∷ others) × (more ≡ others ++ following)
   run_begins first more [] [] cut stops = absurd cc
-  run_begins first more [] (b ∷ behind) cut stops = let same : first ≡ b = cc cut in absurd (true≢false (sym (own first) ∙ ap (is_of first) same ∙ stops))
-  run_begins first more (r ∷ run) behind cut stops =
+  run_begins first more [] (b ∷ following) cut stops = let same : first ≡ b = cc cut in absurd (true≢false (sym (own first) ∙ ap (is_of first) same ∙ stops))
+  run_begins first more (r ∷ run) following cut stops =
       let head : r ≡ first = cc cut in
-      let tail : more ≡ run ++ behind = cc cut in
+      let tail : more ≡ run ++ following = cc cut in
       (run, ap (λ x. x ∷ run) head, tail)
 
-  none_behind : (order done more run behind : List ℕ) (first : ℕ) → IsSortedByKey name order_of order → order ≡ done ++ first ∷ more → first ∷ more ≡ run ++ behind → Stops (is_of first) behind
-      → filter (is_of first) behind ≡ []
-  none_behind order done more run [] first sorted cut parted stops = refl
-  none_behind order done more run (b ∷ behind) first sorted cut parted stops =
-      let begins = run_begins first more run (b ∷ behind) parted stops in
-      let above = behind_up order done more first sorted cut in
-      let up = at_cut (λ y. is_lt (order_of (name y) (name first)) ≡ false) begins.0 behind b (subst (All (λ y. is_lt (order_of (name y) (name first)) ≡ false)) begins.2 above) in
-      let whole : order ≡ (done ++ run) ++ b ∷ behind = cut ∙ ap (λ r. done ++ r) parted ∙ sym (append_assoc done run (b ∷ behind)) in
-      let further = behind_up order (done ++ run) behind b sorted whole in
-      rw stops (none_again first b behind up stops further)
+  none_following : (order done more run following : List ℕ) (first : ℕ) → IsSortedByKey name order_of order → order ≡ done ++ first ∷ more → first ∷ more ≡ run ++ following → Stops (is_of first) following
+      → filter (is_of first) following ≡ []
+  none_following order done more run [] first sorted cut parted stops = refl
+  none_following order done more run (b ∷ following) first sorted cut parted stops =
+      let begins = run_begins first more run (b ∷ following) parted stops in
+      let above = after_up order done more first sorted cut in
+      let up = at_cut (λ y. is_lt (order_of (name y) (name first)) ≡ false) begins.0 following b (subst (All (λ y. is_lt (order_of (name y) (name first)) ≡ false)) begins.2 above) in
+      let whole : order ≡ (done ++ run) ++ b ∷ following = cut ∙ ap (λ r. done ++ r) parted ∙ sym (append_assoc done run (b ∷ following)) in
+      let further = after_up order (done ++ run) following b sorted whole in
+      rw stops (none_again first b following up stops further)
 
   -- the first pieces that have one name are all that have it
-  pub run_is : (count : ℕ) (order done rest more run behind : List ℕ) (first : ℕ) → InNameOrder name count order → order ≡ done ++ rest → AreApart done rest → rest ≡ first ∷ more
-      → IsSpan (is_of first) rest run behind → run ≡ filter (is_of first) (numbers_below count)
-  run_is count order done rest more run behind first o cut apart is span =
-      let parted : first ∷ more ≡ run ++ behind = sym is ∙ span.whole in
-      let none : filter (is_of first) behind ≡ [] = none_behind order done more run behind first o.sorted (cut ∙ ap (λ r. done ++ r) is) parted span.stops in
+  pub run_is : (count : ℕ) (order done rest more run following : List ℕ) (first : ℕ) → InNameOrder name count order → order ≡ done ++ rest → AreApart done rest → rest ≡ first ∷ more
+      → IsSpan (is_of first) rest run following → run ≡ filter (is_of first) (numbers_below count)
+  run_is count order done rest more run following first o cut apart is span =
+      let parted : first ∷ more ≡ run ++ following = sym is ∙ span.whole in
+      let none : filter (is_of first) following ≡ [] = none_following order done more run following first o.sorted (cut ∙ ap (λ r. done ++ r) is) parted span.stops in
       let before : filter (is_of first) done ≡ [] = apart first [] more is in
       let all : filter (is_of first) order ≡ run =
-      ap (filter (is_of first)) (cut ∙ ap (λ r. done ++ r) span.whole) ∙ filter-append (is_of first) done (run ++ behind) ∙ ap (λ r. r ++ filter (is_of first) (run ++ behind)) before
-      ∙ filter-append (is_of first) run behind ∙ ap (λ r. filter (is_of first) run ++ r) none ∙ append-nil (filter (is_of first) run) ∙ all_pass (is_of first) run span.passes in
+      ap (filter (is_of first)) (cut ∙ ap (λ r. done ++ r) span.whole) ∙ filter-append (is_of first) done (run ++ following) ∙ ap (λ r. r ++ filter (is_of first) (run ++ following)) before
+      ∙ filter-append (is_of first) run following ∙ ap (λ r. filter (is_of first) run ++ r) none ∙ append-nil (filter (is_of first) run) ∙ all_pass (is_of first) run span.passes in
       sym all ∙ named_in count order o first
 
   pub others_pass : (first x : ℕ) (run : List ℕ) → list_all (is_of first) run ≡ true → is_of x first ≡ false → filter (is_of x) run ≡ []
@@ -192,11 +192,11 @@ module _ (name : ℕ → List ℕ) where
       let len = ap length (sym parts ∙ none) in
       omega (arith, len, length-append (filter p pre) (x ∷ filter p post))
 
-  pub AreApart-more : (count : ℕ) (order done rest more run behind : List ℕ) (first : ℕ) → InNameOrder name count order → order ≡ done ++ rest → AreApart done rest → rest ≡ first ∷ more
-      → IsSpan (is_of first) rest run behind → AreApart (done ++ run) behind
-  AreApart-more count order done rest more run behind first o cut apart is span = λ x pre post at.
-      let parted : first ∷ more ≡ run ++ behind = sym is ∙ span.whole in
-      let none : filter (is_of first) behind ≡ [] = none_behind order done more run behind first o.sorted (cut ∙ ap (λ r. done ++ r) is) parted span.stops in
+  pub AreApart-more : (count : ℕ) (order done rest more run following : List ℕ) (first : ℕ) → InNameOrder name count order → order ≡ done ++ rest → AreApart done rest → rest ≡ first ∷ more
+      → IsSpan (is_of first) rest run following → AreApart (done ++ run) following
+  AreApart-more count order done rest more run following first o cut apart is span = λ x pre post at.
+      let parted : first ∷ more ≡ run ++ following = sym is ∙ span.whole in
+      let none : filter (is_of first) following ≡ [] = none_following order done more run following first o.sorted (cut ∙ ap (λ r. done ++ r) is) parted span.stops in
       let before : filter (is_of x) done ≡ [] = apart x (run ++ pre) post (span.whole ∙ ap (λ r. run ++ r) at ∙ sym (append_assoc run pre (x ∷ post))) in
       let other : is_of x first ≡ false = elim (cases_Bool (is_of x first)) [
         | inl same ↦ absurd (in_filter (is_of first) pre post x (turned first x ∙ same) (ap (filter (is_of first)) (sym at) ∙ none))
@@ -214,22 +214,22 @@ module _ (name : ℕ → List ℕ) where
   none_less x (y ∷ ys) all =
       rw (less_other x y (All-head (λ y. is_lt (order_of (name y) (name x)) ≡ true) y ys all)) (none_less x ys (All-tail (λ y. is_lt (order_of (name y) (name x)) ≡ true) y ys all))
 
-  none_after : (order front run behind : List ℕ) (x : ℕ) → IsSortedByKey name order_of order → order ≡ front ++ (run ++ behind) → All (λ y. is_lt (order_of (name y) (name x)) ≡ false) (run ++ behind)
-      → Stops (is_of x) behind → filter (is_of x) behind ≡ []
+  none_after : (order front run following : List ℕ) (x : ℕ) → IsSortedByKey name order_of order → order ≡ front ++ (run ++ following) → All (λ y. is_lt (order_of (name y) (name x)) ≡ false) (run ++ following)
+      → Stops (is_of x) following → filter (is_of x) following ≡ []
   none_after order front run [] x sorted cut all stops = refl
-  none_after order front run (b ∷ behind) x sorted cut all stops =
-      let up = at_cut (λ y. is_lt (order_of (name y) (name x)) ≡ false) run behind b all in
-      let whole : order ≡ (front ++ run) ++ b ∷ behind = cut ∙ sym (append_assoc front run (b ∷ behind)) in
-      rw stops (none_again x b behind up stops (behind_up order (front ++ run) behind b sorted whole))
+  none_after order front run (b ∷ following) x sorted cut all stops =
+      let up = at_cut (λ y. is_lt (order_of (name y) (name x)) ≡ false) run following b all in
+      let whole : order ≡ (front ++ run) ++ b ∷ following = cut ∙ sym (append_assoc front run (b ∷ following)) in
+      rw stops (none_again x b following up stops (after_up order (front ++ run) following b sorted whole))
 
-  pub run_at : (count : ℕ) (order front rest run behind : List ℕ) (x : ℕ) → InNameOrder name count order → order ≡ front ++ rest → All (λ y. is_lt (order_of (name y) (name x)) ≡ true) front
-      → All (λ y. is_lt (order_of (name y) (name x)) ≡ false) rest → IsSpan (is_of x) rest run behind → run ≡ filter (is_of x) (numbers_below count)
-  run_at count order front rest run behind x o cut less more span =
-      let parted : order ≡ front ++ (run ++ behind) = cut ∙ ap (λ r. front ++ r) span.whole in
-      let none : filter (is_of x) behind ≡ [] = none_after order front run behind x o.sorted parted (subst (All (λ y. is_lt (order_of (name y) (name x)) ≡ false)) span.whole more) span.stops in
+  pub run_at : (count : ℕ) (order front rest run following : List ℕ) (x : ℕ) → InNameOrder name count order → order ≡ front ++ rest → All (λ y. is_lt (order_of (name y) (name x)) ≡ true) front
+      → All (λ y. is_lt (order_of (name y) (name x)) ≡ false) rest → IsSpan (is_of x) rest run following → run ≡ filter (is_of x) (numbers_below count)
+  run_at count order front rest run following x o cut less more span =
+      let parted : order ≡ front ++ (run ++ following) = cut ∙ ap (λ r. front ++ r) span.whole in
+      let none : filter (is_of x) following ≡ [] = none_after order front run following x o.sorted parted (subst (All (λ y. is_lt (order_of (name y) (name x)) ≡ false)) span.whole more) span.stops in
       let all : filter (is_of x) order ≡ run =
-      ap (filter (is_of x)) parted ∙ filter-append (is_of x) front (run ++ behind) ∙ ap (λ r. r ++ filter (is_of x) (run ++ behind)) (none_less x front less)
-      ∙ filter-append (is_of x) run behind ∙ ap (λ r. filter (is_of x) run ++ r) none ∙ append-nil (filter (is_of x) run) ∙ all_pass (is_of x) run span.passes in
+      ap (filter (is_of x)) parted ∙ filter-append (is_of x) front (run ++ following) ∙ ap (λ r. r ++ filter (is_of x) (run ++ following)) (none_less x front less)
+      ∙ filter-append (is_of x) run following ∙ ap (λ r. filter (is_of x) run ++ r) none ∙ append-nil (filter (is_of x) run) ∙ all_pass (is_of x) run span.passes in
       sym all ∙ named_in count order o x
 
   pub parted_by : (order : List ℕ) (x : ℕ) → IsSortedByKey name order_of order → IsPartitionedBy (λ y. is_lt (order_of (name y) (name x))) order
@@ -241,14 +241,14 @@ module _ (name : ℕ → List ℕ) where
         absurd (true≢false (sym less ∙ (ranks_by nat_list_cmp_total (λ (n : List ℕ). n)).chain (name (get_or order j d)) (name (get_or order i d)) (name x) far isnt))
   ]
 
-  pub run_parted : (count : ℕ) (order run behind : List ℕ) (x at : ℕ) → InNameOrder name count order → at ≤ length order
-      → IsPartitionPoint (λ y. is_lt (order_of (name y) (name x)) ≡ true) (λ y. is_lt (order_of (name y) (name x)) ≡ false) order at → IsSpan (is_of x) (drop at order) run behind
+  pub run_parted : (count : ℕ) (order run following : List ℕ) (x at : ℕ) → InNameOrder name count order → at ≤ length order
+      → IsPartitionPoint (λ y. is_lt (order_of (name y) (name x)) ≡ true) (λ y. is_lt (order_of (name y) (name x)) ≡ false) order at → IsSpan (is_of x) (drop at order) run following
       → run ≡ filter (is_of x) (numbers_below count)
-  run_parted count order run behind x at o bound parted span =
+  run_parted count order run following x at o bound parted span =
       let less : All (λ y. is_lt (order_of (name y) (name x)) ≡ true) (take at order) = λ k d l.
       let below : k < at = let len = length-take-le at order bound in omega (arith, l, len) in
       subst (λ y. is_lt (order_of (name y) (name x)) ≡ true) (sym (get_or-take at order k d below)) (parted.0 k d (omega arith) below) in
       let more : All (λ y. is_lt (order_of (name y) (name x)) ≡ false) (drop at order) = λ k d l.
       let len = length-drop at order in
       subst (λ y. is_lt (order_of (name y) (name x)) ≡ false) (sym (get_or-drop at order k d)) (parted.1 (at + k) d (omega arith) (omega (arith, l, len, bound))) in
-      run_at count order (take at order) (drop at order) run behind x o (sym (take-append-drop at order)) less more span
+      run_at count order (take at order) (drop at order) run following x o (sym (take-append-drop at order)) less more span

@@ -19,7 +19,7 @@ use Rattle.param_grammar.specs.declared.role.Placed.{Placed}
 use Rattle.param_grammar.specs.declared.role.Role.{Role}
 use Rattle.param_grammar.specs.declared.role.Role.TheVariants.{GoesOn, Begins}
 use Rattle.param_grammar.specs.Bodies.{HaveComments, IsBody, WritesBody}
-use Rattle.param_grammar.specs.Joining.{AreParams, HasParams, HasSaidBody, IsRole, ParamValue, goes_on, param_value, params_behind, params_of, unit_at}
+use Rattle.param_grammar.specs.Joining.{AreParams, HasParams, HasSaidBody, IsRole, ParamValue, goes_on, param_value, params_after, params_of, unit_at}
 use Rattle.param_grammar.specs.Placed.{HasPlaced, HasBodyAt}
 use Rattle.param_grammar.specs.Places.{no_piece, piece_in}
 use Rattle.param_grammar.specs.private.Beginning.{begun_at}
@@ -59,27 +59,27 @@ one_begun old param pieces number one name unit =
 
 -- ---- all pieces
 
-behind_one : (b : Bool) (param : ParamValue) (params : List ParamValue) → (if b then params else param ∷ params) ≡ (if b then [] else param ∷ []) ++ params
-behind_one true param params = refl
-behind_one false param params = refl
+after_one : (b : Bool) (param : ParamValue) (params : List ParamValue) → (if b then params else param ∷ params) ≡ (if b then [] else param ∷ []) ++ params
+after_one true param params = refl
+after_one false param params = refl
 
 -- The parameters are made of the first pieces.
 abbrev pub ParamsGo : List Piece → ℕ → List ParamValue → Type 0
-ParamsGo pieces number made = params_of pieces ≡ made ++ params_behind pieces (take number pieces) (drop number pieces)
+ParamsGo pieces number made = params_of pieces ≡ made ++ params_after pieces (take number pieces) (drop number pieces)
 
 pub ParamsGo-turn : (pieces : List Piece) (number : ℕ) (made new : List ParamValue) → number < length pieces → new ≡ made ++ begun_at pieces number → ParamsGo pieces number made
     → ParamsGo pieces (number + 1) new
 ParamsGo-turn pieces number made new l more go =
     let rest = drop (number + 1) pieces in
     let past : take number pieces ++ piece_in pieces number ∷ [] ≡ take (number + 1) pieces = sym (take_more pieces number no_piece l) in
-    let next = params_behind pieces (take number pieces ++ piece_in pieces number ∷ []) rest in
-    go ∙ ap (λ r. made ++ params_behind pieces (take number pieces) r) (drop_more pieces number no_piece l)
-    ∙ ap (λ r. made ++ r) (behind_one (goes_on (take number pieces) (piece_in pieces number)) (param_at pieces number) next)
-    ∙ sym (append_assoc made (begun_at pieces number) next) ∙ ap (λ r. r ++ next) (sym more) ∙ ap (λ before. new ++ params_behind pieces before rest) past
+    let next = params_after pieces (take number pieces ++ piece_in pieces number ∷ []) rest in
+    go ∙ ap (λ r. made ++ params_after pieces (take number pieces) r) (drop_more pieces number no_piece l)
+    ∙ ap (λ r. made ++ r) (after_one (goes_on (take number pieces) (piece_in pieces number)) (param_at pieces number) next)
+    ∙ sym (append_assoc made (begun_at pieces number) next) ∙ ap (λ r. r ++ next) (sym more) ∙ ap (λ before. new ++ params_after pieces before rest) past
 
 pub ParamsGo-end : (pieces : List Piece) (number : ℕ) (made : List ParamValue) → length pieces ≤ number → ParamsGo pieces number made → made ≡ params_of pieces
 ParamsGo-end pieces number made l go =
-    sym (go ∙ ap (λ rest. made ++ params_behind pieces (take number pieces) rest) (drop_all number pieces l) ∙ append-nil made)
+    sym (go ∙ ap (λ rest. made ++ params_after pieces (take number pieces) rest) (drop_all number pieces l) ∙ append-nil made)
 
 pub placed_count : (text : List ℕ) (placed : Placed) (pieces : List Piece) → HasPlaced text placed pieces → length pieces ≡ length placed.places.items
 placed_count text placed pieces has = ArePlaced-length text placed.places.items pieces has.are_placed

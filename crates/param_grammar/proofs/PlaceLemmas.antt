@@ -88,13 +88,13 @@ piece_by_octets text name value span quoted piece at is = record {
 pub no_name : (text : List ℕ) (tokens : List Token) → tokens ≡ [] → (name : List ℕ) (value : List Token) → IsParameterOf text tokens name value → ⊥
 no_name text tokens none name value is = let both = sym none ∙ is.tokens_are in absurd cc
 
-pub no_equals : (text : List ℕ) (tokens behind : List Token) (atom : Token) → tokens ≡ atom ∷ behind → behind ≡ [] → (name : List ℕ) (value : List Token) → IsParameterOf text tokens name value → ⊥
-no_equals text tokens behind atom cut none name value is = let both = sym (cut ∙ ap (λ r. atom ∷ r) none) ∙ is.tokens_are in absurd cc
+pub no_equals : (text : List ℕ) (tokens following : List Token) (atom : Token) → tokens ≡ atom ∷ following → following ≡ [] → (name : List ℕ) (value : List Token) → IsParameterOf text tokens name value → ⊥
+no_equals text tokens following atom cut none name value is = let both = sym (cut ∙ ap (λ r. atom ∷ r) none) ∙ is.tokens_are in absurd cc
 
 -- the same parameter
-parameter_is : (text : List ℕ) (tokens behind value : List Token) (atom equals : Token) → tokens ≡ atom ∷ behind → behind ≡ equals ∷ value → (name : List ℕ) (other : List Token)
+parameter_is : (text : List ℕ) (tokens following value : List Token) (atom equals : Token) → tokens ≡ atom ∷ following → following ≡ equals ∷ value → (name : List ℕ) (other : List Token)
     → (is : IsParameterOf text tokens name other) → (is.atom ≡ atom) × (is.equals ≡ equals) × (other ≡ value)
-parameter_is text tokens behind value atom equals cut parted name other is =
+parameter_is text tokens following value atom equals cut parted name other is =
     let both : is.atom ∷ is.equals ∷ other ≡ atom ∷ equals ∷ value = sym is.tokens_are ∙ cut ∙ ap (λ r. atom ∷ r) parted in
     let a : is.atom ≡ atom = cc both in
     let e : is.equals ≡ equals = cc both in
@@ -105,25 +105,25 @@ and_of : (a b : Bool) → a ≡ true → b ≡ true → (a && b) ≡ true
 and_of true b e f = f
 and_of false b e f = absurd (true≢false (sym e))
 
-pub not_named : (text : List ℕ) (tokens behind value : List Token) (atom equals : Token) → tokens ≡ atom ∷ behind → behind ≡ equals ∷ value
+pub not_named : (text : List ℕ) (tokens following value : List Token) (atom equals : Token) → tokens ≡ atom ∷ following → following ≡ equals ∷ value
     → (is_atom_kind atom.kind && is_mark_at text 61 equals) ≡ false → (name : List ℕ) (other : List Token) → IsParameterOf text tokens name other → ⊥
-not_named text tokens behind value atom equals cut parted isnt name other is =
-    let same = parameter_is text tokens behind value atom equals cut parted name other is in
+not_named text tokens following value atom equals cut parted isnt name other is =
+    let same = parameter_is text tokens following value atom equals cut parted name other is in
     true≢false (sym (and_of _ _ (ap (λ (t : Token). is_atom_kind t.kind) (sym same.0) ∙ is.is_name) (ap (is_mark_at text 61) (sym same.1) ∙ is.is_equals)) ∙ isnt)
 
-pub no_value : (text : List ℕ) (tokens behind value : List Token) (atom equals : Token) → tokens ≡ atom ∷ behind → behind ≡ equals ∷ value → is_value text value ≡ false
+pub no_value : (text : List ℕ) (tokens following value : List Token) (atom equals : Token) → tokens ≡ atom ∷ following → following ≡ equals ∷ value → is_value text value ≡ false
     → (name : List ℕ) (other : List Token) → IsParameterOf text tokens name other → ⊥
-no_value text tokens behind value atom equals cut parted none name other is =
-    let same = parameter_is text tokens behind value atom equals cut parted name other is in
+no_value text tokens following value atom equals cut parted none name other is =
+    let same = parameter_is text tokens following value atom equals cut parted name other is in
     true≢false (sym (ap (is_value text) (sym same.2) ∙ is.is_value) ∙ none)
 
 both_of : (a b : Bool) → (a && b) ≡ true → (a ≡ true) × (b ≡ true)
 both_of true b e = (refl, e)
 both_of false b e = absurd (true≢false (sym e))
 
-pub IsSides-found : (text : List ℕ) (section : List Token) (behind value : List Token) (atom equals : Token) (span : Span) (quoted : Bool) → solid section ≡ atom ∷ behind → behind ≡ equals ∷ value
+pub IsSides-found : (text : List ℕ) (section : List Token) (following value : List Token) (atom equals : Token) (span : Span) (quoted : Bool) → solid section ≡ atom ∷ following → following ≡ equals ∷ value
     → (is_atom_kind atom.kind && is_mark_at text 61 equals) ≡ true → IsValueAt text value span quoted → IsSides text section atom.span span quoted
-IsSides-found text section behind value atom equals span quoted cut parted is at =
+IsSides-found text section following value atom equals span quoted cut parted is at =
     let named = both_of (is_atom_kind atom.kind) (is_mark_at text 61 equals) is in
     record {
       tokens = value;
@@ -253,15 +253,15 @@ pub record PlacesGo (text : List ℕ) (tokens : List Token) (places : List Place
   pub reads : ReadsPieces text tokens pieces rest
   pub are : ArePlaced text places pieces
 
-pub PlacesGo-push : (text : List ℕ) (tokens rest section behind : List Token) (old new : List Place) → PlacesGo text tokens old rest → SplitsSection text rest section behind → PlacesPiece text section old new
-    → PlacesGo text tokens new behind
-PlacesGo-push text tokens rest section behind old new go s (inl blank) = record {
+pub PlacesGo-push : (text : List ℕ) (tokens rest section following : List Token) (old new : List Place) → PlacesGo text tokens old rest → SplitsSection text rest section following → PlacesPiece text section old new
+    → PlacesGo text tokens new following
+PlacesGo-push text tokens rest section following old new go s (inl blank) = record {
   pieces = go.pieces;
-  reads = ReadsPieces-push text tokens rest section behind go.pieces go.pieces go.reads s (inl (blank.0, refl));
+  reads = ReadsPieces-push text tokens rest section following go.pieces go.pieces go.reads s (inl (blank.0, refl));
   are = subst (λ ps. ArePlaced text ps go.pieces) (sym blank.1) go.are;
 }
-PlacesGo-push text tokens rest section behind old new go s (inr full) = record {
+PlacesGo-push text tokens rest section following old new go s (inr full) = record {
   pieces = go.pieces ++ full.1 ∷ [];
-  reads = ReadsPieces-push text tokens rest section behind go.pieces (go.pieces ++ full.1 ∷ []) go.reads s (inr (full.1, full.2, full.3, refl));
+  reads = ReadsPieces-push text tokens rest section following go.pieces (go.pieces ++ full.1 ∷ []) go.reads s (inr (full.1, full.2, full.3, refl));
   are = subst (λ ps. ArePlaced text ps (go.pieces ++ full.1 ∷ [])) (sym full.5) (ArePlaced-push text old go.pieces full.0 full.1 go.are full.4);
 }

@@ -10,14 +10,14 @@ use Rattle.param_grammar.specs.Joining.{AreNumbered, first_parts, joined_unit, n
 use Rattle.param_grammar.specs.Places.{piece_in}
 
 -- the first parts begin with that of number 0
-begins_numbered : (n : ℕ) (parts : List Piece) → (behind : List Piece) × (first_parts (suc n) parts ≡ numbered 0 parts ++ behind)
+begins_numbered : (n : ℕ) (parts : List Piece) → (following : List Piece) × (first_parts (suc n) parts ≡ numbered 0 parts ++ following)
 begins_numbered zero parts = ([], sym (append-nil (numbered 0 parts)))
 begins_numbered (suc n) parts =
     let before = begins_numbered n parts in
     (before.0 ++ numbered (suc n) parts, ap (λ r. r ++ numbered (suc n) parts) before.1 ∙ append_assoc (numbered 0 parts) before.0 (numbered (suc n) parts))
 
-take_one : (xs behind : List Piece) (x : Piece) → xs ≡ x ∷ [] → take 1 (xs ++ behind) ≡ xs
-take_one xs behind x e = rw e refl
+take_one : (xs following : List Piece) (x : Piece) → xs ≡ x ∷ [] → take 1 (xs ++ following) ≡ xs
+take_one xs following x e = rw e refl
 
 first_taken : (n : ℕ) (parts : List Piece) → length parts ≡ n → AreNumbered parts → take 1 (first_parts n parts) ≡ numbered 0 parts
 first_taken zero [] e are = refl

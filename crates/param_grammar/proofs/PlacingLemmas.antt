@@ -65,9 +65,9 @@ both_true : (a b : Bool) → (a && b) ≡ true → (a ≡ true) × (b ≡ true)
 both_true true b e = (refl, e)
 both_true false b e = absurd (true≢false (sym e))
 
-pub PlainTo-more : (text : List ℕ) (first token : Token) (value rest behind : List Token) (end : ℕ) → PlainTo text first value end rest → rest ≡ token ∷ behind
-    → ((end == token.span.at) && is_plain_token text token) ≡ true → PlainTo text first value (token.span.at + token.span.len) behind
-PlainTo-more text first token value rest behind end p cut fits =
+pub PlainTo-more : (text : List ℕ) (first token : Token) (value rest following : List Token) (end : ℕ) → PlainTo text first value end rest → rest ≡ token ∷ following
+    → ((end == token.span.at) && is_plain_token text token) ≡ true → PlainTo text first value (token.span.at + token.span.len) following
+PlainTo-more text first token value rest following end p cut fits =
     let same : (end == token.span.at) ≡ true = (both_true (end == token.span.at) (is_plain_token text token) fits).0 in
     let is : is_plain_token text token ≡ true = (both_true (end == token.span.at) (is_plain_token text token) fits).1 in
     let at : token.span.at ≡ end = grind (arith, nat_tests, same) in
@@ -78,7 +78,7 @@ PlainTo-more text first token value rest behind end p cut fits =
     let long : (end - first.span.at) + token.span.len ≡ onward - first.span.at = omega (arith, at, begins) in
     record {
       more = p.more ++ token ∷ [];
-      whole = p.whole ∙ ap (λ r. (first ∷ p.more) ++ r) cut ∙ sym (append_assoc (first ∷ p.more) (token ∷ []) behind);
+      whole = p.whole ∙ ap (λ r. (first ∷ p.more) ++ r) cut ∙ sym (append_assoc (first ∷ p.more) (token ∷ []) following);
       plain = list_all-append (is_plain_token text) (first ∷ p.more) (token ∷ []) ∙ rw (p.plain, is) refl;
       begins = omega (arith, at, begins);
       octets = flat_map-append (λ (t : Token). octets_at text t.span) (first ∷ p.more) (token ∷ []) ∙ ap (λ r. r ++ run_octets text (token ∷ [])) p.octets
@@ -96,15 +96,15 @@ IsPlainAt-end text first value rest end p none =
     record { plain = ap (are_plain text) all ∙ rw (p.plain, p.touched) refl; octets = ap (run_octets text) all ∙ p.octets }
 
 -- a token that is none of an unquoted value, or stands apart
-pub not-are_plain : (text : List ℕ) (first token : Token) (value rest behind : List Token) (end : ℕ) → PlainTo text first value end rest → rest ≡ token ∷ behind
+pub not-are_plain : (text : List ℕ) (first token : Token) (value rest following : List Token) (end : ℕ) → PlainTo text first value end rest → rest ≡ token ∷ following
     → ((end == token.span.at) && is_plain_token text token) ≡ false → are_plain text value ≡ false
-not-are_plain text first token value rest behind end p cut isnt =
-    let whole : value ≡ (first ∷ p.more) ++ token ∷ behind = p.whole ∙ ap (λ r. (first ∷ p.more) ++ r) cut in
-    let plain : list_all (is_plain_token text) ((first ∷ p.more) ++ token ∷ behind) ≡ (is_plain_token text token && list_all (is_plain_token text) behind)
-    = list_all-append (is_plain_token text) (first ∷ p.more) (token ∷ behind) ∙ rw (p.plain) refl in
-    let both : are_plain text value ≡ ((is_plain_token text token && list_all (is_plain_token text) behind) && ((end == token.span.at) && touch (token ∷ behind)))
-    = ap (are_plain text) whole ∙ ap (λ b. b && touch ((first ∷ p.more) ++ token ∷ behind)) plain ∙ ap (λ b. (is_plain_token text token && list_all (is_plain_token text) behind) && b) (p.touching token behind) in
-    both ∙ by (end == token.span.at) (is_plain_token text token) (list_all (is_plain_token text) behind) (touch (token ∷ behind)) isnt
+not-are_plain text first token value rest following end p cut isnt =
+    let whole : value ≡ (first ∷ p.more) ++ token ∷ following = p.whole ∙ ap (λ r. (first ∷ p.more) ++ r) cut in
+    let plain : list_all (is_plain_token text) ((first ∷ p.more) ++ token ∷ following) ≡ (is_plain_token text token && list_all (is_plain_token text) following)
+    = list_all-append (is_plain_token text) (first ∷ p.more) (token ∷ following) ∙ rw (p.plain) refl in
+    let both : are_plain text value ≡ ((is_plain_token text token && list_all (is_plain_token text) following) && ((end == token.span.at) && touch (token ∷ following)))
+    = ap (are_plain text) whole ∙ ap (λ b. b && touch ((first ∷ p.more) ++ token ∷ following)) plain ∙ ap (λ b. (is_plain_token text token && list_all (is_plain_token text) following) && b) (p.touching token following) in
+    both ∙ by (end == token.span.at) (is_plain_token text token) (list_all (is_plain_token text) following) (touch (token ∷ following)) isnt
   where
     by : (a b c d : Bool) → (a && b) ≡ false → ((b && c) && (a && d)) ≡ false
     by true true c d e = absurd (true≢false e)

@@ -52,27 +52,27 @@ not-SaysOctets-more true true content e f none charset octets says = absurd (tru
 abbrev filled : List ℕ → List Token → List (List Token)
 filled text tokens = filter is_filled (sections_of text tokens)
 
-same_sections : (kind : ParamKind) (text : List ℕ) (tokens first behind : List Token) (main : List ℕ) (pieces : List Piece) → (s : SplitsSection text tokens first behind)
+same_sections : (kind : ParamKind) (text : List ℕ) (tokens first following : List Token) (main : List ℕ) (pieces : List Piece) → (s : SplitsSection text tokens first following)
     → (b : IsBody kind text tokens main pieces) → b.first ∷ b.others ≡ first ∷ s.others
-same_sections kind text tokens first behind main pieces s b = sym b.sections ∙ s.first
+same_sections kind text tokens first following main pieces s b = sym b.sections ∙ s.first
 
-pub not-IsBody-main : (kind : ParamKind) (text : List ℕ) (tokens first behind solids : List Token) → SplitsSection text tokens first behind → solids ≡ solid first → is_main kind text solids ≡ false
+pub not-IsBody-main : (kind : ParamKind) (text : List ℕ) (tokens first following solids : List Token) → SplitsSection text tokens first following → solids ≡ solid first → is_main kind text solids ≡ false
     → (main : List ℕ) (pieces : List Piece) → IsBody kind text tokens main pieces → ⊥
-not-IsBody-main kind text tokens first behind solids s e none main pieces b =
-    let same = same_sections kind text tokens first behind main pieces s b in
+not-IsBody-main kind text tokens first following solids s e none main pieces b =
+    let same = same_sections kind text tokens first following main pieces s b in
     let f : b.first ≡ first = cc same in
     true≢false (sym b.is_main_part ∙ ap (λ m. is_main kind text (solid m)) f ∙ ap (is_main kind text) (sym e) ∙ none)
 
-pub not-IsBody-pieces : (kind : ParamKind) (text : List ℕ) (tokens first behind : List Token) → SplitsSection text tokens first behind
-    → ((pieces : List Piece) → ArePieces text (filled text behind) pieces → ⊥) → (main : List ℕ) (pieces : List Piece) → IsBody kind text tokens main pieces → ⊥
-not-IsBody-pieces kind text tokens first behind s none main pieces b =
-    let same = same_sections kind text tokens first behind main pieces s b in
+pub not-IsBody-pieces : (kind : ParamKind) (text : List ℕ) (tokens first following : List Token) → SplitsSection text tokens first following
+    → ((pieces : List Piece) → ArePieces text (filled text following) pieces → ⊥) → (main : List ℕ) (pieces : List Piece) → IsBody kind text tokens main pieces → ⊥
+not-IsBody-pieces kind text tokens first following s none main pieces b =
+    let same = same_sections kind text tokens first following main pieces s b in
     let o : b.others ≡ s.others = cc same in
     none pieces (subst (λ f. ArePieces text f pieces) (ap (filter is_filled) o ∙ s.same) b.are_pieces)
 
-pub WritesBody-read : (kind : ParamKind) (text : List ℕ) (tokens first behind solids : List Token) (written : List ℕ) (pieces : List Piece) → SplitsSection text tokens first behind → solids ≡ solid first
-    → is_main kind text solids ≡ true → ArePieces text (filled text behind) pieces → written ≡ run_octets text solids → WritesBody kind text tokens written pieces
-WritesBody-read kind text tokens first behind solids written pieces s e main are w = record {
+pub WritesBody-read : (kind : ParamKind) (text : List ℕ) (tokens first following solids : List Token) (written : List ℕ) (pieces : List Piece) → SplitsSection text tokens first following → solids ≡ solid first
+    → is_main kind text solids ≡ true → ArePieces text (filled text following) pieces → written ≡ run_octets text solids → WritesBody kind text tokens written pieces
+WritesBody-read kind text tokens first following solids written pieces s e main are w = record {
   body = record {
     first = first;
     others = s.others;
@@ -89,12 +89,12 @@ WritesBody-read kind text tokens first behind solids written pieces s e main are
 few_main : (kind : ParamKind) (text : List ℕ) (first solids : List Token) → solids ≡ take 4 (solid first) → is_main kind text (solid first) ≡ is_main kind text solids
 few_main kind text first solids e = sym (is_main-front kind text (solid first)) ∙ ap (is_main kind text) (sym e)
 
-pub no_main : (kind : ParamKind) (text : List ℕ) (tokens first behind solids : List Token) → SplitsSection text tokens first behind → solids ≡ take 4 (solid first) → is_main kind text solids ≡ false
+pub no_main : (kind : ParamKind) (text : List ℕ) (tokens first following solids : List Token) → SplitsSection text tokens first following → solids ≡ take 4 (solid first) → is_main kind text solids ≡ false
     → (main : List ℕ) (pieces : List Piece) → IsBody kind text tokens main pieces → ⊥
-no_main kind text tokens first behind solids s e none = not-IsBody-main kind text tokens first behind (solid first) s refl (few_main kind text first solids e ∙ none)
+no_main kind text tokens first following solids s e none = not-IsBody-main kind text tokens first following (solid first) s refl (few_main kind text first solids e ∙ none)
 
-pub WritesBody-few : (kind : ParamKind) (text : List ℕ) (tokens first behind solids : List Token) (written : List ℕ) (pieces : List Piece) → SplitsSection text tokens first behind
-    → solids ≡ take 4 (solid first) → is_main kind text solids ≡ true → ArePieces text (filled text behind) pieces → written ≡ run_octets text solids → WritesBody kind text tokens written pieces
-WritesBody-few kind text tokens first behind solids written pieces s e main are w =
+pub WritesBody-few : (kind : ParamKind) (text : List ℕ) (tokens first following solids : List Token) (written : List ℕ) (pieces : List Piece) → SplitsSection text tokens first following
+    → solids ≡ take 4 (solid first) → is_main kind text solids ≡ true → ArePieces text (filled text following) pieces → written ≡ run_octets text solids → WritesBody kind text tokens written pieces
+WritesBody-few kind text tokens first following solids written pieces s e main are w =
     let all : solids ≡ solid first = e ∙ is_main-short kind text (solid first) (few_main kind text first solids e ∙ main) in
-    WritesBody-read kind text tokens first behind solids written pieces s all main are w
+    WritesBody-read kind text tokens first following solids written pieces s all main are w

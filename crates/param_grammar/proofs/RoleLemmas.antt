@@ -10,7 +10,7 @@ use Rattle.std.proofs.lemmas.List.Folds.{list_any-append}
 use Rattle.std.proofs.lemmas.Slice.Eq.{bytes_eq-Decides}
 use Rattle.param_grammar.specs.declared.Piece.{Piece}
 use Rattle.param_grammar.specs.private.ByName.{is_named, is_numbered}
-use Rattle.param_grammar.specs.Joining.{ParamValue, is_doubled, is_part_of, params_behind, params_of, parts_named, unit_at}
+use Rattle.param_grammar.specs.Joining.{ParamValue, is_doubled, is_part_of, params_after, params_of, parts_named, unit_at}
 
 -- a piece of a name without a number
 abbrev is_whole_of : List ℕ → Piece → Bool
@@ -74,7 +74,7 @@ count_step test param params piece wholes false g true false more is same e =
 count_step test param params piece wholes false g false true more is same e = params_out test param params is ∙ e
 count_step test param params piece wholes false g false false more is same e = params_out test param params is ∙ e
 
-count_params : (name : List ℕ) (pieces before more : List Piece) → length (filter (λ (param : ParamValue). bytes_eq param.name name) (params_behind pieces before more))
+count_params : (name : List ℕ) (pieces before more : List Piece) → length (filter (λ (param : ParamValue). bytes_eq param.name name) (params_after pieces before more))
     ≡ length (filter (is_whole_of name) more) + joined (list_any (is_part_of name) before) (list_any (is_part_of name) more)
 count_params name pieces before [] = rw (nothing (list_any (is_part_of name) before)) refl where
   nothing : (b : Bool) → joined b false ≡ 0
@@ -83,7 +83,7 @@ count_params name pieces before [] = rw (nothing (list_any (is_part_of name) bef
 count_params name pieces before (piece ∷ more) =
     let test = λ (param : ParamValue). bytes_eq param.name name in
     let param : ParamValue = record { name = piece.base; unit = unit_at pieces piece } in
-    let rest = params_behind pieces (before ++ piece ∷ []) more in
+    let rest = params_after pieces (before ++ piece ∷ []) more in
     let next : length (filter test rest) ≡ length (filter (is_whole_of name) more)
     + joined (list_any (is_part_of name) before || ((is_some piece.number && bytes_eq piece.base name) || false)) (list_any (is_part_of name) more) =
     count_params name pieces (before ++ piece ∷ []) more
@@ -110,9 +110,9 @@ doubled name pieces =
     double (list_any (is_part_of name) pieces) (length (filter (λ (param : ParamValue). bytes_eq param.name name) (params_of pieces))) (length (filter (is_whole_of name) pieces))
     (length (parts_named name pieces)) (length (filter (is_named name) pieces)) (any_counts name pieces) (count_params name pieces [] pieces) (counted name pieces)
 
-pub some_in : (test : Piece → Bool) (before behind : List Piece) (piece : Piece) → test piece ≡ true → 0 < length (filter test (before ++ piece ∷ behind))
-some_in test [] behind piece e = rw e (omega arith)
-some_in test (first ∷ before) behind piece e = more (test first) (filter test (before ++ piece ∷ behind)) (some_in test before behind piece e) where
+pub some_in : (test : Piece → Bool) (before following : List Piece) (piece : Piece) → test piece ≡ true → 0 < length (filter test (before ++ piece ∷ following))
+some_in test [] following piece e = rw e (omega arith)
+some_in test (first ∷ before) following piece e = more (test first) (filter test (before ++ piece ∷ following)) (some_in test before following piece e) where
   more : (b : Bool) (ps : List Piece) → 0 < length ps → 0 < length (if b then first ∷ ps else ps)
   more true ps l = omega arith
   more false ps l = l
@@ -120,12 +120,12 @@ some_in test (first ∷ before) behind piece e = more (test first) (filter test 
 pub own_name : (octets : List ℕ) → bytes_eq octets octets ≡ true
 own_name octets = (bytes_eq-Decides octets octets).1 refl
 
-pub whole_doubled : (pieces before behind : List Piece) (piece : Piece) → pieces ≡ before ++ piece ∷ behind → is_numbered piece ≡ false
+pub whole_doubled : (pieces before following : List Piece) (piece : Piece) → pieces ≡ before ++ piece ∷ following → is_numbered piece ≡ false
     → nat_lt 1 (length (filter (is_named piece.base) pieces)) ≡ is_doubled (params_of pieces) piece.base
-whole_doubled pieces before behind piece cut none =
-    (doubled piece.base pieces).0 (subst (λ ps. 0 < length (filter (is_whole_of piece.base) ps)) (sym cut) (some_in (is_whole_of piece.base) before behind piece (rw (none, own_name piece.base) refl)))
+whole_doubled pieces before following piece cut none =
+    (doubled piece.base pieces).0 (subst (λ ps. 0 < length (filter (is_whole_of piece.base) ps)) (sym cut) (some_in (is_whole_of piece.base) before following piece (rw (none, own_name piece.base) refl)))
 
-pub part_doubled : (pieces before behind : List Piece) (piece : Piece) → pieces ≡ before ++ piece ∷ behind → is_numbered piece ≡ true
+pub part_doubled : (pieces before following : List Piece) (piece : Piece) → pieces ≡ before ++ piece ∷ following → is_numbered piece ≡ true
     → nat_lt (length (parts_named piece.base pieces)) (length (filter (is_named piece.base) pieces)) ≡ is_doubled (params_of pieces) piece.base
-part_doubled pieces before behind piece cut some =
-    (doubled piece.base pieces).1 (subst (λ ps. 0 < length (filter (is_part_of piece.base) ps)) (sym cut) (some_in (is_part_of piece.base) before behind piece (rw (some, own_name piece.base) refl)))
+part_doubled pieces before following piece cut some =
+    (doubled piece.base pieces).1 (subst (λ ps. 0 < length (filter (is_part_of piece.base) ps)) (sym cut) (some_in (is_part_of piece.base) before following piece (rw (some, own_name piece.base) refl)))

@@ -106,20 +106,20 @@ role_part places name n first e is =
     ap (λ b. if b then (if is_first name.first n then Begins name.is_ascii name.has_whole else GoesOn name.is_ascii) else Begins (ascii_in places n) name.is_doubled) e
     ∙ ap (λ b. if b then Begins name.is_ascii name.has_whole else GoesOn name.is_ascii) is
 
-whole_role : (pieces before behind : List Piece) (piece : Piece) (ascii doubled : Bool) → is_numbered piece ≡ false → pieces ≡ before ++ piece ∷ behind
+whole_role : (pieces before following : List Piece) (piece : Piece) (ascii doubled : Bool) → is_numbered piece ≡ false → pieces ≡ before ++ piece ∷ following
     → ascii ≡ list_all is_ascii piece.written → doubled ≡ nat_lt 1 (length (filter (is_named piece.base) pieces)) → IsRole pieces before piece (Begins ascii doubled)
-whole_role pieces before behind piece ascii doubled whole cut is twice =
-    (rw whole refl, rw whole (is ∙ and_true (list_all is_ascii piece.written)), twice ∙ whole_doubled pieces before behind piece cut whole)
+whole_role pieces before following piece ascii doubled whole cut is twice =
+    (rw whole refl, rw whole (is ∙ and_true (list_all is_ascii piece.written)), twice ∙ whole_doubled pieces before following piece cut whole)
 
 part_role : (pieces before : List Piece) (piece : Piece) (ascii : Bool) → is_numbered piece ≡ true → list_any (is_part_of piece.base) before ≡ true
     → ascii ≡ are_ascii (parts_named piece.base pieces) → IsRole pieces before piece (GoesOn ascii)
 part_role pieces before piece ascii part on is = (rw (part, on) refl, rw part is)
 
-first_role : (pieces before behind : List Piece) (piece : Piece) (ascii doubled : Bool) → is_numbered piece ≡ true → pieces ≡ before ++ piece ∷ behind
+first_role : (pieces before following : List Piece) (piece : Piece) (ascii doubled : Bool) → is_numbered piece ≡ true → pieces ≡ before ++ piece ∷ following
     → list_any (is_part_of piece.base) before ≡ false → ascii ≡ are_ascii (parts_named piece.base pieces)
     → doubled ≡ nat_lt (length (parts_named piece.base pieces)) (length (filter (is_named piece.base) pieces)) → IsRole pieces before piece (Begins ascii doubled)
-first_role pieces before behind piece ascii doubled part cut first is twice =
-    (rw (part, first) refl, rw part is, twice ∙ part_doubled pieces before behind piece cut part)
+first_role pieces before following piece ascii doubled part cut first is twice =
+    (rw (part, first) refl, rw part is, twice ∙ part_doubled pieces before following piece cut part)
 
 opposite : (a b : Bool) → a ≡ not b → (a ≡ true → b ≡ false) × (a ≡ false → b ≡ true)
 opposite true true e = absurd (true≢false e)
@@ -254,12 +254,12 @@ pub record RolesGo (text lower : List ℕ) (places : List Place) (order : List �
 pub RolesGo-start : (text lower : List ℕ) (places : List Place) (order : List ℕ) (roles : List Role) → length roles ≡ length places → RolesGo text lower places order roles order
 RolesGo-start text lower places order roles e = record { done = []; cut = refl; apart = λ x pre post at. refl; counted = e; said = λ pieces are n l some. absurd (some refl) }
 
-pub RolesGo-run : (text lower : List ℕ) (places : List Place) (order : List ℕ) (roles : List Role) (rest more run behind : List ℕ) (first : ℕ) → InNameOrder (name_in lower places) (length places) order
-    → RolesGo text lower places order roles rest → rest ≡ first ∷ more → IsSpan (is_of (name_in lower places) first) rest run behind → IsNameRun lower places run first
-RolesGo-run text lower places order roles rest more run behind first o go is span =
+pub RolesGo-run : (text lower : List ℕ) (places : List Place) (order : List ℕ) (roles : List Role) (rest more run following : List ℕ) (first : ℕ) → InNameOrder (name_in lower places) (length places) order
+    → RolesGo text lower places order roles rest → rest ≡ first ∷ more → IsSpan (is_of (name_in lower places) first) rest run following → IsNameRun lower places run first
+RolesGo-run text lower places order roles rest more run following first o go is span =
     let whole : run ≡ filter (is_of (name_in lower places) first) (numbers_below (length places)) =
-    run_is (name_in lower places) (length places) order go.done rest more run behind first o go.cut go.apart is span in
-    let begins = run_begins (name_in lower places) first more run behind (sym is ∙ span.whole) span.stops in
+    run_is (name_in lower places) (length places) order go.done rest more run following first o go.cut go.apart is span in
+    let begins = run_begins (name_in lower places) first more run following (sym is ∙ span.whole) span.stops in
     let within : All (λ k. k < length places) (first ∷ begins.0) =
     subst (All (λ k. k < length places)) (sym whole ∙ begins.1) (passing_below (is_of (name_in lower places) first) (length places)) in
     record { within = All-head (λ k. k < length places) first begins.0 within; run_is = whole }
@@ -267,20 +267,20 @@ RolesGo-run text lower places order roles rest more run behind first o go is spa
 pub IsNameRun-within : (lower : List ℕ) (places : List Place) (run : List ℕ) (first : ℕ) → IsNameRun lower places run first → All (λ k. k < length places) run
 IsNameRun-within lower places run first is = subst (All (λ k. k < length places)) (sym is.run_is) (passing_below (is_of (name_in lower places) first) (length places))
 
-pub behind_shorter : (name : ℕ → List ℕ) (rest more run behind : List ℕ) (first : ℕ) → rest ≡ first ∷ more → IsSpan (is_of name first) rest run behind → length behind < length rest
-behind_shorter name rest more run behind first is span =
-    let begins = run_begins name first more run behind (sym is ∙ span.whole) span.stops in
+pub after_shorter : (name : ℕ → List ℕ) (rest more run following : List ℕ) (first : ℕ) → rest ≡ first ∷ more → IsSpan (is_of name first) rest run following → length following < length rest
+after_shorter name rest more run following first is span =
+    let begins = run_begins name first more run following (sym is ∙ span.whole) span.stops in
     let all = ap length is in
     let tail = ap length begins.2 in
-    omega (arith, all, tail, length-append begins.0 behind)
+    omega (arith, all, tail, length-append begins.0 following)
 
-pub RolesGo-turn : (text lower : List ℕ) (places : List Place) (order : List ℕ) (roles new : List Role) (rest more run behind : List ℕ) (first : ℕ) → InNameOrder (name_in lower places) (length places) order
-    → RolesGo text lower places order roles rest → rest ≡ first ∷ more → IsSpan (is_of (name_in lower places) first) rest run behind → length new ≡ length roles
-    → ((pieces : List Piece) → AreLowered text lower places pieces → SetsRoles lower places pieces first roles new) → RolesGo text lower places order new behind
-RolesGo-turn text lower places order roles new rest more run behind first o go is span count sets = record {
+pub RolesGo-turn : (text lower : List ℕ) (places : List Place) (order : List ℕ) (roles new : List Role) (rest more run following : List ℕ) (first : ℕ) → InNameOrder (name_in lower places) (length places) order
+    → RolesGo text lower places order roles rest → rest ≡ first ∷ more → IsSpan (is_of (name_in lower places) first) rest run following → length new ≡ length roles
+    → ((pieces : List Piece) → AreLowered text lower places pieces → SetsRoles lower places pieces first roles new) → RolesGo text lower places order new following
+RolesGo-turn text lower places order roles new rest more run following first o go is span count sets = record {
   done = go.done ++ run;
-  cut = go.cut ∙ ap (λ r. go.done ++ r) span.whole ∙ sym (append_assoc go.done run behind);
-  apart = AreApart-more (name_in lower places) (length places) order go.done rest more run behind first o go.cut go.apart is span;
+  cut = go.cut ∙ ap (λ r. go.done ++ r) span.whole ∙ sym (append_assoc go.done run following);
+  apart = AreApart-more (name_in lower places) (length places) order go.done rest more run following first o go.cut go.apart is span;
   counted = count ∙ go.counted;
   said = λ pieces are n l some. elim (cases_Bool (is_of (name_in lower places) first n)) [
     | inl same ↦ (sets pieces are).said n l same

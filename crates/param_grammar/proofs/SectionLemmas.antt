@@ -62,23 +62,23 @@ ReadsPieces-none text tokens done e = record {
   back = λ ps are. (ps, are, rw e refl);
 }
 
-blank_section : (text : List ℕ) (rest section behind : List Token) → SplitsSection text rest section behind → is_filled section ≡ false → filled text rest ≡ filled text behind
-blank_section text rest section behind s none = ap (filter is_filled) s.first ∙ cond-false _ _ _ none ∙ s.same
+blank_section : (text : List ℕ) (rest section following : List Token) → SplitsSection text rest section following → is_filled section ≡ false → filled text rest ≡ filled text following
+blank_section text rest section following s none = ap (filter is_filled) s.first ∙ cond-false _ _ _ none ∙ s.same
 
-filled_section : (text : List ℕ) (rest section behind : List Token) → SplitsSection text rest section behind → is_filled section ≡ true → filled text rest ≡ section ∷ filled text behind
-filled_section text rest section behind s some = ap (filter is_filled) s.first ∙ cond-true _ _ _ some ∙ ap (λ r. section ∷ r) s.same
+filled_section : (text : List ℕ) (rest section following : List Token) → SplitsSection text rest section following → is_filled section ≡ true → filled text rest ≡ section ∷ filled text following
+filled_section text rest section following s some = ap (filter is_filled) s.first ∙ cond-true _ _ _ some ∙ ap (λ r. section ∷ r) s.same
 
-pub ReadsPieces-push : (text : List ℕ) (tokens rest section behind : List Token) (done new : List Piece) → ReadsPieces text tokens done rest → SplitsSection text rest section behind
-    → PushesPiece text section done new → ReadsPieces text tokens new behind
-ReadsPieces-push text tokens rest section behind done new r s (inl blank) =
-    let same = blank_section text rest section behind s blank.0 in
+pub ReadsPieces-push : (text : List ℕ) (tokens rest section following : List Token) (done new : List Piece) → ReadsPieces text tokens done rest → SplitsSection text rest section following
+    → PushesPiece text section done new → ReadsPieces text tokens new following
+ReadsPieces-push text tokens rest section following done new r s (inl blank) =
+    let same = blank_section text rest section following s blank.0 in
     let e : new ≡ done = blank.1 in
     record {
       onward = λ ps are. rw e (r.onward ps (subst (λ f. ArePieces text f ps) (sym same) are));
       back = λ ps are. let old = r.back ps are in (old.0, subst (λ f. ArePieces text f old.0) same old.1, rw e old.2);
     }
-ReadsPieces-push text tokens rest section behind done new r s (inr full) =
-    let same = filled_section text rest section behind s full.1 in
+ReadsPieces-push text tokens rest section following done new r s (inr full) =
+    let same = filled_section text rest section following s full.1 in
     let p : Piece = full.0 in
     let e : new ≡ done ++ p ∷ [] = full.3 in
     record {
@@ -90,11 +90,11 @@ ReadsPieces-push text tokens rest section behind done new r s (inr full) =
           (parts.1, parts.3, rw (e, append_assoc done (p ∷ []) parts.1) (old.2 ∙ ap (λ m. done ++ m) (parts.4 ∙ ap (λ q. q ∷ parts.1) head)));
     }
 
-pub not-ArePieces : (text : List ℕ) (tokens rest section behind : List Token) (done : List Piece) → ReadsPieces text tokens done rest → SplitsSection text rest section behind
+pub not-ArePieces : (text : List ℕ) (tokens rest section following : List Token) (done : List Piece) → ReadsPieces text tokens done rest → SplitsSection text rest section following
     → IsNoPiece text section → (ps : List Piece) → ArePieces text (filled text tokens) ps → ⊥
-not-ArePieces text tokens rest section behind done r s none ps are =
+not-ArePieces text tokens rest section following done r s none ps are =
     let old = r.back ps are in
-    let parts = subst (λ f. ArePieces text f old.0) (filled_section text rest section behind s none.0) old.1 in
+    let parts = subst (λ f. ArePieces text f old.0) (filled_section text rest section following s none.0) old.1 in
     none.1 parts.0 parts.2
 
 pub ArePieces-read : (text : List ℕ) (tokens rest : List Token) (done : List Piece) → ReadsPieces text tokens done rest → length rest ≡ 0 → ArePieces text (filled text tokens) done
@@ -110,15 +110,15 @@ abbrev pub ReadsComments : List ℕ → List Token → List Comment → List Tok
 ReadsComments text tokens done rest =
     (trees : List Tree) → HaveComments text (comments_in rest) trees → HaveComments text (comments_in tokens) (map tree_of done ++ trees)
 
-pub ReadsComments-push : (text : List ℕ) (tokens rest behind : List Token) (token : Token) (done new : List Comment) → rest ≡ token ∷ behind → ReadsComments text tokens done rest
-    → PushesComment text token done new → ReadsComments text tokens new behind
-ReadsComments-push text tokens rest behind token done new cut r (inl other) =
+pub ReadsComments-push : (text : List ℕ) (tokens rest following : List Token) (token : Token) (done new : List Comment) → rest ≡ token ∷ following → ReadsComments text tokens done rest
+    → PushesComment text token done new → ReadsComments text tokens new following
+ReadsComments-push text tokens rest following token done new cut r (inl other) =
     let e : new ≡ done = other.1 in
-    let same : comments_in rest ≡ comments_in behind = ap comments_in cut ∙ cond-false _ _ _ other.0 in
+    let same : comments_in rest ≡ comments_in following = ap comments_in cut ∙ cond-false _ _ _ other.0 in
     λ trees have. rw e (r trees (subst (λ f. HaveComments text f trees) (sym same) have))
-ReadsComments-push text tokens rest behind token done new cut r (inr is) =
+ReadsComments-push text tokens rest following token done new cut r (inr is) =
     let e : new ≡ done ++ is.0 ∷ [] = is.3 in
-    let same : comments_in rest ≡ token ∷ comments_in behind = ap comments_in cut ∙ cond-true _ _ _ is.1 in
+    let same : comments_in rest ≡ token ∷ comments_in following = ap comments_in cut ∙ cond-true _ _ _ is.1 in
     λ trees have. rw (e, map-append tree_of done (is.0 ∷ []), append_assoc (map tree_of done) (tree_of is.0 ∷ []) trees)
     (r (tree_of is.0 ∷ trees) (subst (λ f. HaveComments text f (tree_of is.0 ∷ trees)) (sym same) (tree_of is.0, trees, is.2, have, refl)))
 
@@ -131,18 +131,18 @@ pub record CommentsGo (text : List ℕ) (tokens : List Token) (done : List Comme
 pub CommentsGo-start : (text : List ℕ) (tokens : List Token) (done : List Comment) → done ≡ [] → CommentsGo text tokens done tokens
 CommentsGo-start text tokens done e = record { reads = λ trees have. rw e have; front = []; whole = refl }
 
-pub CommentsGo-push : (text : List ℕ) (tokens rest behind : List Token) (token : Token) (done new : List Comment) → rest ≡ token ∷ behind → CommentsGo text tokens done rest
-    → PushesComment text token done new → CommentsGo text tokens new behind
-CommentsGo-push text tokens rest behind token done new cut go put = record {
-  reads = ReadsComments-push text tokens rest behind token done new cut go.reads put;
+pub CommentsGo-push : (text : List ℕ) (tokens rest following : List Token) (token : Token) (done new : List Comment) → rest ≡ token ∷ following → CommentsGo text tokens done rest
+    → PushesComment text token done new → CommentsGo text tokens new following
+CommentsGo-push text tokens rest following token done new cut go put = record {
+  reads = ReadsComments-push text tokens rest following token done new cut go.reads put;
   front = go.front ++ token ∷ [];
-  whole = go.whole ∙ ap (λ r. go.front ++ r) cut ∙ sym (append_assoc go.front (token ∷ []) behind);
+  whole = go.whole ∙ ap (λ r. go.front ++ r) cut ∙ sym (append_assoc go.front (token ∷ []) following);
 }
 
 pub HaveComments-read : (text : List ℕ) (tokens rest : List Token) (done : List Comment) → CommentsGo text tokens done rest → rest ≡ [] → HaveComments text (comments_in tokens) (map tree_of done)
 HaveComments-read text tokens rest done go end =
     subst (HaveComments text (comments_in tokens)) (append-nil (map tree_of done)) (go.reads [] (rw end refl))
 
-pub token_among : (tokens front behind : List Token) (token : Token) → tokens ≡ front ++ token ∷ behind → Contains tokens token
-token_among tokens front behind token cut =
-    (length front, let len = ap length cut in omega (arith, len, length-append front (token ∷ behind)), ap (λ ts. get_or ts (length front) token) cut ∙ get_or_at front token behind token (length front) refl)
+pub token_among : (tokens front following : List Token) (token : Token) → tokens ≡ front ++ token ∷ following → Contains tokens token
+token_among tokens front following token cut =
+    (length front, let len = ap length cut in omega (arith, len, length-append front (token ∷ following)), ap (λ ts. get_or ts (length front) token) cut ∙ get_or_at front token following token (length front) refl)

@@ -74,14 +74,14 @@ module _ (at : ℕ → Piece) where
   holds_one (Some r) e = (at r, refl)
 
   -- a number that stands at two parts
-  pub twice : (all parts behind : List Piece) (piece : Piece) (slots : List (Option ℕ)) (number count : ℕ) → count ≡ length all → all ≡ parts ++ piece ∷ behind → AreSlots at count parts slots
+  pub twice : (all parts following : List Piece) (piece : Piece) (slots : List (Option ℕ)) (number count : ℕ) → count ≡ length all → all ≡ parts ++ piece ∷ following → AreSlots at count parts slots
       → number < count → is_some (get_or slots number None) ≡ true → has_number number piece ≡ true → AreNumbered all → ⊥
-  twice all parts behind piece slots number count counted cut are below full is numbers =
+  twice all parts following piece slots number count counted cut are below full is numbers =
       let first = holds_one _ full in
-      let both : numbered number all ≡ numbered number parts ++ numbered number (piece ∷ behind) = ap (numbered number) cut ∙ filter-append (has_number number) parts (piece ∷ behind) in
-      let here : numbered number (piece ∷ behind) ≡ piece ∷ numbered number behind = rw is refl in
+      let both : numbered number all ≡ numbered number parts ++ numbered number (piece ∷ following) = ap (numbered number) cut ∙ filter-append (has_number number) parts (piece ∷ following) in
+      let here : numbered number (piece ∷ following) ≡ piece ∷ numbered number following = rw is refl in
       let only = numbers number (subst (λ c. number < c) counted below) in
-      two (numbered number parts) (numbered number behind) first.0 piece only.0 (are.hold number below ∙ first.1)
+      two (numbered number parts) (numbered number following) first.0 piece only.0 (are.hold number below ∙ first.1)
       (sym (both ∙ ap (λ xs. numbered number parts ++ xs) here) ∙ only.1)
 
   free_slot : (all : List Piece) (slots : List (Option ℕ)) (n : ℕ) → AreSlots at (length all) all slots → n < length all → get_or slots n None ≡ None → AreNumbered all → ⊥

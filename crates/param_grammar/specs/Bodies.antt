@@ -2,6 +2,7 @@
 use Rattle.std.specs.Prelude.{◌≡◌, ℕ, ◌⊎◌, ◌++◌, ◌+◌, ◌-◌, ◌<◌, ◌==◌, Bool, true, false, not, ◌&&◌, ◌||◌, if◌then◌else◌, List, [], ◌∷◌, length, take, drop, codes, Option, Some, None, filter}
 use Rattle.std.specs.List.{list_all, list_any, slice_split}
 use Rattle.std.specs.Str.{bytes_eq, str_to_ascii_lowercase}
+use Rattle.mail_wire.specs.Characters.{slash, semicolon, equals_sign, backslash}
 use Rattle.mail_wire.specs.Octets.{is_ascii}
 use Rattle.field_tokens.specs.declared.Style.TheVariants.{Mime}
 use Rattle.field_tokens.specs.declared.Token.{Token}
@@ -33,7 +34,7 @@ is_mark_at text mark token = bytes_eq (octets_at text token.span) (mark ∷ [])
 
 -- what stands between semicolons
 abbrev pub sections_of : List ℕ → List Token → List (List Token)
-sections_of text tokens = slice_split (is_mark_at text 59) tokens
+sections_of text tokens = slice_split (is_mark_at text semicolon) tokens
 
 -- the tokens that are no gaps and no comments
 abbrev pub solid : List Token → List Token
@@ -48,7 +49,7 @@ abbrev pub is_main : ParamKind → List ℕ → List Token → Bool
 is_main Content text [] = false
 is_main Content text (a ∷ []) = false
 is_main Content text (a ∷ b ∷ []) = false
-is_main Content text (a ∷ b ∷ c ∷ []) = is_ascii_atom text a && (is_mark_at text 47 b && is_ascii_atom text c)
+is_main Content text (a ∷ b ∷ c ∷ []) = is_ascii_atom text a && (is_mark_at text slash b && is_ascii_atom text c)
 is_main Content text (a ∷ b ∷ c ∷ d ∷ more) = false
 is_main Disposition text [] = false
 is_main Disposition text (a ∷ []) = is_ascii_atom text a
@@ -83,7 +84,7 @@ are_plain text (a ∷ more) = list_all (is_plain_token text) (a ∷ more) && tou
 unfoldable pub unquoted : List ℕ → List ℕ
 unquoted [] = []
 unquoted (x ∷ []) = x ∷ []
-unquoted (x ∷ y ∷ rest) = if x == 92 then y ∷ unquoted rest else x ∷ unquoted (y ∷ rest)
+unquoted (x ∷ y ∷ rest) = if x == backslash then y ∷ unquoted rest else x ∷ unquoted (y ∷ rest)
 
 -- what stands between the first and the last octet
 abbrev pub inner : List ℕ → List ℕ
@@ -95,7 +96,7 @@ value_content text value = if are_quoted value then unquoted (inner (run_octets 
 
 -- these tokens stand as the name, the equals sign and the value of a parameter
 abbrev pub is_parameter : List ℕ → Token → Token → List Token → Bool
-is_parameter text atom equals value = is_atom_kind atom.kind && (is_mark_at text 61 equals && (are_quoted value || are_plain text value))
+is_parameter text atom equals value = is_atom_kind atom.kind && (is_mark_at text equals_sign equals && (are_quoted value || are_plain text value))
 
 -- tokens that are no gaps and no comments are a parameter: a name, an equals sign and a value
 pub record IsParameterOf (text : List ℕ) (tokens : List Token) (name : List ℕ) (value : List Token) : Type 0 where
@@ -103,7 +104,7 @@ pub record IsParameterOf (text : List ℕ) (tokens : List Token) (name : List �
   pub equals : Token
   pub tokens_are : tokens ≡ atom ∷ equals ∷ value
   pub is_name : is_atom_kind atom.kind ≡ true
-  pub is_equals : is_mark_at text 61 equals ≡ true
+  pub is_equals : is_mark_at text equals_sign equals ≡ true
   pub is_value : (are_quoted value || are_plain text value) ≡ true
   pub name_is : name ≡ octets_at text atom.span
 
@@ -125,7 +126,7 @@ pub record IsPieceOf (text name : List ℕ) (value : List Token) (piece : Piece)
   pub says : SaysOctets parts.is_extended (is_first parts.number) (value_content text value) piece.charset piece.octets
   pub base_is : piece.base ≡ str_to_ascii_lowercase parts.base
   pub number_is : piece.number ≡ parts.number
-  pub written_is : piece.written ≡ name ++ 61 ∷ run_octets text value
+  pub written_is : piece.written ≡ name ++ equals_sign ∷ run_octets text value
 
 -- the section, with gaps and comments around its tokens, is this piece
 pub record IsPiece (text : List ℕ) (section : List Token) (piece : Piece) : Type 0 where
@@ -139,11 +140,11 @@ abbrev pub is_filled : List Token → Bool
 is_filled section = list_any (λ token. not (is_blank token.kind)) section
 
 -- The tokens are a section and what is behind its semicolon, where there is one. Where there is none, no filled section follows.
-pub record SplitsSection (text : List ℕ) (tokens section behind : List Token) : Type 0 where
+pub record SplitsSection (text : List ℕ) (tokens section following : List Token) : Type 0 where
   pub others : List (List Token)
   pub first : sections_of text tokens ≡ section ∷ others
-  pub same : filter is_filled others ≡ filter is_filled (sections_of text behind)
-  pub shorter : 0 < length tokens → length behind < length tokens
+  pub same : filter is_filled others ≡ filter is_filled (sections_of text following)
+  pub shorter : 0 < length tokens → length following < length tokens
 
 -- a piece for each section
 abbrev pub ArePieces : List ℕ → List (List Token) → List Piece → Type 0

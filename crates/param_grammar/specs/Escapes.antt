@@ -2,6 +2,7 @@
 use Rattle.std.specs.Prelude.{◌≡◌, ◌≢◌, ℕ, ◌+◌, ◌*◌, ◌<◌, ◌==◌, Bool, ◌||◌, if◌then◌else◌, nat_lt, List, [], ◌∷◌, ◌++◌, map, codes}
 use Rattle.std.specs.List.{AllByRecursion, flat_map, list_any}
 use Rattle.std.specs.Char.{digit_value}
+use Rattle.mail_wire.specs.Characters.{percent}
 use Rattle.percent_encoding.specs.Percent.{percent_encode_byte}
 
 -- an octet by itself, or as `%` and its two hexadecimal digits
@@ -11,13 +12,13 @@ pub data EscapedItem : Type 0 where
 
 -- An octet other than `%`, or two hexadecimal digits (RFC 2231, 7).
 abbrev pub IsEscapedItem : EscapedItem → Type 0
-IsEscapedItem (Plain x) = x ≢ 37
+IsEscapedItem (Plain x) = x ≢ percent
 IsEscapedItem (Escape high low) = (digit_value high < 16) × (digit_value low < 16)
 
 -- An octet by itself, or `%` and its two digits (RFC 2231, 7).
 abbrev pub item_spelling : EscapedItem → List ℕ
 item_spelling (Plain x) = x ∷ []
-item_spelling (Escape high low) = 37 ∷ high ∷ low ∷ []
+item_spelling (Escape high low) = percent ∷ high ∷ low ∷ []
 
 -- The octet that is spelled (RFC 2231, 7).
 abbrev pub item_octet : EscapedItem → ℕ

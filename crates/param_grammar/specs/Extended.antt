@@ -2,6 +2,7 @@
 use Rattle.std.specs.Prelude.{◌≡◌, ℕ, Bool, true, false, ◌&&◌, ◌||◌, if◌then◌else◌, List, [], ◌∷◌, ◌++◌}
 use Rattle.std.specs.List.{list_all}
 use Rattle.std.specs.Str.{is_utf8, str_to_ascii_lowercase}
+use Rattle.mail_wire.specs.Characters.{apostrophe}
 use Rattle.encoded_words.specs.Words.{UnitValue, Text, Opaque, gives_text, is_token_octet}
 use Rattle.encoded_words.specs.private.Parts.{lacks}
 
@@ -9,9 +10,9 @@ use Rattle.encoded_words.specs.private.Parts.{lacks}
 -- one of RFC 2047. Any octets are a language.
 pub record IsExtended (value charset text : List ℕ) : Type 0 where
   pub language : List ℕ
-  pub spelled : value ≡ charset ++ 39 ∷ (language ++ 39 ∷ text)
-  pub charset_first : lacks 39 charset ≡ true
-  pub language_first : lacks 39 language ≡ true
+  pub spelled : value ≡ charset ++ apostrophe ∷ (language ++ apostrophe ∷ text)
+  pub charset_first : lacks apostrophe charset ≡ true
+  pub language_first : lacks apostrophe language ≡ true
   pub charset_is : list_all is_token_octet charset ≡ true
 
 -- There are no octets.

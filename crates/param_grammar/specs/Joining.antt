@@ -73,15 +73,15 @@ abbrev pub goes_on : List Piece → Piece → Bool
 goes_on before piece = is_some piece.number && list_any (is_part_of piece.base) before
 
 -- the parameters that begin behind the pieces before
-abbrev pub params_behind : List Piece → List Piece → List Piece → List ParamValue
-params_behind pieces before [] = []
-params_behind pieces before (piece ∷ more) =
-    if goes_on before piece then params_behind pieces (before ++ piece ∷ []) more
-    else record { name = piece.base; unit = unit_at pieces piece } ∷ params_behind pieces (before ++ piece ∷ []) more
+abbrev pub params_after : List Piece → List Piece → List Piece → List ParamValue
+params_after pieces before [] = []
+params_after pieces before (piece ∷ more) =
+    if goes_on before piece then params_after pieces (before ++ piece ∷ []) more
+    else record { name = piece.base; unit = unit_at pieces piece } ∷ params_after pieces (before ++ piece ∷ []) more
 
 -- each parameter, at the place of its first piece
 abbrev pub params_of : List Piece → List ParamValue
-params_of pieces = params_behind pieces [] pieces
+params_of pieces = params_after pieces [] pieces
 
 -- The pieces are these parameters. The parts of each name have the numbers from 0 on.
 pub record AreParams (pieces : List Piece) (params : List ParamValue) : Type 0 where

@@ -2,6 +2,7 @@
 use Rattle.std.specs.Prelude.{◌≡◌, ℕ, ◌<◌, ◌≤◌, ◌==◌, Bool, true, false, List, [], ◌∷◌, ◌++◌, length, Option, Some, None, IfSome}
 use Rattle.std.specs.Option.{option_copied}
 use Rattle.std.specs.List.{list_all}
+use Rattle.mail_wire.specs.Characters.{asterisk, digit_zero}
 use Rattle.mail_wire.specs.Numbers.{is_digit}
 use Rattle.mail_wire.specs.Octets.{is_ascii}
 use Rattle.encoded_words.specs.private.Parts.{lacks}
@@ -11,7 +12,7 @@ use Rattle.param_grammar.specs.declared.names.Name.{Name}
 abbrev pub leads_with_zero : List ℕ → Bool
 leads_with_zero [] = false
 leads_with_zero (x ∷ []) = false
-leads_with_zero (x ∷ y ∷ more) = x == 48
+leads_with_zero (x ∷ y ∷ more) = x == digit_zero
 
 -- the digits of a piece's number
 pub record IsNumber (digits : List ℕ) : Type 0 where
@@ -28,12 +29,12 @@ pub record NameParts : Type 0 where
 -- A star and the digits of a piece's number, where it has one (RFC 2231, 3).
 abbrev pub number_suffix : Option (List ℕ) → List ℕ
 number_suffix None = []
-number_suffix (Some digits) = 42 ∷ digits
+number_suffix (Some digits) = asterisk ∷ digits
 
 -- The star behind the name of an extended value (RFC 2231, 4).
 abbrev pub star_suffix : Bool → List ℕ
 star_suffix false = []
-star_suffix true = 42 ∷ []
+star_suffix true = asterisk ∷ []
 
 -- A parameter's name as it is written: `a`, `a*`, `a*0` or `a*0*` (RFC 2231, 7).
 abbrev pub name_of : NameParts → List ℕ
@@ -49,7 +50,7 @@ pub record IsBase (octets : List ℕ) : Type 0 where
 pub record HasNameParts (name : List ℕ) (p : NameParts) : Type 0 where
   pub spelled : name ≡ name_of p
   pub base : IsBase p.base
-  pub first : lacks 42 p.base ≡ true
+  pub first : lacks asterisk p.base ≡ true
   pub number : IfSome p.number IsNumber
 
 -- What stands behind the first star of a name: nothing, or a number, with a star where the value is extended.
@@ -58,9 +59,9 @@ HasSuffix suffix None is_extended = (suffix ≡ []) × (is_extended ≡ true)
 HasSuffix suffix (Some digits) is_extended = (suffix ≡ digits ++ star_suffix is_extended) × IsNumber digits
 
 -- what stands behind a base: nothing, or the first star and what stands behind that
-abbrev pub HasBehind : Option (List ℕ) → Option (List ℕ) → Bool → Type 0
-HasBehind None number is_extended = (number ≡ None) × (is_extended ≡ false)
-HasBehind (Some suffix) number is_extended = HasSuffix suffix number is_extended
+abbrev pub HasAfter : Option (List ℕ) → Option (List ℕ) → Bool → Type 0
+HasAfter None number is_extended = (number ≡ None) × (is_extended ≡ false)
+HasAfter (Some suffix) number is_extended = HasSuffix suffix number is_extended
 
 -- The parts of a name.
 abbrev pub parts_value : Name → NameParts

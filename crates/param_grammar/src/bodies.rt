@@ -32,12 +32,12 @@ pub fn read_parts(
     ensures found { IfOk result (λ o. IfSome o (λ x. (pieces : List Piece) × WritesBody kind text.now (tokens_of tokens.entry) x.0 pieces × ArePlaced text.now x.1.items pieces)) }
     ensures none { IfOk result (λ o. IfNone o ((main : List ℕ) (pieces : List Piece) → ¬ IsBody kind text.now (tokens_of tokens.entry) main pieces)) }
 {
-    let (first, behind) = split_section(text, tokens);
+    let (first, following) = split_section(text, tokens);
     let first = first_solid(alloc, first)?;
     if !is_main(kind, text, &first) {
         return Ok(None);
     }
-    let Some(places) = read_places(alloc, text, behind)? else {
+    let Some(places) = read_places(alloc, text, following)? else {
         return Ok(None);
     };
     let written = run_octets(alloc, text, &first)?;
@@ -67,9 +67,9 @@ fn read_comments(alloc: Global, text: &[u8], tokens: Tokens<'_>) -> Result<Vec<C
 {
     let mut comments = Vec::new(alloc);
     let mut rest = tokens;
-    while let Some((token, behind)) = rest.split_first() {
+    while let Some((token, following)) = rest.split_first() {
         push_comment(alloc, text, &token, &mut comments)?;
-        rest = behind;
+        rest = following;
     }
     Ok(comments)
 }

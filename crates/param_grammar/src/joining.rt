@@ -49,9 +49,9 @@ fn put_part(text: &[u8], places: &[Place], part: u32, slots: &mut Vec<Option<u32
     ensures put { (pieces parts : List Piece) → ArePlaced text.now places.now pieces → part < length places.now
         → AreSlots (piece_in pieces) (length slots.old.items) parts slots.old.items → result ≡ true
         → AreSlots (piece_in pieces) (length slots.old.items) (parts ++ piece_in pieces part ∷ []) slots.new.items }
-    ensures taken { (pieces parts behind : List Piece) → ArePlaced text.now places.now pieces → part < length places.now
-        → AreSlots (piece_in pieces) (length slots.old.items) parts slots.old.items → length slots.old.items ≡ length (parts ++ piece_in pieces part ∷ behind) → result ≡ false
-        → ¬ AreNumbered (parts ++ piece_in pieces part ∷ behind) }
+    ensures taken { (pieces parts following : List Piece) → ArePlaced text.now places.now pieces → part < length places.now
+        → AreSlots (piece_in pieces) (length slots.old.items) parts slots.old.items → length slots.old.items ≡ length (parts ++ piece_in pieces part ∷ following) → result ≡ false
+        → ¬ AreNumbered (parts ++ piece_in pieces part ∷ following) }
 {
     let Some(number) = number_of(text, places, part, slots.len()) else {
         return true;

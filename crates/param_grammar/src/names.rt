@@ -3,7 +3,7 @@ ghost use Rattle.std.specs.Prelude.{◌≡◌, ◌≢◌, ◌↔◌, ℕ, Bool, 
 ghost use Rattle.std.specs.Option.{option_copied};
 ghost use Rattle.encoded_words.specs.private.Parts.{lacks};
 ghost use Rattle.encoded_words.specs.Words.{language_suffix};
-ghost use Rattle.param_grammar.specs.Names.{leads_with_zero as leads_with_zero_of, IsNumber, NameParts, HasNameParts, HasSuffix, HasBehind, IsBase, star_suffix, parts_value};
+ghost use Rattle.param_grammar.specs.Names.{leads_with_zero as leads_with_zero_of, IsNumber, NameParts, HasNameParts, HasSuffix, HasAfter, IsBase, star_suffix, parts_value};
 
 use encoded_words::split_at_byte;
 use mail_wire::{are_digits, is_ascii};
@@ -71,12 +71,12 @@ fn read_suffix(suffix: &[u8]) -> Option<(Option<&[u8]>, bool)>
 }
 
 // The number of a piece and the mark of extended values, as they stand behind a name's base.
-fn read_behind(behind: Option<&[u8]>) -> Option<(Option<&[u8]>, bool)>
-    ensures found { IfSome result (λ x. HasBehind (option_copied behind.entry) (option_copied x.0) x.1) }
+fn read_after(following: Option<&[u8]>) -> Option<(Option<&[u8]>, bool)>
+    ensures found { IfSome result (λ x. HasAfter (option_copied following.entry) (option_copied x.0) x.1) }
     ensures none { IfNone result ((number : Option (List ℕ)) (is_extended : Bool)
-        → ¬ HasBehind (option_copied behind.entry) number is_extended) }
+        → ¬ HasAfter (option_copied following.entry) number is_extended) }
 {
-    match behind {
+    match following {
         Some(suffix) => read_suffix(suffix),
         None => Some((None, false)),
     }
@@ -94,11 +94,11 @@ pub fn read_name(name: &[u8]) -> Option<Name<'_>>
     ensures found { IfSome result (λ p. HasNameParts name.now (parts_value p)) }
     ensures none { IfNone result ((p : NameParts) → ¬ HasNameParts name.now p) }
 {
-    let (base, behind) = cut_name(name);
+    let (base, following) = cut_name(name);
     if !is_base(base) {
         return None;
     }
-    let Some((number, is_extended)) = read_behind(behind) else {
+    let Some((number, is_extended)) = read_after(following) else {
         return None;
     };
     Some(Name {

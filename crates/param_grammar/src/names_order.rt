@@ -96,8 +96,8 @@ pub(crate) fn run_of<'b>(named: Named<'_>, order: &'b [u32], number: u32) -> &'b
         (numbers_below (length named.entry.places.now)) }
 {
     let at = order.partition_point(|other| is_before(named, *other, number));
-    let (_, behind) = order.split_at(at);
-    let (run, _) = split_run(named, number, behind);
+    let (_, following) = order.split_at(at);
+    let (run, _) = split_run(named, number, following);
     run
 }
 

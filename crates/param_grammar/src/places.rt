@@ -88,10 +88,10 @@ fn split_parameter(text: &[u8], section: Tokens<'_>) -> Option<Sides>
     ensures found { IfSome result (λ sides. IsSides text.now (tokens_of section.entry) sides.name sides.value sides.is_quoted) }
     ensures none { IfNone result ((name : List ℕ) (value : List Token) → ¬ IsParameterOf text.now (solid_of (tokens_of section.entry)) name value) }
 {
-    let Some((atom, behind)) = next_solid(section) else {
+    let Some((atom, following)) = next_solid(section) else {
         return None;
     };
-    let Some((equals, value)) = next_solid(behind) else {
+    let Some((equals, value)) = next_solid(following) else {
         return None;
     };
     if !is_named(text, atom, equals) {
@@ -173,11 +173,11 @@ pub(crate) fn read_places(
     let mut places = Vec::new(alloc);
     let mut rest = tokens;
     while !rest.is_empty() {
-        let (section, behind) = split_section(text, rest);
+        let (section, following) = split_section(text, rest);
         if !push_place(alloc, text, section, &mut places)? {
             return Ok(None);
         }
-        rest = behind;
+        rest = following;
     }
     Ok(Some(places))
 }

@@ -151,11 +151,11 @@ fn roles_of(
     let mut roles = no_roles(alloc, named.places.len())?;
     let mut rest = order;
     while let Some((first, _)) = rest.split_first() {
-        let (run, behind) = split_run(named, *first, rest);
+        let (run, following) = split_run(named, *first, rest);
         if !set_roles(alloc, text, named, run, &mut roles)? {
             return Ok(None);
         }
-        rest = behind;
+        rest = following;
     }
     Ok(Some(roles))
 }

@@ -19,11 +19,11 @@ pub(crate) fn octets_of(text: &[u8], span: Span) -> &[u8]
     if span.at > text.len() {
         return &[];
     }
-    let (_, behind) = text.split_at(span.at);
-    if span.len > behind.len() {
-        return behind;
+    let (_, following) = text.split_at(span.at);
+    if span.len > following.len() {
+        return following;
     }
-    let (octets, _) = behind.split_at(span.len);
+    let (octets, _) = following.split_at(span.len);
     octets
 }
 
@@ -128,11 +128,11 @@ pub(crate) fn split_section<'a>(text: &[u8], tokens: Tokens<'a>) -> (Tokens<'a>,
     ensures { SplitsSection text.now (tokens_of tokens.entry) (tokens_of result.0) (tokens_of result.1) }
 {
     let mut rest = tokens;
-    while let Some((token, behind)) = rest.split_first() {
+    while let Some((token, following)) = rest.split_first() {
         if is_mark(text, b';', token) {
-            return (tokens.front(tokens.len() - rest.len()), behind);
+            return (tokens.front(tokens.len() - rest.len()), following);
         }
-        rest = behind;
+        rest = following;
     }
     (tokens, rest)
 }
@@ -144,11 +144,11 @@ pub fn next_solid(tokens: Tokens<'_>) -> Option<(Token, Tokens<'_>)>
     ensures none { IfNone result (solid_of (tokens_of tokens.entry) ≡ []) }
 {
     let mut rest = tokens;
-    while let Some((token, behind)) = rest.split_first() {
+    while let Some((token, following)) = rest.split_first() {
         if !is_blank(token.kind) {
-            return Some((token, behind));
+            return Some((token, following));
         }
-        rest = behind;
+        rest = following;
     }
     None
 }
@@ -173,11 +173,11 @@ pub(crate) fn first_solid(alloc: Global, tokens: Tokens<'_>) -> Result<Vec<Token
     let mut found = Vec::new(alloc);
     let mut rest = tokens;
     for _ in 0..FEW {
-        let Some((token, behind)) = next_solid(rest) else {
+        let Some((token, following)) = next_solid(rest) else {
             return Ok(found);
         };
         found.push(token)?;
-        rest = behind;
+        rest = following;
     }
     Ok(found)
 }
@@ -244,12 +244,12 @@ fn plain_span(text: &[u8], first: Token, others: Tokens<'_>) -> Option<Span>
     }
     let mut end = first.span.at + first.span.len;
     let mut rest = others;
-    while let Some((token, behind)) = next_solid(rest) {
+    while let Some((token, following)) = next_solid(rest) {
         if !goes_on(text, end, token) {
             return None;
         }
         end = token.span.at + token.span.len;
-        rest = behind;
+        rest = following;
     }
     Some(Span {
         at: first.span.at,

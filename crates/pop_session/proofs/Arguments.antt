@@ -31,7 +31,7 @@ top_numbers-no_space text found = rw (← found) refl
 top_numbers-space : (text front rest lines : List ℕ) (at : ℕ) → Some at ≡ position is_space text → front ≡ take at text → rest ≡ drop at text → lines ≡ drop 1 rest
     → both_numbers (number_of front) (number_of lines) ≡ top_numbers_of text
 unfolding top_numbers_of
-top_numbers-space text front rest lines at found before behind back = rw (← found, back, behind, before, drop-drop 1 at text) refl
+top_numbers-space text front rest lines at found before following back = rw (← found, back, following, before, drop-drop 1 at text) refl
 
 first-none : (a b : Option ℕ) → None ≡ capped a → None ≡ option_map saturated (both_numbers a b)
 first-none None b none = refl
@@ -50,17 +50,17 @@ both-some (Some x) (Some y) n m first second = cc
 -- before the space stands no number
 pub top_numbers-no_first : (text front rest lines : List ℕ) (at : ℕ) → Some at ≡ position is_space text → front ≡ take at text → rest ≡ drop at text → lines ≡ drop 1 rest
     → None ≡ capped (number_of front) → None ≡ option_map saturated (top_numbers_of text)
-top_numbers-no_first text front rest lines at found before behind back none =
-    rw (← top_numbers-space text front rest lines at found before behind back) (first-none (number_of front) (number_of lines) none)
+top_numbers-no_first text front rest lines at found before following back none =
+    rw (← top_numbers-space text front rest lines at found before following back) (first-none (number_of front) (number_of lines) none)
 
 -- behind the space stands no number
 pub top_numbers-no_second : (text front rest lines : List ℕ) (at : ℕ) → Some at ≡ position is_space text → front ≡ take at text → rest ≡ drop at text → lines ≡ drop 1 rest
     → None ≡ capped (number_of lines) → None ≡ option_map saturated (top_numbers_of text)
-top_numbers-no_second text front rest lines at found before behind back none =
-    rw (← top_numbers-space text front rest lines at found before behind back) (second-none (number_of front) (number_of lines) none)
+top_numbers-no_second text front rest lines at found before following back none =
+    rw (← top_numbers-space text front rest lines at found before following back) (second-none (number_of front) (number_of lines) none)
 
 -- there are two numbers
 pub top_numbers-both : (text front rest lines : List ℕ) (at n m : ℕ) → Some at ≡ position is_space text → front ≡ take at text → rest ≡ drop at text → lines ≡ drop 1 rest
     → Some n ≡ capped (number_of front) → Some m ≡ capped (number_of lines) → Some (record { number = n; lines = m }) ≡ option_map saturated (top_numbers_of text)
-top_numbers-both text front rest lines at n m found before behind back first second =
-    rw (← top_numbers-space text front rest lines at found before behind back) (both-some (number_of front) (number_of lines) n m first second)
+top_numbers-both text front rest lines at n m found before following back first second =
+    rw (← top_numbers-space text front rest lines at found before following back) (both-some (number_of front) (number_of lines) n m first second)

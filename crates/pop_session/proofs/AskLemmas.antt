@@ -20,7 +20,7 @@ use Rattle.surrogate_cache.proofs.ServedLemmas.{IsServed-by}
 use Rattle.session_core.specs.Around.{Around}
 use Rattle.session_core.specs.Doing.{Asks, AsksAndReplies, Replies, wanting}
 use Rattle.session_core.specs.Keeps.{Keeps}
-use Rattle.session_core.specs.Meanings.{Meanings, AreMeanings}
+use Rattle.session_core.specs.Oracles.{Oracles, AreOracles}
 use Rattle.session_core.proofs.AskingLemmas.{Asks-then, AsksAndReplies-of, AsksAndReplies-replies}
 use Rattle.session_core.proofs.KeepsLemmas.{Keeps-memory}
 use Rattle.pop_session.specs.declared.states.MaildropMessage.{MaildropMessage}
@@ -57,49 +57,49 @@ asks_all mode a b maildrop place past so_far = rw (take_all place maildrop past)
 -- ---- messages that are shown
 
 -- an enabled session is told the message as it is stored, and asks for none
-pub stored_asks : (meanings : Meanings) (mode : Mode) (a b : Around) (met : Option Fault) (number : ℕ) (one : Listed) → is_enabled mode ≡ true
+pub stored_asks : (oracles : Oracles) (mode : Mode) (a b : Around) (met : Option Fault) (number : ℕ) (one : Listed) → is_enabled mode ≡ true
     → Replies a b met (codes "+OK\r\n" ++ ended_lines (listed_octets a.desk.store one))
-    → AsksAndReplies a b met (asked_for mode a.desk.store one) (reply_octets meanings (retr_reply meanings mode a.desk.store number one))
-stored_asks meanings legacy a b met number one is replies = cc
-stored_asks meanings enabled a b met number one is replies =
-    AsksAndReplies-replies a b met _ (rw (retr_stored meanings enabled a.desk.store number one refl) at replies)
+    → AsksAndReplies a b met (asked_for mode a.desk.store one) (reply_octets oracles (retr_reply oracles mode a.desk.store number one))
+stored_asks oracles legacy a b met number one is replies = cc
+stored_asks oracles enabled a b met number one is replies =
+    AsksAndReplies-replies a b met _ (rw (retr_stored oracles enabled a.desk.store number one refl) at replies)
 
 -- a session is told so many octets of what it is shown of a message
-gives_shown : (meanings : Meanings) (mode : Mode) (a b c : Around) (met : Option Fault) (one : Listed) (shown : List ℕ) (len want : ℕ) → Asks a b None (asked_for mode a.desk.store one)
-    → shown ≡ served_by meanings.surrogate mode (listed_octets a.desk.store one) → len ≡ want → Replies b c met (codes "+OK\r\n" ++ ended_lines (take len shown))
-    → AsksAndReplies a c met (asked_for mode a.desk.store one) (codes "+OK\r\n" ++ ended_lines (take want (served_by meanings.surrogate mode (listed_octets a.desk.store one))))
-gives_shown meanings mode a b c met one shown len want asks served same replies =
+gives_shown : (oracles : Oracles) (mode : Mode) (a b c : Around) (met : Option Fault) (one : Listed) (shown : List ℕ) (len want : ℕ) → Asks a b None (asked_for mode a.desk.store one)
+    → shown ≡ served_by oracles.surrogate mode (listed_octets a.desk.store one) → len ≡ want → Replies b c met (codes "+OK\r\n" ++ ended_lines (take len shown))
+    → AsksAndReplies a c met (asked_for mode a.desk.store one) (codes "+OK\r\n" ++ ended_lines (take want (served_by oracles.surrogate mode (listed_octets a.desk.store one))))
+gives_shown oracles mode a b c met one shown len want asks served same replies =
     AsksAndReplies-of a b c met (asked_for mode a.desk.store one) _ asks
-    (subst (λ (n : ℕ). Replies b c met (codes "+OK\r\n" ++ ended_lines (take n (served_by meanings.surrogate mode (listed_octets a.desk.store one))))) same
+    (subst (λ (n : ℕ). Replies b c met (codes "+OK\r\n" ++ ended_lines (take n (served_by oracles.surrogate mode (listed_octets a.desk.store one))))) same
     (subst (λ (octets : List ℕ). Replies b c met (codes "+OK\r\n" ++ ended_lines (take len octets))) served replies))
 
 -- what it is shown, where the store is as it was
-shown_is : (meanings : Meanings) → AreMeanings meanings → (mode : Mode) (a b : Around) (one : Listed) (octets : List ℕ) (shown : Shown) → Asks a b None (asked_for mode a.desk.store one)
+shown_is : (oracles : Oracles) → AreOracles oracles → (mode : Mode) (a b : Around) (one : Listed) (octets : List ℕ) (shown : Shown) → Asks a b None (asked_for mode a.desk.store one)
     → IsServed mode (listed_octets a.desk.store one) (shown_octets (listed_octets a.desk.store one) shown) → octets ≡ listed_octets b.desk.store one
-    → shown_octets octets shown ≡ served_by meanings.surrogate mode (listed_octets a.desk.store one)
-shown_is meanings are mode a b one octets shown asks served is =
+    → shown_octets octets shown ≡ served_by oracles.surrogate mode (listed_octets a.desk.store one)
+shown_is oracles are mode a b one octets shown asks served is =
     ap (λ (msg : List ℕ). shown_octets msg shown) is ∙ ap (λ (store : StoreState). shown_octets (listed_octets store one) shown) asks.store
-    ∙ IsServed-by meanings.surrogate are.surrogates mode (listed_octets a.desk.store one) (shown_octets (listed_octets a.desk.store one) shown) served
+    ∙ IsServed-by oracles.surrogate are.surrogates mode (listed_octets a.desk.store one) (shown_octets (listed_octets a.desk.store one) shown) served
 
 -- RETR
-pub retr_shown : (meanings : Meanings) → AreMeanings meanings → (mode : Mode) (a b c : Around) (met : Option Fault) (one : Listed) (octets : List ℕ) (shown : Shown) (len : ℕ)
+pub retr_shown : (oracles : Oracles) → AreOracles oracles → (mode : Mode) (a b c : Around) (met : Option Fault) (one : Listed) (octets : List ℕ) (shown : Shown) (len : ℕ)
     → Asks a b None (asked_for mode a.desk.store one) → IsServed mode (listed_octets a.desk.store one) (shown_octets (listed_octets a.desk.store one) shown) → octets ≡ listed_octets b.desk.store one
     → len ≡ length (shown_octets octets shown) → Replies b c met (codes "+OK\r\n" ++ ended_lines (take len (shown_octets (listed_octets b.desk.store one) shown)))
-    → AsksAndReplies a c met (asked_for mode a.desk.store one) (reply_octets meanings (retr_reply meanings mode a.desk.store 0 one))
-retr_shown meanings are mode a b c met one octets shown len asks served is size replies =
-    gives_shown meanings mode a b c met one (shown_octets (listed_octets b.desk.store one) shown) len (size_of meanings mode a.desk.store one) asks
-    (shown_is meanings are mode a b one (listed_octets b.desk.store one) shown asks served refl)
-    (size ∙ ap (λ (l : List ℕ). length l) (shown_is meanings are mode a b one octets shown asks served is)) replies
+    → AsksAndReplies a c met (asked_for mode a.desk.store one) (reply_octets oracles (retr_reply oracles mode a.desk.store 0 one))
+retr_shown oracles are mode a b c met one octets shown len asks served is size replies =
+    gives_shown oracles mode a b c met one (shown_octets (listed_octets b.desk.store one) shown) len (size_of oracles mode a.desk.store one) asks
+    (shown_is oracles are mode a b one (listed_octets b.desk.store one) shown asks served refl)
+    (size ∙ ap (λ (l : List ℕ). length l) (shown_is oracles are mode a b one octets shown asks served is)) replies
 
 -- TOP
-pub top_shown : (meanings : Meanings) → AreMeanings meanings → (mode : Mode) (a b c : Around) (met : Option Fault) (one : Listed) (octets : List ℕ) (shown : Shown) (len lines : ℕ)
+pub top_shown : (oracles : Oracles) → AreOracles oracles → (mode : Mode) (a b c : Around) (met : Option Fault) (one : Listed) (octets : List ℕ) (shown : Shown) (len lines : ℕ)
     → Asks a b None (asked_for mode a.desk.store one) → IsServed mode (listed_octets a.desk.store one) (shown_octets (listed_octets a.desk.store one) shown) → octets ≡ listed_octets b.desk.store one
     → len ≡ top_length lines (shown_octets octets shown) → Replies b c met (codes "+OK\r\n" ++ ended_lines (take len (shown_octets (listed_octets b.desk.store one) shown)))
-    → AsksAndReplies a c met (asked_for mode a.desk.store one) (reply_octets meanings (top_reply meanings mode a.desk.store lines 0 one))
-top_shown meanings are mode a b c met one octets shown len lines asks served is size replies =
-    gives_shown meanings mode a b c met one (shown_octets (listed_octets b.desk.store one) shown) len (top_length lines (served_by meanings.surrogate mode (listed_octets a.desk.store one))) asks
-    (shown_is meanings are mode a b one (listed_octets b.desk.store one) shown asks served refl)
-    (size ∙ ap (λ (l : List ℕ). top_length lines l) (shown_is meanings are mode a b one octets shown asks served is)) replies
+    → AsksAndReplies a c met (asked_for mode a.desk.store one) (reply_octets oracles (top_reply oracles mode a.desk.store lines 0 one))
+top_shown oracles are mode a b c met one octets shown len lines asks served is size replies =
+    gives_shown oracles mode a b c met one (shown_octets (listed_octets b.desk.store one) shown) len (top_length lines (served_by oracles.surrogate mode (listed_octets a.desk.store one))) asks
+    (shown_is oracles are mode a b one (listed_octets b.desk.store one) shown asks served refl)
+    (size ∙ ap (λ (l : List ℕ). top_length lines l) (shown_is oracles are mode a b one octets shown asks served is)) replies
 
 -- ---- a text that is made of messages
 

@@ -13,8 +13,8 @@ use Rattle.surrogate_cache.specs.Served.{Mode, legacy, enabled}
 use Rattle.session_core.specs.Acts.{Act, acts_of, asked_in, asking}
 use Rattle.session_core.specs.Desks.{stored_octets}
 use Rattle.session_core.specs.Grammar.{turn_by, turn_in}
-use Rattle.session_core.specs.Meanings.{Meanings}
-use Rattle.session_core.specs.Turns.{Turn, stay, behind, turns}
+use Rattle.session_core.specs.Oracles.{Oracles}
+use Rattle.session_core.specs.Turns.{Turn, stay, following, turns}
 use Rattle.session_core.proofs.DoneLemmas.{asked_in-acts, asked_in-append, asked_in-asking}
 use Rattle.session_core.proofs.TurnsLemmas.{turns-stop}
 use Rattle.pop_session.specs.declared.command.Keyword.{Keyword}
@@ -184,33 +184,33 @@ top_refused mode store row told maildrop None minus = refl
 top_refused mode store row told maildrop (Some numbers) minus =
     found_refused mode store (row numbers.lines) (told numbers.lines) numbers.number (listed_at maildrop numbers.number) minus
 
-row_refused : (meanings : Meanings) (mode : Mode) (maildrop : List MaildropMessage) (store : StoreState) (word : Keyword) (argument : Option (List ℕ))
-    → first_octet (transaction_step meanings mode maildrop store word argument).reply ≡ 45 → transaction_asks mode maildrop store word argument ≡ []
-row_refused meanings mode maildrop store keyword.Capa argument minus = refl
-row_refused meanings mode maildrop store keyword.Utf8 argument minus = refl
-row_refused meanings mode maildrop store keyword.User argument minus = refl
-row_refused meanings mode maildrop store keyword.Pass argument minus = refl
-row_refused meanings mode maildrop store keyword.Quit argument minus = refl
-row_refused meanings mode maildrop store keyword.Stat None minus = begins_otherwise 43 refl minus
-row_refused meanings mode maildrop store keyword.Stat (Some text) minus = refl
-row_refused meanings mode maildrop store keyword.List None minus = begins_otherwise 43 refl minus
-row_refused meanings mode maildrop store keyword.List (Some text) minus =
-    number_refused mode store (listing_one_reply (size_of meanings mode store)) (λ number one. refl) maildrop (number_of text) minus
-row_refused meanings mode maildrop store keyword.Uidl argument minus = refl
-row_refused meanings mode maildrop store keyword.Retr None minus = refl
-row_refused meanings mode maildrop store keyword.Retr (Some text) minus = number_refused mode store (retr_reply meanings mode store) (λ number one. refl) maildrop (number_of text) minus
-row_refused meanings mode maildrop store keyword.Top None minus = refl
-row_refused meanings mode maildrop store keyword.Top (Some text) minus = top_refused mode store (top_reply meanings mode store) (λ lines number one. refl) maildrop (top_numbers_of text) minus
-row_refused meanings mode maildrop store keyword.Dele argument minus = refl
-row_refused meanings mode maildrop store keyword.Rset argument minus = refl
-row_refused meanings mode maildrop store keyword.Noop argument minus = refl
-row_refused meanings mode maildrop store keyword.Other argument minus = refl
+row_refused : (oracles : Oracles) (mode : Mode) (maildrop : List MaildropMessage) (store : StoreState) (word : Keyword) (argument : Option (List ℕ))
+    → first_octet (transaction_step oracles mode maildrop store word argument).reply ≡ 45 → transaction_asks mode maildrop store word argument ≡ []
+row_refused oracles mode maildrop store keyword.Capa argument minus = refl
+row_refused oracles mode maildrop store keyword.Utf8 argument minus = refl
+row_refused oracles mode maildrop store keyword.User argument minus = refl
+row_refused oracles mode maildrop store keyword.Pass argument minus = refl
+row_refused oracles mode maildrop store keyword.Quit argument minus = refl
+row_refused oracles mode maildrop store keyword.Stat None minus = begins_otherwise 43 refl minus
+row_refused oracles mode maildrop store keyword.Stat (Some text) minus = refl
+row_refused oracles mode maildrop store keyword.List None minus = begins_otherwise 43 refl minus
+row_refused oracles mode maildrop store keyword.List (Some text) minus =
+    number_refused mode store (listing_one_reply (size_of oracles mode store)) (λ number one. refl) maildrop (number_of text) minus
+row_refused oracles mode maildrop store keyword.Uidl argument minus = refl
+row_refused oracles mode maildrop store keyword.Retr None minus = refl
+row_refused oracles mode maildrop store keyword.Retr (Some text) minus = number_refused mode store (retr_reply oracles mode store) (λ number one. refl) maildrop (number_of text) minus
+row_refused oracles mode maildrop store keyword.Top None minus = refl
+row_refused oracles mode maildrop store keyword.Top (Some text) minus = top_refused mode store (top_reply oracles mode store) (λ lines number one. refl) maildrop (top_numbers_of text) minus
+row_refused oracles mode maildrop store keyword.Dele argument minus = refl
+row_refused oracles mode maildrop store keyword.Rset argument minus = refl
+row_refused oracles mode maildrop store keyword.Noop argument minus = refl
+row_refused oracles mode maildrop store keyword.Other argument minus = refl
 
-pub refused_asked : (meanings : Meanings) (state : State) (store : StoreState) (command : Command) → IsRefused (step meanings state store command).reply → asked_of state store command ≡ []
+pub refused_asked : (oracles : Oracles) (state : State) (store : StoreState) (command : Command) → IsRefused (step oracles state store command).reply → asked_of state store command ≡ []
 unfolding asked_of step
-refused_asked meanings (authorization mode user) store command refused = refl
-refused_asked meanings (transaction mode maildrop) store command refused = row_refused meanings mode maildrop store command.keyword command.argument (ap first_octet refused.1)
-refused_asked meanings ended store command refused = refl
+refused_asked oracles (authorization mode user) store command refused = refl
+refused_asked oracles (transaction mode maildrop) store command refused = row_refused oracles mode maildrop store command.keyword command.argument (ap first_octet refused.1)
+refused_asked oracles ended store command refused = refl
 
 -- ---- an enabled session
 
@@ -259,50 +259,50 @@ enabled_asked ended store command is = refl
 -- ---- a stream
 
 -- after the end nothing is asked for
-ended_asked : (meanings : Meanings) (store : StoreState) (commands : List Command) → asked_by_commands meanings (at_end store) commands ≡ []
+ended_asked : (oracles : Oracles) (store : StoreState) (commands : List Command) → asked_by_commands oracles (at_end store) commands ≡ []
 unfolding asked_of step
-ended_asked meanings store [] = refl
-ended_asked meanings store (command ∷ commands) = ended_asked meanings store commands
+ended_asked oracles store [] = refl
+ended_asked oracles store (command ∷ commands) = ended_asked oracles store commands
 
 -- what these turns ask for
-abbrev pub asked_by_turns : Meanings → ℕ → Machine → List ℕ → List Asked
-asked_by_turns meanings n machine octets = asked_in (turns (pop_protocol.next meanings) n machine octets).parts
+abbrev pub asked_by_turns : Oracles → ℕ → Machine → List ℕ → List Asked
+asked_by_turns oracles n machine octets = asked_in (turns (pop_protocol.next oracles) n machine octets).parts
 
 -- what this turn and so many more ask for
-abbrev pub asked_behind : Meanings → ℕ → Machine → List ℕ → Option (Turn Machine (Act ReplyPart)) → List Asked
-asked_behind meanings n machine octets first =
-    asked_in (option_map_or (λ turn. behind turn.parts (turns (pop_protocol.next meanings) n turn.after turn.rest)) first (stay machine octets)).parts
+abbrev pub asked_after : Oracles → ℕ → Machine → List ℕ → Option (Turn Machine (Act ReplyPart)) → List Asked
+asked_after oracles n machine octets first =
+    asked_in (option_map_or (λ turn. following turn.parts (turns (pop_protocol.next oracles) n turn.after turn.rest)) first (stay machine octets)).parts
 
 -- each stream asks for what so many of its commands do
-abbrev AsksSo : Meanings → ℕ → Type 0
-AsksSo meanings n = (machine : Machine) (octets : List ℕ) → asked_by_turns meanings n machine octets ≡ asked_by_commands meanings machine (commands_up_to n octets)
+abbrev AsksSo : Oracles → ℕ → Type 0
+AsksSo oracles n = (machine : Machine) (octets : List ℕ) → asked_by_turns oracles n machine octets ≡ asked_by_commands oracles machine (commands_up_to n octets)
 
-framed_asked : (meanings : Meanings) (n : ℕ) (machine : Machine) (octets : List ℕ) (framed : Framed) → AsksSo meanings n
-    → asked_behind meanings n machine octets (turn_by pop_grammar meanings machine framed) ≡ asked_by_commands meanings machine (commands_by (commands_up_to n) framed)
-framed_asked meanings n machine octets waiting more = refl
-framed_asked meanings n machine octets (whole text rest) more =
+framed_asked : (oracles : Oracles) (n : ℕ) (machine : Machine) (octets : List ℕ) (framed : Framed) → AsksSo oracles n
+    → asked_after oracles n machine octets (turn_by pop_grammar oracles machine framed) ≡ asked_by_commands oracles machine (commands_by (commands_up_to n) framed)
+framed_asked oracles n machine octets waiting more = refl
+framed_asked oracles n machine octets (whole text rest) more =
     let asked = asked_of machine.state machine.store (command_of text) in
-    let taken = step meanings machine.state machine.store (command_of text) in
-    let next = after_command meanings machine (command_of text) in
-    let later = turns (pop_protocol.next meanings) n next rest in
+    let taken = step oracles machine.state machine.store (command_of text) in
+    let next = after_command oracles machine (command_of text) in
+    let later = turns (pop_protocol.next oracles) n next rest in
     asked_in-append (asking asked (acts_of taken.changes taken.reply)) later.parts
     ∙ ap (λ (l : List Asked). l ++ asked_in later.parts) (asked_in-asking asked (acts_of taken.changes taken.reply) ∙ ap (λ (l : List Asked). asked ++ l) (asked_in-acts taken.changes taken.reply) ∙ append-nil asked)
     ∙ ap (λ (l : List Asked). asked ++ l) (more next rest)
-framed_asked meanings n machine octets (too_long rest) more =
-    ap (λ (t : Turn Machine (Act ReplyPart)). asked_in (acts_of [] line_too_long ++ t.parts)) (turns-stop (pop_protocol.next meanings) n (at_end machine.store) rest refl)
+framed_asked oracles n machine octets (too_long rest) more =
+    ap (λ (t : Turn Machine (Act ReplyPart)). asked_in (acts_of [] line_too_long ++ t.parts)) (turns-stop (pop_protocol.next oracles) n (at_end machine.store) rest refl)
 
-state_asked : (meanings : Meanings) (n : ℕ) (state : State) (machine : Machine) (octets : List ℕ) → machine.state ≡ state → AsksSo meanings n
-    → asked_behind meanings n machine octets (turn_in pop_grammar meanings machine (wants_in state) octets) ≡ asked_by_commands meanings machine (commands_by (commands_up_to n) (next_line octets))
-state_asked meanings n (authorization mode user) machine octets is more = framed_asked meanings n machine octets (next_line octets) more
-state_asked meanings n (transaction mode maildrop) machine octets is more = framed_asked meanings n machine octets (next_line octets) more
-state_asked meanings n ended machine octets is more =
+state_asked : (oracles : Oracles) (n : ℕ) (state : State) (machine : Machine) (octets : List ℕ) → machine.state ≡ state → AsksSo oracles n
+    → asked_after oracles n machine octets (turn_in pop_grammar oracles machine (wants_in state) octets) ≡ asked_by_commands oracles machine (commands_by (commands_up_to n) (next_line octets))
+state_asked oracles n (authorization mode user) machine octets is more = framed_asked oracles n machine octets (next_line octets) more
+state_asked oracles n (transaction mode maildrop) machine octets is more = framed_asked oracles n machine octets (next_line octets) more
+state_asked oracles n ended machine octets is more =
     let commands = commands_by (commands_up_to n) (next_line octets) in
-    sym (ap (λ (m : Machine). asked_by_commands meanings m commands) (machine_ends machine is) ∙ ended_asked meanings machine.store commands)
+    sym (ap (λ (m : Machine). asked_by_commands oracles m commands) (machine_ends machine is) ∙ ended_asked oracles machine.store commands)
 
-turns_asked : (meanings : Meanings) (n : ℕ) → AsksSo meanings n
+turns_asked : (oracles : Oracles) (n : ℕ) → AsksSo oracles n
 unfolding turns commands_up_to
-turns_asked meanings zero machine octets = refl
-turns_asked meanings (suc n) machine octets = state_asked meanings n machine.state machine octets refl (turns_asked meanings n)
+turns_asked oracles zero machine octets = refl
+turns_asked oracles (suc n) machine octets = state_asked oracles n machine.state machine octets refl (turns_asked oracles n)
 
-pub stream_asked : (meanings : Meanings) (machine : Machine) (octets : List ℕ) → asked_in (turns_of meanings machine octets).parts ≡ asked_by_commands meanings machine (commands_in octets)
-stream_asked meanings machine octets = turns_asked meanings _ machine octets
+pub stream_asked : (oracles : Oracles) (machine : Machine) (octets : List ℕ) → asked_in (turns_of oracles machine octets).parts ≡ asked_by_commands oracles machine (commands_in octets)
+stream_asked oracles machine octets = turns_asked oracles _ machine octets

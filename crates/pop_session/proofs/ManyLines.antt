@@ -20,8 +20,8 @@ put x (line ∷ lines) have = (omega arith, have.1)
 
 more : (x y : ℕ) (rest : List ℕ) → HaveOctets (lines_of rest) → HaveOctets (lines_of (y ∷ rest)) → (b : Bool) → is_crlf x y ≡ b → HaveOctets (lines_of (x ∷ y ∷ rest))
 unfolding lines_of
-more x y rest behind later true is = rw is (omega arith, behind)
-more x y rest behind later false is = rw is (put x (lines_of (y ∷ rest)) later)
+more x y rest following later true is = rw is (omega arith, following)
+more x y rest following later false is = rw is (put x (lines_of (y ∷ rest)) later)
 
 have_octets : (octets : List ℕ) → HaveOctets (lines_of octets)
 unfolding lines_of

@@ -7,7 +7,7 @@ use Rattle.kept_mail.specs.declared.kept.Listed.{Listed}
 use Rattle.kept_mail.specs.Kept.{change_at, logged_in}
 use Rattle.mail_store.specs.StoreState.{StoreState}
 use Rattle.surrogate_cache.specs.Served.{Mode}
-use Rattle.session_core.specs.Meanings.{Meanings}
+use Rattle.session_core.specs.Oracles.{Oracles}
 use Rattle.pop_session.specs.declared.command.Keyword.{Keyword}
 use Rattle.pop_session.specs.declared.command.Keyword.TheVariants as keyword
 use Rattle.pop_session.specs.declared.states.MaildropMessage.{MaildropMessage}
@@ -65,42 +65,42 @@ number_marked : (mode : Mode) (listing : List Listed) (marks : List ℕ) (number
 number_marked mode listing marks None = (refl, refl)
 number_marked mode listing marks (Some number) = found_marked mode listing marks number (listed_at (with_marks 1 marks listing) number) refl
 
-row_marked : (meanings : Meanings) (mode : Mode) (listing : List Listed) (marks : List ℕ) (store : StoreState) (word : Keyword) (argument : Option (List ℕ))
-    → IsMarked mode listing (marks_by listing marks word argument) (transaction_step meanings mode (with_marks 1 marks listing) store word argument).state
-row_marked meanings mode listing marks store keyword.Dele None = (refl, refl)
-row_marked meanings mode listing marks store keyword.Dele (Some text) = number_marked mode listing marks (number_of text)
-row_marked meanings mode listing marks store keyword.Rset None = (refl, unmarked_all 1 marks listing)
-row_marked meanings mode listing marks store keyword.Rset (Some text) = (refl, refl)
-row_marked meanings mode listing marks store keyword.Quit None = tt
-row_marked meanings mode listing marks store keyword.Quit (Some text) = (refl, refl)
-row_marked meanings mode listing marks store keyword.User argument = (refl, refl)
-row_marked meanings mode listing marks store keyword.Pass argument = (refl, refl)
-row_marked meanings mode listing marks store keyword.Utf8 argument = (refl, refl)
-row_marked meanings mode listing marks store keyword.Stat argument = (refl, refl)
-row_marked meanings mode listing marks store keyword.List argument = (refl, refl)
-row_marked meanings mode listing marks store keyword.Retr argument = (refl, refl)
-row_marked meanings mode listing marks store keyword.Capa argument = (refl, refl)
-row_marked meanings mode listing marks store keyword.Uidl argument = (refl, refl)
-row_marked meanings mode listing marks store keyword.Top argument = (refl, refl)
-row_marked meanings mode listing marks store keyword.Noop argument = (refl, refl)
-row_marked meanings mode listing marks store keyword.Other argument = (refl, refl)
+row_marked : (oracles : Oracles) (mode : Mode) (listing : List Listed) (marks : List ℕ) (store : StoreState) (word : Keyword) (argument : Option (List ℕ))
+    → IsMarked mode listing (marks_by listing marks word argument) (transaction_step oracles mode (with_marks 1 marks listing) store word argument).state
+row_marked oracles mode listing marks store keyword.Dele None = (refl, refl)
+row_marked oracles mode listing marks store keyword.Dele (Some text) = number_marked mode listing marks (number_of text)
+row_marked oracles mode listing marks store keyword.Rset None = (refl, unmarked_all 1 marks listing)
+row_marked oracles mode listing marks store keyword.Rset (Some text) = (refl, refl)
+row_marked oracles mode listing marks store keyword.Quit None = tt
+row_marked oracles mode listing marks store keyword.Quit (Some text) = (refl, refl)
+row_marked oracles mode listing marks store keyword.User argument = (refl, refl)
+row_marked oracles mode listing marks store keyword.Pass argument = (refl, refl)
+row_marked oracles mode listing marks store keyword.Utf8 argument = (refl, refl)
+row_marked oracles mode listing marks store keyword.Stat argument = (refl, refl)
+row_marked oracles mode listing marks store keyword.List argument = (refl, refl)
+row_marked oracles mode listing marks store keyword.Retr argument = (refl, refl)
+row_marked oracles mode listing marks store keyword.Capa argument = (refl, refl)
+row_marked oracles mode listing marks store keyword.Uidl argument = (refl, refl)
+row_marked oracles mode listing marks store keyword.Top argument = (refl, refl)
+row_marked oracles mode listing marks store keyword.Noop argument = (refl, refl)
+row_marked oracles mode listing marks store keyword.Other argument = (refl, refl)
 
-step_marked : (meanings : Meanings) (mode : Mode) (listing : List Listed) (marks : List ℕ) (state : State) (store : StoreState) (command : Command) → IsMarked mode listing marks state
-    → IsMarked mode listing (marks_by listing marks command.keyword command.argument) (step meanings state store command).state
+step_marked : (oracles : Oracles) (mode : Mode) (listing : List Listed) (marks : List ℕ) (state : State) (store : StoreState) (command : Command) → IsMarked mode listing marks state
+    → IsMarked mode listing (marks_by listing marks command.keyword command.argument) (step oracles state store command).state
 unfolding step
-step_marked meanings mode listing marks (authorization is user) store command marked_so = absurd marked_so
-step_marked meanings mode listing marks (transaction is maildrop) store command marked_so =
-    rw (marked_so.0, marked_so.1) (row_marked meanings mode listing marks store command.keyword command.argument)
-step_marked meanings mode listing marks ended store command marked_so = tt
+step_marked oracles mode listing marks (authorization is user) store command marked_so = absurd marked_so
+step_marked oracles mode listing marks (transaction is maildrop) store command marked_so =
+    rw (marked_so.0, marked_so.1) (row_marked oracles mode listing marks store command.keyword command.argument)
+step_marked oracles mode listing marks ended store command marked_so = tt
 
 -- ---- several commands
 
-pub commands_marked : (meanings : Meanings) (mode : Mode) (listing : List Listed) (marks : List ℕ) (machine : Machine) (commands : List Command) → IsMarked mode listing marks machine.state
-    → IsMarked mode listing (marks_after listing marks commands) (after_commands meanings machine commands).state
-commands_marked meanings mode listing marks machine [] is = is
-commands_marked meanings mode listing marks machine (command ∷ commands) is =
-    commands_marked meanings mode listing (marks_by listing marks command.keyword command.argument) (after_command meanings machine command) commands
-    (step_marked meanings mode listing marks machine.state machine.store command is)
+pub commands_marked : (oracles : Oracles) (mode : Mode) (listing : List Listed) (marks : List ℕ) (machine : Machine) (commands : List Command) → IsMarked mode listing marks machine.state
+    → IsMarked mode listing (marks_after listing marks commands) (after_commands oracles machine commands).state
+commands_marked oracles mode listing marks machine [] is = is
+commands_marked oracles mode listing marks machine (command ∷ commands) is =
+    commands_marked oracles mode listing (marks_by listing marks command.keyword command.argument) (after_command oracles machine command) commands
+    (step_marked oracles mode listing marks machine.state machine.store command is)
 
 -- ---- the login
 
@@ -116,36 +116,36 @@ pass_login mode is store None maildrop same = cc
 pass_login mode is store (Some account) maildrop same =
     (account, sym (same_maildrop mode is _ maildrop same) ∙ login_unmarked 1 (inbox_messages store.kept account))
 
-row_login : (meanings : Meanings) (mode is : Mode) (user : Option (List ℕ)) (store : StoreState) (word : Keyword) (argument : Option (List ℕ)) (maildrop : List MaildropMessage)
-    → (authorization_step meanings mode user store word argument).state ≡ transaction is maildrop → IsLogin store maildrop
-row_login meanings mode is user store keyword.Stat argument maildrop same = cc
-row_login meanings mode is user store keyword.List argument maildrop same = cc
-row_login meanings mode is user store keyword.Uidl argument maildrop same = cc
-row_login meanings mode is user store keyword.Retr argument maildrop same = cc
-row_login meanings mode is user store keyword.Top argument maildrop same = cc
-row_login meanings mode is user store keyword.Dele argument maildrop same = cc
-row_login meanings mode is user store keyword.Rset argument maildrop same = cc
-row_login meanings mode is user store keyword.Noop argument maildrop same = cc
-row_login meanings mode is user store keyword.Other argument maildrop same = cc
-row_login meanings mode is user store keyword.Capa None maildrop same = cc
-row_login meanings mode is user store keyword.Capa (Some text) maildrop same = cc
-row_login meanings mode is user store keyword.Utf8 None maildrop same = cc
-row_login meanings mode is user store keyword.Utf8 (Some text) maildrop same = cc
-row_login meanings mode is user store keyword.User None maildrop same = cc
-row_login meanings mode is user store keyword.User (Some []) maildrop same = cc
-row_login meanings mode is user store keyword.User (Some (x ∷ name)) maildrop same = cc
-row_login meanings mode is None store keyword.Pass None maildrop same = cc
-row_login meanings mode is (Some name) store keyword.Pass None maildrop same = cc
-row_login meanings mode is None store keyword.Pass (Some password) maildrop same = cc
-row_login meanings mode is (Some name) store keyword.Pass (Some password) maildrop same =
-    pass_login mode is store (logged_in meanings.path_of store.kept name password) maildrop same
-row_login meanings mode is user store keyword.Quit None maildrop same = cc
-row_login meanings mode is user store keyword.Quit (Some text) maildrop same = cc
+row_login : (oracles : Oracles) (mode is : Mode) (user : Option (List ℕ)) (store : StoreState) (word : Keyword) (argument : Option (List ℕ)) (maildrop : List MaildropMessage)
+    → (authorization_step oracles mode user store word argument).state ≡ transaction is maildrop → IsLogin store maildrop
+row_login oracles mode is user store keyword.Stat argument maildrop same = cc
+row_login oracles mode is user store keyword.List argument maildrop same = cc
+row_login oracles mode is user store keyword.Uidl argument maildrop same = cc
+row_login oracles mode is user store keyword.Retr argument maildrop same = cc
+row_login oracles mode is user store keyword.Top argument maildrop same = cc
+row_login oracles mode is user store keyword.Dele argument maildrop same = cc
+row_login oracles mode is user store keyword.Rset argument maildrop same = cc
+row_login oracles mode is user store keyword.Noop argument maildrop same = cc
+row_login oracles mode is user store keyword.Other argument maildrop same = cc
+row_login oracles mode is user store keyword.Capa None maildrop same = cc
+row_login oracles mode is user store keyword.Capa (Some text) maildrop same = cc
+row_login oracles mode is user store keyword.Utf8 None maildrop same = cc
+row_login oracles mode is user store keyword.Utf8 (Some text) maildrop same = cc
+row_login oracles mode is user store keyword.User None maildrop same = cc
+row_login oracles mode is user store keyword.User (Some []) maildrop same = cc
+row_login oracles mode is user store keyword.User (Some (x ∷ name)) maildrop same = cc
+row_login oracles mode is None store keyword.Pass None maildrop same = cc
+row_login oracles mode is (Some name) store keyword.Pass None maildrop same = cc
+row_login oracles mode is None store keyword.Pass (Some password) maildrop same = cc
+row_login oracles mode is (Some name) store keyword.Pass (Some password) maildrop same =
+    pass_login mode is store (logged_in oracles.path_of store.kept name password) maildrop same
+row_login oracles mode is user store keyword.Quit None maildrop same = cc
+row_login oracles mode is user store keyword.Quit (Some text) maildrop same = cc
 
-pub step_login : (meanings : Meanings) (mode is : Mode) (user : Option (List ℕ)) (store : StoreState) (command : Command) (maildrop : List MaildropMessage)
-    → (step meanings (authorization mode user) store command).state ≡ transaction is maildrop → IsLogin store maildrop
+pub step_login : (oracles : Oracles) (mode is : Mode) (user : Option (List ℕ)) (store : StoreState) (command : Command) (maildrop : List MaildropMessage)
+    → (step oracles (authorization mode user) store command).state ≡ transaction is maildrop → IsLogin store maildrop
 unfolding step
-step_login meanings mode is user store command maildrop same = row_login meanings mode is user store command.keyword command.argument maildrop same
+step_login oracles mode is user store command maildrop same = row_login oracles mode is user store command.keyword command.argument maildrop same
 
 -- ---- DELE and QUIT
 
@@ -158,12 +158,12 @@ found_answered mode maildrop marks number None = (λ same. absurd (refused_not_d
 found_answered mode maildrop marks number (Some one) = (λ same. refl, λ is. refl)
 
 -- DELE marks a message where it is answered +OK
-pub dele_answered : (meanings : Meanings) (mode : Mode) (listing : List Listed) (marks : List ℕ) (store : StoreState) (text : List ℕ) (number : ℕ) → number_of text ≡ Some number
-    → ((transaction_step meanings mode (with_marks 1 marks listing) store keyword.Dele (Some text)).reply ≡ done) ↔ (marks_by listing marks keyword.Dele (Some text) ≡ number ∷ marks)
-dele_answered meanings mode listing marks store text number is =
+pub dele_answered : (oracles : Oracles) (mode : Mode) (listing : List Listed) (marks : List ℕ) (store : StoreState) (text : List ℕ) (number : ℕ) → number_of text ≡ Some number
+    → ((transaction_step oracles mode (with_marks 1 marks listing) store keyword.Dele (Some text)).reply ≡ done) ↔ (marks_by listing marks keyword.Dele (Some text) ≡ number ∷ marks)
+dele_answered oracles mode listing marks store text number is =
     rw is (found_answered mode (with_marks 1 marks listing) marks number (listed_at (with_marks 1 marks listing) number))
 
-pub quit_is : (meanings : Meanings) (mode : Mode) (listing : List Listed) (marks : List ℕ) (store : StoreState) (command : Command)
-    → let state = transaction mode (with_marks 1 marks listing) in IsQuit state command → step meanings state store command ≡ quit_step (with_marks 1 marks listing)
+pub quit_is : (oracles : Oracles) (mode : Mode) (listing : List Listed) (marks : List ℕ) (store : StoreState) (command : Command)
+    → let state = transaction mode (with_marks 1 marks listing) in IsQuit state command → step oracles state store command ≡ quit_step (with_marks 1 marks listing)
 unfolding step
-quit_is meanings mode listing marks store command is = rw (is.0, is.1) refl
+quit_is oracles mode listing marks store command is = rw (is.0, is.1) refl

@@ -3,7 +3,7 @@ use Rattle.std.proofs.Common.{◌≡◌, ◌≢◌, ℕ, zero, suc, List, [], �
 use Rattle.std.specs.Prelude.{◌||◌, ◌↔◌, IsTrue}
 use Rattle.std.specs.Option.{option_map_or}
 use Rattle.mail_wire.specs.Framing.{Framed, waiting, whole, too_long, next_line}
-use Rattle.session_core.specs.Turns.{Turn, stay, behind, turns}
+use Rattle.session_core.specs.Turns.{Turn, stay, following, turns}
 use Rattle.session_core.proofs.TurnsLemmas.{turns-stop}
 use Rattle.kept_mail.specs.declared.kept.Listed.{Listed}
 use Rattle.journal_records.specs.declared.records.Record.{Record}
@@ -13,13 +13,13 @@ use Rattle.mail_store.specs.Following.{records_of}
 use Rattle.kept_mail.specs.Kept.{logged_in}
 use Rattle.mail_store.specs.StoreState.{StoreState, with_records}
 use Rattle.surrogate_cache.specs.Served.{Mode, legacy}
-use Rattle.session_core.specs.Meanings.{Meanings}
+use Rattle.session_core.specs.Oracles.{Oracles}
 use Rattle.pop_session.specs.declared.command.Keyword.{Keyword}
 use Rattle.pop_session.specs.declared.command.Keyword.TheVariants as keyword
 use Rattle.pop_session.specs.declared.states.MaildropMessage.{MaildropMessage}
 use Rattle.pop_session.specs.Commands.{Command, command_of}
 use Rattle.mail_wire.specs.Numbers.{number_of}
-use Rattle.pop_session.specs.History.{after_command, after_commands, commands_by, commands_up_to, commands_in, IsOfMode, is_utf8, enables, some_enables, mode_behind, IsQuit}
+use Rattle.pop_session.specs.History.{after_command, after_commands, commands_by, commands_up_to, commands_in, IsOfMode, is_utf8, enables, some_enables, mode_after, IsQuit}
 use Rattle.pop_session.specs.Machine.{ReplyPart, line, shown, State, authorization, transaction, ended, done, out_of_order, syntax_error, listed_at, step, authorization_step, transaction_step, dele_message, dele_step, pass_step}
 use Rattle.pop_session.specs.laws.PopLaws.{step_quiet}
 use Rattle.pop_session.specs.Session.{Machine, pop_grammar, pop_protocol, turns_of, start_of, wants_in}
@@ -30,30 +30,30 @@ pass_mode : (mode : Mode) (store : StoreState) (found : Option ℕ) → IsOfMode
 pass_mode mode store None = refl
 pass_mode mode store (Some account) = refl
 
-authorization_mode : (meanings : Meanings) (mode : Mode) (user : Option (List ℕ)) (store : StoreState) (word : Keyword) (argument : Option (List ℕ))
-    → IsOfMode (mode_behind (is_utf8 word argument) mode) (authorization_step meanings mode user store word argument).state
-authorization_mode meanings mode user store keyword.Stat argument = refl
-authorization_mode meanings mode user store keyword.List argument = refl
-authorization_mode meanings mode user store keyword.Uidl argument = refl
-authorization_mode meanings mode user store keyword.Retr argument = refl
-authorization_mode meanings mode user store keyword.Top argument = refl
-authorization_mode meanings mode user store keyword.Dele argument = refl
-authorization_mode meanings mode user store keyword.Rset argument = refl
-authorization_mode meanings mode user store keyword.Noop argument = refl
-authorization_mode meanings mode user store keyword.Other argument = refl
-authorization_mode meanings mode user store keyword.Capa None = refl
-authorization_mode meanings mode user store keyword.Capa (Some text) = refl
-authorization_mode meanings mode user store keyword.Utf8 None = refl
-authorization_mode meanings mode user store keyword.Utf8 (Some text) = refl
-authorization_mode meanings mode user store keyword.User None = refl
-authorization_mode meanings mode user store keyword.User (Some []) = refl
-authorization_mode meanings mode user store keyword.User (Some (x ∷ name)) = refl
-authorization_mode meanings mode None store keyword.Pass None = refl
-authorization_mode meanings mode (Some name) store keyword.Pass None = refl
-authorization_mode meanings mode None store keyword.Pass (Some password) = refl
-authorization_mode meanings mode (Some name) store keyword.Pass (Some password) = pass_mode mode store (logged_in meanings.path_of store.kept name password)
-authorization_mode meanings mode user store keyword.Quit None = tt
-authorization_mode meanings mode user store keyword.Quit (Some text) = refl
+authorization_mode : (oracles : Oracles) (mode : Mode) (user : Option (List ℕ)) (store : StoreState) (word : Keyword) (argument : Option (List ℕ))
+    → IsOfMode (mode_after (is_utf8 word argument) mode) (authorization_step oracles mode user store word argument).state
+authorization_mode oracles mode user store keyword.Stat argument = refl
+authorization_mode oracles mode user store keyword.List argument = refl
+authorization_mode oracles mode user store keyword.Uidl argument = refl
+authorization_mode oracles mode user store keyword.Retr argument = refl
+authorization_mode oracles mode user store keyword.Top argument = refl
+authorization_mode oracles mode user store keyword.Dele argument = refl
+authorization_mode oracles mode user store keyword.Rset argument = refl
+authorization_mode oracles mode user store keyword.Noop argument = refl
+authorization_mode oracles mode user store keyword.Other argument = refl
+authorization_mode oracles mode user store keyword.Capa None = refl
+authorization_mode oracles mode user store keyword.Capa (Some text) = refl
+authorization_mode oracles mode user store keyword.Utf8 None = refl
+authorization_mode oracles mode user store keyword.Utf8 (Some text) = refl
+authorization_mode oracles mode user store keyword.User None = refl
+authorization_mode oracles mode user store keyword.User (Some []) = refl
+authorization_mode oracles mode user store keyword.User (Some (x ∷ name)) = refl
+authorization_mode oracles mode None store keyword.Pass None = refl
+authorization_mode oracles mode (Some name) store keyword.Pass None = refl
+authorization_mode oracles mode None store keyword.Pass (Some password) = refl
+authorization_mode oracles mode (Some name) store keyword.Pass (Some password) = pass_mode mode store (logged_in oracles.path_of store.kept name password)
+authorization_mode oracles mode user store keyword.Quit None = tt
+authorization_mode oracles mode user store keyword.Quit (Some text) = refl
 
 message_mode : (mode : Mode) (maildrop : List MaildropMessage) (number : ℕ) (found : Option Listed) → IsOfMode mode (dele_message mode maildrop number found).state
 message_mode mode maildrop number None = refl
@@ -63,152 +63,152 @@ dele_mode : (mode : Mode) (maildrop : List MaildropMessage) (number : Option ℕ
 dele_mode mode maildrop None = refl
 dele_mode mode maildrop (Some number) = message_mode mode maildrop number (listed_at maildrop number)
 
-transaction_mode : (meanings : Meanings) (mode : Mode) (maildrop : List MaildropMessage) (store : StoreState) (word : Keyword) (argument : Option (List ℕ))
-    → IsOfMode mode (transaction_step meanings mode maildrop store word argument).state
-transaction_mode meanings mode maildrop store keyword.Dele None = refl
-transaction_mode meanings mode maildrop store keyword.Dele (Some text) = dele_mode mode maildrop (number_of text)
-transaction_mode meanings mode maildrop store keyword.Rset None = refl
-transaction_mode meanings mode maildrop store keyword.Rset (Some text) = refl
-transaction_mode meanings mode maildrop store keyword.Quit None = tt
-transaction_mode meanings mode maildrop store keyword.Quit (Some text) = refl
-transaction_mode meanings mode maildrop store keyword.User argument = refl
-transaction_mode meanings mode maildrop store keyword.Pass argument = refl
-transaction_mode meanings mode maildrop store keyword.Utf8 argument = refl
-transaction_mode meanings mode maildrop store keyword.Stat argument = refl
-transaction_mode meanings mode maildrop store keyword.List argument = refl
-transaction_mode meanings mode maildrop store keyword.Retr argument = refl
-transaction_mode meanings mode maildrop store keyword.Capa argument = refl
-transaction_mode meanings mode maildrop store keyword.Uidl argument = refl
-transaction_mode meanings mode maildrop store keyword.Top argument = refl
-transaction_mode meanings mode maildrop store keyword.Noop argument = refl
-transaction_mode meanings mode maildrop store keyword.Other argument = refl
+transaction_mode : (oracles : Oracles) (mode : Mode) (maildrop : List MaildropMessage) (store : StoreState) (word : Keyword) (argument : Option (List ℕ))
+    → IsOfMode mode (transaction_step oracles mode maildrop store word argument).state
+transaction_mode oracles mode maildrop store keyword.Dele None = refl
+transaction_mode oracles mode maildrop store keyword.Dele (Some text) = dele_mode mode maildrop (number_of text)
+transaction_mode oracles mode maildrop store keyword.Rset None = refl
+transaction_mode oracles mode maildrop store keyword.Rset (Some text) = refl
+transaction_mode oracles mode maildrop store keyword.Quit None = tt
+transaction_mode oracles mode maildrop store keyword.Quit (Some text) = refl
+transaction_mode oracles mode maildrop store keyword.User argument = refl
+transaction_mode oracles mode maildrop store keyword.Pass argument = refl
+transaction_mode oracles mode maildrop store keyword.Utf8 argument = refl
+transaction_mode oracles mode maildrop store keyword.Stat argument = refl
+transaction_mode oracles mode maildrop store keyword.List argument = refl
+transaction_mode oracles mode maildrop store keyword.Retr argument = refl
+transaction_mode oracles mode maildrop store keyword.Capa argument = refl
+transaction_mode oracles mode maildrop store keyword.Uidl argument = refl
+transaction_mode oracles mode maildrop store keyword.Top argument = refl
+transaction_mode oracles mode maildrop store keyword.Noop argument = refl
+transaction_mode oracles mode maildrop store keyword.Other argument = refl
 
 -- a command leaves the mode, but UTF8 before login
-pub step_mode : (meanings : Meanings) (state : State) (store : StoreState) (command : Command) (mode : Mode) → IsOfMode mode state
-    → IsOfMode (mode_behind (enables state command) mode) (step meanings state store command).state
+pub step_mode : (oracles : Oracles) (state : State) (store : StoreState) (command : Command) (mode : Mode) → IsOfMode mode state
+    → IsOfMode (mode_after (enables state command) mode) (step oracles state store command).state
 unfolding step
-step_mode meanings (authorization is user) store command mode same =
-    subst (λ m. IsOfMode (mode_behind (is_utf8 command.keyword command.argument) m) (authorization_step meanings is user store command.keyword command.argument).state) same
-    (authorization_mode meanings is user store command.keyword command.argument)
-step_mode meanings (transaction is maildrop) store command mode same =
-    subst (λ m. IsOfMode m (transaction_step meanings is maildrop store command.keyword command.argument).state) same
-    (transaction_mode meanings is maildrop store command.keyword command.argument)
-step_mode meanings ended store command mode same = tt
+step_mode oracles (authorization is user) store command mode same =
+    subst (λ m. IsOfMode (mode_after (is_utf8 command.keyword command.argument) m) (authorization_step oracles is user store command.keyword command.argument).state) same
+    (authorization_mode oracles is user store command.keyword command.argument)
+step_mode oracles (transaction is maildrop) store command mode same =
+    subst (λ m. IsOfMode m (transaction_step oracles is maildrop store command.keyword command.argument).state) same
+    (transaction_mode oracles is maildrop store command.keyword command.argument)
+step_mode oracles ended store command mode same = tt
 
 -- QUIT ends the session
-quit_ends : (meanings : Meanings) (state : State) (store : StoreState) (command : Command) → IsQuit state command → (step meanings state store command).state ≡ ended
+quit_ends : (oracles : Oracles) (state : State) (store : StoreState) (command : Command) → IsQuit state command → (step oracles state store command).state ≡ ended
 unfolding step
-quit_ends meanings (authorization mode user) store command is = absurd is
-quit_ends meanings (transaction mode maildrop) store command is = rw (is.0, is.1) refl
-quit_ends meanings ended store command is = absurd is
+quit_ends oracles (authorization mode user) store command is = absurd is
+quit_ends oracles (transaction mode maildrop) store command is = rw (is.0, is.1) refl
+quit_ends oracles ended store command is = absurd is
 
 -- ---- several commands
 
-behind_both : (a b : Bool) (mode : Mode) → mode_behind b (mode_behind a mode) ≡ mode_behind (a || b) mode
-behind_both true true mode = refl
-behind_both true false mode = refl
-behind_both false true mode = refl
-behind_both false false mode = refl
+after_both : (a b : Bool) (mode : Mode) → mode_after b (mode_after a mode) ≡ mode_after (a || b) mode
+after_both true true mode = refl
+after_both true false mode = refl
+after_both false true mode = refl
+after_both false false mode = refl
 
-pub commands_mode : (meanings : Meanings) (machine : Machine) (commands : List Command) (mode : Mode) → IsOfMode mode machine.state
-    → IsOfMode (mode_behind (some_enables meanings machine commands) mode) (after_commands meanings machine commands).state
-commands_mode meanings machine [] mode is = is
-commands_mode meanings machine (command ∷ commands) mode is =
-    subst (λ m. IsOfMode m (after_commands meanings (after_command meanings machine command) commands).state)
-    (behind_both (enables machine.state command) (some_enables meanings (after_command meanings machine command) commands) mode)
-    (commands_mode meanings (after_command meanings machine command) commands (mode_behind (enables machine.state command) mode)
-    (step_mode meanings machine.state machine.store command mode is))
+pub commands_mode : (oracles : Oracles) (machine : Machine) (commands : List Command) (mode : Mode) → IsOfMode mode machine.state
+    → IsOfMode (mode_after (some_enables oracles machine commands) mode) (after_commands oracles machine commands).state
+commands_mode oracles machine [] mode is = is
+commands_mode oracles machine (command ∷ commands) mode is =
+    subst (λ m. IsOfMode m (after_commands oracles (after_command oracles machine command) commands).state)
+    (after_both (enables machine.state command) (some_enables oracles (after_command oracles machine command) commands) mode)
+    (commands_mode oracles (after_command oracles machine command) commands (mode_after (enables machine.state command) mode)
+    (step_mode oracles machine.state machine.store command mode is))
 
 abbrev pub at_end : StoreState → Machine
 at_end store = record { state = ended; store = store }
 
 -- after the end commands do nothing
-pub ended_stays : (meanings : Meanings) (store : StoreState) (commands : List Command) → after_commands meanings (at_end store) commands ≡ at_end store
+pub ended_stays : (oracles : Oracles) (store : StoreState) (commands : List Command) → after_commands oracles (at_end store) commands ≡ at_end store
 unfolding step
-ended_stays meanings store [] = refl
-ended_stays meanings store (command ∷ commands) = ended_stays meanings store commands
+ended_stays oracles store [] = refl
+ended_stays oracles store (command ∷ commands) = ended_stays oracles store commands
 
 pub machine_ends : (machine : Machine) → machine.state ≡ ended → machine ≡ at_end machine.store
 machine_ends machine is = ap (λ (state : State). (let at : Machine = record { state = state; store = machine.store } in at)) is
 
-pub ended_all : (meanings : Meanings) (machine : Machine) (commands : List Command) → machine.state ≡ ended → (after_commands meanings machine commands).state ≡ ended
-ended_all meanings machine commands is =
-    ap (λ (m : Machine). (after_commands meanings m commands).state) (machine_ends machine is) ∙ ap (λ (m : Machine). m.state) (ended_stays meanings machine.store commands)
+pub ended_all : (oracles : Oracles) (machine : Machine) (commands : List Command) → machine.state ≡ ended → (after_commands oracles machine commands).state ≡ ended
+ended_all oracles machine commands is =
+    ap (λ (m : Machine). (after_commands oracles m commands).state) (machine_ends machine is) ∙ ap (λ (m : Machine). m.state) (ended_stays oracles machine.store commands)
 
 -- unless the session has ended, the store is as before
-pub commands_keep : (meanings : Meanings) (machine : Machine) (commands : List Command) → ((after_commands meanings machine commands).state ≡ ended → ⊥)
-    → (after_commands meanings machine commands).store ≡ machine.store
-commands_keep meanings machine [] goes_on = refl
-commands_keep meanings machine (command ∷ commands) goes_on =
-    elim (step_quiet meanings machine.state machine.store command) [
-      | inl quit ↦ absurd (goes_on (ended_all meanings (after_command meanings machine command) commands (quit_ends meanings machine.state machine.store command quit)))
-      | inr none ↦ commands_keep meanings (after_command meanings machine command) commands goes_on
+pub commands_keep : (oracles : Oracles) (machine : Machine) (commands : List Command) → ((after_commands oracles machine commands).state ≡ ended → ⊥)
+    → (after_commands oracles machine commands).store ≡ machine.store
+commands_keep oracles machine [] goes_on = refl
+commands_keep oracles machine (command ∷ commands) goes_on =
+    elim (step_quiet oracles machine.state machine.store command) [
+      | inl quit ↦ absurd (goes_on (ended_all oracles (after_command oracles machine command) commands (quit_ends oracles machine.state machine.store command quit)))
+      | inr none ↦ commands_keep oracles (after_command oracles machine command) commands goes_on
           ∙ ap (λ (changes : List (List Record)). with_records machine.store (records_of changes)) none
     ]
 
 -- ---- a stream
 
 -- What is left of a stream: the machine behind its commands, or one that a line too long has ended.
-pub record IsLeft (meanings : Meanings) (machine : Machine) (commands : List Command) (left : Machine) : Type 0 where
-  pub store : left.store ≡ (after_commands meanings machine commands).store
-  pub state : (left.state ≡ (after_commands meanings machine commands).state) ⊎ (left.state ≡ ended)
+pub record IsLeft (oracles : Oracles) (machine : Machine) (commands : List Command) (left : Machine) : Type 0 where
+  pub store : left.store ≡ (after_commands oracles machine commands).store
+  pub state : (left.state ≡ (after_commands oracles machine commands).state) ⊎ (left.state ≡ ended)
 
 -- the machine behind so many turns
-abbrev pub left_by : Meanings → ℕ → Machine → List ℕ → Machine
-left_by meanings n machine octets = (turns (pop_protocol.next meanings) n machine octets).after
+abbrev pub left_by : Oracles → ℕ → Machine → List ℕ → Machine
+left_by oracles n machine octets = (turns (pop_protocol.next oracles) n machine octets).after
 
 -- the machine behind this turn and so many more
-abbrev pub left_behind : Meanings → ℕ → Machine → List ℕ → Option (Turn Machine (Act ReplyPart)) → Machine
-left_behind meanings n machine octets first =
-    (option_map_or (λ turn. behind turn.parts (turns (pop_protocol.next meanings) n turn.after turn.rest)) first (stay machine octets)).after
+abbrev pub left_following : Oracles → ℕ → Machine → List ℕ → Option (Turn Machine (Act ReplyPart)) → Machine
+left_following oracles n machine octets first =
+    (option_map_or (λ turn. following turn.parts (turns (pop_protocol.next oracles) n turn.after turn.rest)) first (stay machine octets)).after
 
-long_line_ends : (meanings : Meanings) (n : ℕ) (store : StoreState) (octets : List ℕ) → left_by meanings n (at_end store) octets ≡ at_end store
-long_line_ends meanings n store octets = ap (λ (t : Turn Machine (Act ReplyPart)). t.after) (turns-stop (pop_protocol.next meanings) n (at_end store) octets refl)
+long_line_ends : (oracles : Oracles) (n : ℕ) (store : StoreState) (octets : List ℕ) → left_by oracles n (at_end store) octets ≡ at_end store
+long_line_ends oracles n store octets = ap (λ (t : Turn Machine (Act ReplyPart)). t.after) (turns-stop (pop_protocol.next oracles) n (at_end store) octets refl)
 
-framed_left : (meanings : Meanings) (n : ℕ) (machine : Machine) (octets : List ℕ) (framed : Framed)
-    → ((next : Machine) (rest : List ℕ) → IsLeft meanings next (commands_up_to n rest) (left_by meanings n next rest))
-    → IsLeft meanings machine (commands_by (commands_up_to n) framed) (left_behind meanings n machine octets (turn_by pop_grammar meanings machine framed))
-framed_left meanings n machine octets waiting more = record { store = refl; state = inl refl }
-framed_left meanings n machine octets (whole text rest) more =
-    let left = more (after_command meanings machine (command_of text)) rest in record { store = left.store; state = left.state }
-framed_left meanings n machine octets (too_long rest) more =
-    let is = long_line_ends meanings n machine.store rest in
+framed_left : (oracles : Oracles) (n : ℕ) (machine : Machine) (octets : List ℕ) (framed : Framed)
+    → ((next : Machine) (rest : List ℕ) → IsLeft oracles next (commands_up_to n rest) (left_by oracles n next rest))
+    → IsLeft oracles machine (commands_by (commands_up_to n) framed) (left_following oracles n machine octets (turn_by pop_grammar oracles machine framed))
+framed_left oracles n machine octets waiting more = record { store = refl; state = inl refl }
+framed_left oracles n machine octets (whole text rest) more =
+    let left = more (after_command oracles machine (command_of text)) rest in record { store = left.store; state = left.state }
+framed_left oracles n machine octets (too_long rest) more =
+    let is = long_line_ends oracles n machine.store rest in
     record { store = ap (λ (m : Machine). m.store) is; state = inr (ap (λ (m : Machine). m.state) is) }
 
-state_left : (meanings : Meanings) (n : ℕ) (state : State) (machine : Machine) (octets : List ℕ) → machine.state ≡ state
-    → ((next : Machine) (rest : List ℕ) → IsLeft meanings next (commands_up_to n rest) (left_by meanings n next rest))
-    → IsLeft meanings machine (commands_by (commands_up_to n) (next_line octets)) (left_behind meanings n machine octets (turn_in pop_grammar meanings machine (wants_in state) octets))
-state_left meanings n (authorization mode user) machine octets is more = framed_left meanings n machine octets (next_line octets) more
-state_left meanings n (transaction mode maildrop) machine octets is more = framed_left meanings n machine octets (next_line octets) more
-state_left meanings n ended machine octets is more =
+state_left : (oracles : Oracles) (n : ℕ) (state : State) (machine : Machine) (octets : List ℕ) → machine.state ≡ state
+    → ((next : Machine) (rest : List ℕ) → IsLeft oracles next (commands_up_to n rest) (left_by oracles n next rest))
+    → IsLeft oracles machine (commands_by (commands_up_to n) (next_line octets)) (left_following oracles n machine octets (turn_in pop_grammar oracles machine (wants_in state) octets))
+state_left oracles n (authorization mode user) machine octets is more = framed_left oracles n machine octets (next_line octets) more
+state_left oracles n (transaction mode maildrop) machine octets is more = framed_left oracles n machine octets (next_line octets) more
+state_left oracles n ended machine octets is more =
     let commands = commands_by (commands_up_to n) (next_line octets) in
     record {
-      store = sym (ap (λ (m : Machine). (after_commands meanings m commands).store) (machine_ends machine is) ∙ ap (λ (m : Machine). m.store) (ended_stays meanings machine.store commands));
+      store = sym (ap (λ (m : Machine). (after_commands oracles m commands).store) (machine_ends machine is) ∙ ap (λ (m : Machine). m.store) (ended_stays oracles machine.store commands));
       state = inr is;
     }
 
-turns_left : (meanings : Meanings) (n : ℕ) (machine : Machine) (octets : List ℕ) → IsLeft meanings machine (commands_up_to n octets) (left_by meanings n machine octets)
+turns_left : (oracles : Oracles) (n : ℕ) (machine : Machine) (octets : List ℕ) → IsLeft oracles machine (commands_up_to n octets) (left_by oracles n machine octets)
 unfolding turns commands_up_to
-turns_left meanings zero machine octets = record { store = refl; state = inl refl }
-turns_left meanings (suc n) machine octets = state_left meanings n machine.state machine octets refl (turns_left meanings n)
+turns_left oracles zero machine octets = record { store = refl; state = inl refl }
+turns_left oracles (suc n) machine octets = state_left oracles n machine.state machine octets refl (turns_left oracles n)
 
 mode_as : (mode : Mode) (state left : State) → IsOfMode mode state → (left ≡ state) ⊎ (left ≡ ended) → IsOfMode mode left
 mode_as mode state left is (inl same) = subst (IsOfMode mode) (sym same) is
 mode_as mode state left is (inr end) = subst (IsOfMode mode) (sym end) tt
 
 -- a session is enabled behind a stream where one of its commands was UTF8 before login
-pub stream_mode : (meanings : Meanings) (store : StoreState) (octets : List ℕ)
-    → IsOfMode (mode_behind (some_enables meanings (start_of store) (commands_in octets)) legacy) (turns_of meanings (start_of store) octets).after.state
-stream_mode meanings store octets =
-    mode_as _ (after_commands meanings (start_of store) (commands_in octets)).state _ (commands_mode meanings (start_of store) (commands_in octets) legacy refl)
-    (turns_left meanings _ (start_of store) octets).state
+pub stream_mode : (oracles : Oracles) (store : StoreState) (octets : List ℕ)
+    → IsOfMode (mode_after (some_enables oracles (start_of store) (commands_in octets)) legacy) (turns_of oracles (start_of store) octets).after.state
+stream_mode oracles store octets =
+    mode_as _ (after_commands oracles (start_of store) (commands_in octets)).state _ (commands_mode oracles (start_of store) (commands_in octets) legacy refl)
+    (turns_left oracles _ (start_of store) octets).state
 
 -- unless the session has ended, a stream leaves the store
-pub stream_keeps : (meanings : Meanings) (machine : Machine) (octets : List ℕ) → ((turns_of meanings machine octets).after.state ≡ ended → ⊥)
-    → (turns_of meanings machine octets).after.store ≡ machine.store
-stream_keeps meanings machine octets goes_on =
-    let left = turns_left meanings _ machine octets in
-    left.store ∙ commands_keep meanings machine (commands_in octets) (λ end. goes_on (elim left.state [
+pub stream_keeps : (oracles : Oracles) (machine : Machine) (octets : List ℕ) → ((turns_of oracles machine octets).after.state ≡ ended → ⊥)
+    → (turns_of oracles machine octets).after.store ≡ machine.store
+stream_keeps oracles machine octets goes_on =
+    let left = turns_left oracles _ machine octets in
+    left.store ∙ commands_keep oracles machine (commands_in octets) (λ end. goes_on (elim left.state [
       | inl same ↦ same ∙ end
       | inr is ↦ is
     ]))
@@ -229,14 +229,14 @@ nothing_not_done : ([] ≡ done) → ⊥
 nothing_not_done same = let differ : 0 ≡ 43 = ap first_octet same in omega (arith, differ)
 
 -- UTF8 is answered +OK where it enables
-pub utf8_accepted : (meanings : Meanings) (state : State) (store : StoreState) (argument : Option (List ℕ))
+pub utf8_accepted : (oracles : Oracles) (state : State) (store : StoreState) (argument : Option (List ℕ))
     → let command : Command = record { keyword = keyword.Utf8; argument = argument } in
-    ((step meanings state store command).reply ≡ done) ↔ IsTrue (enables state command)
+    ((step oracles state store command).reply ≡ done) ↔ IsTrue (enables state command)
 unfolding step
-utf8_accepted meanings (authorization mode user) store None = (λ same. refl, λ is. refl)
-utf8_accepted meanings (authorization mode user) store (Some text) = (λ same. absurd (refused_not_done syntax_error refl same), λ is. cc)
-utf8_accepted meanings (transaction mode maildrop) store argument = (λ same. absurd (refused_not_done out_of_order refl same), λ is. cc)
-utf8_accepted meanings ended store argument = (λ same. absurd (nothing_not_done same), λ is. cc)
+utf8_accepted oracles (authorization mode user) store None = (λ same. refl, λ is. refl)
+utf8_accepted oracles (authorization mode user) store (Some text) = (λ same. absurd (refused_not_done syntax_error refl same), λ is. cc)
+utf8_accepted oracles (transaction mode maildrop) store argument = (λ same. absurd (refused_not_done out_of_order refl same), λ is. cc)
+utf8_accepted oracles ended store argument = (λ same. absurd (nothing_not_done same), λ is. cc)
 
 not_utf8 : (word : Keyword) (argument : Option (List ℕ)) → word ≢ keyword.Utf8 → ¬ IsTrue (is_utf8 word argument)
 not_utf8 keyword.Utf8 argument other is = other refl
@@ -259,8 +259,8 @@ other_enables_not (authorization mode user) command other is = not_utf8 command.
 other_enables_not (transaction mode maildrop) command other is = cc
 other_enables_not ended command other is = cc
 
-pub others_quiet : (meanings : Meanings) (state : State) (store : StoreState) (command : Command) → ¬ IsQuit state command → (step meanings state store command).changes ≡ []
-others_quiet meanings state store command other = elim (step_quiet meanings state store command) [
+pub others_quiet : (oracles : Oracles) (state : State) (store : StoreState) (command : Command) → ¬ IsQuit state command → (step oracles state store command).changes ≡ []
+others_quiet oracles state store command other = elim (step_quiet oracles state store command) [
   | inl quit ↦ absurd (other quit)
   | inr none ↦ none
 ]

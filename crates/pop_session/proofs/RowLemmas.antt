@@ -21,7 +21,7 @@ use Rattle.session_core.specs.Acts.{asking}
 use Rattle.session_core.specs.Doing.{AsksAndReplies, Does, Replies}
 use Rattle.session_core.specs.Grammar.{Answers, AnswersBy, StandsNext}
 use Rattle.session_core.specs.Keeps.{fault_of}
-use Rattle.session_core.specs.Meanings.{Meanings, WithMeanings}
+use Rattle.session_core.specs.Oracles.{Oracles, WithOracles}
 use Rattle.session_core.specs.Moments.{Moment, IsTold}
 use Rattle.session_core.proofs.AskingLemmas.{AsksAndReplies-replies, Does-asked_reply}
 use Rattle.session_core.proofs.DoingLemmas.{DoesFirst-none}
@@ -44,115 +44,115 @@ is_changing keyword.Rset None = true
 is_changing keyword.Quit None = true
 is_changing word argument = false
 
-pub transaction_step-other : (meanings : Meanings) (mode : Mode) (maildrop : List MaildropMessage) (store : StoreState) (word : Keyword) (argument : Option (List ℕ)) → is_changing word argument ≡ false
-    → transaction_step meanings mode maildrop store word argument ≡ answers (transaction_reply meanings mode maildrop store word argument) (transaction mode maildrop)
-transaction_step-other meanings mode maildrop store keyword.Dele None is = refl
-transaction_step-other meanings mode maildrop store keyword.Dele (Some text) is = cc
-transaction_step-other meanings mode maildrop store keyword.Rset None is = cc
-transaction_step-other meanings mode maildrop store keyword.Rset (Some text) is = refl
-transaction_step-other meanings mode maildrop store keyword.Quit None is = cc
-transaction_step-other meanings mode maildrop store keyword.Quit (Some text) is = refl
-transaction_step-other meanings mode maildrop store keyword.User argument is = refl
-transaction_step-other meanings mode maildrop store keyword.Pass argument is = refl
-transaction_step-other meanings mode maildrop store keyword.Utf8 argument is = refl
-transaction_step-other meanings mode maildrop store keyword.Stat argument is = refl
-transaction_step-other meanings mode maildrop store keyword.List argument is = refl
-transaction_step-other meanings mode maildrop store keyword.Retr argument is = refl
-transaction_step-other meanings mode maildrop store keyword.Capa argument is = refl
-transaction_step-other meanings mode maildrop store keyword.Uidl argument is = refl
-transaction_step-other meanings mode maildrop store keyword.Top argument is = refl
-transaction_step-other meanings mode maildrop store keyword.Noop argument is = refl
-transaction_step-other meanings mode maildrop store keyword.Other argument is = refl
+pub transaction_step-other : (oracles : Oracles) (mode : Mode) (maildrop : List MaildropMessage) (store : StoreState) (word : Keyword) (argument : Option (List ℕ)) → is_changing word argument ≡ false
+    → transaction_step oracles mode maildrop store word argument ≡ answers (transaction_reply oracles mode maildrop store word argument) (transaction mode maildrop)
+transaction_step-other oracles mode maildrop store keyword.Dele None is = refl
+transaction_step-other oracles mode maildrop store keyword.Dele (Some text) is = cc
+transaction_step-other oracles mode maildrop store keyword.Rset None is = cc
+transaction_step-other oracles mode maildrop store keyword.Rset (Some text) is = refl
+transaction_step-other oracles mode maildrop store keyword.Quit None is = cc
+transaction_step-other oracles mode maildrop store keyword.Quit (Some text) is = refl
+transaction_step-other oracles mode maildrop store keyword.User argument is = refl
+transaction_step-other oracles mode maildrop store keyword.Pass argument is = refl
+transaction_step-other oracles mode maildrop store keyword.Utf8 argument is = refl
+transaction_step-other oracles mode maildrop store keyword.Stat argument is = refl
+transaction_step-other oracles mode maildrop store keyword.List argument is = refl
+transaction_step-other oracles mode maildrop store keyword.Retr argument is = refl
+transaction_step-other oracles mode maildrop store keyword.Capa argument is = refl
+transaction_step-other oracles mode maildrop store keyword.Uidl argument is = refl
+transaction_step-other oracles mode maildrop store keyword.Top argument is = refl
+transaction_step-other oracles mode maildrop store keyword.Noop argument is = refl
+transaction_step-other oracles mode maildrop store keyword.Other argument is = refl
 
 -- ---- steps that were carried out
 
 -- messages that are asked for, and a reply, and nothing is changed
-pub takes_asking : (a b : Around) (result : Result (Option PopState) Fault) (asked : List Asked) (taken : Meanings → Step) → ((meanings : Meanings) → (taken meanings).changes ≡ [])
-    → WithMeanings (λ meanings. AsksAndReplies a b (fault_of result) asked (reply_octets meanings (taken meanings).reply)) → WithMeanings (λ meanings. IfOk result (λ next. state_or_ended next ≡ (taken meanings).state))
+pub takes_asking : (a b : Around) (result : Result (Option PopState) Fault) (asked : List Asked) (taken : Oracles → Step) → ((oracles : Oracles) → (taken oracles).changes ≡ [])
+    → WithOracles (λ oracles. AsksAndReplies a b (fault_of result) asked (reply_octets oracles (taken oracles).reply)) → WithOracles (λ oracles. IfOk result (λ next. state_or_ended next ≡ (taken oracles).state))
     → IfOk result (λ next. KnowsState b.desk.store (state_or_ended next)) → TakesStep a b result asked taken
 takes_asking a b result asked taken none replies next known = record {
-  does = λ meanings are. rw (none meanings) (Does-asked_reply (part_octets meanings) a b (fault_of result) asked (taken meanings).reply (replies meanings are));
+  does = λ oracles are. rw (none oracles) (Does-asked_reply (part_octets oracles) a b (fault_of result) asked (taken oracles).reply (replies oracles are));
   next = next;
   known = known;
 }
 
 -- or a fault in them
-pub takes_failed_asking : (a b : Around) (met : Fault) (asked : List Asked) (taken : Meanings → Step) → ((meanings : Meanings) → (taken meanings).changes ≡ [])
-    → WithMeanings (λ meanings. AsksAndReplies a b (Some met) asked (reply_octets meanings (taken meanings).reply)) → TakesStep a b (Err met) asked taken
-takes_failed_asking a b met asked taken none replies = takes_asking a b (Err met) asked taken none replies (λ meanings are. tt) tt
+pub takes_failed_asking : (a b : Around) (met : Fault) (asked : List Asked) (taken : Oracles → Step) → ((oracles : Oracles) → (taken oracles).changes ≡ [])
+    → WithOracles (λ oracles. AsksAndReplies a b (Some met) asked (reply_octets oracles (taken oracles).reply)) → TakesStep a b (Err met) asked taken
+takes_failed_asking a b met asked taken none replies = takes_asking a b (Err met) asked taken none replies (λ oracles are. tt) tt
 
 -- a reply alone
-pub takes_reply : (a b : Around) (result : Result (Option PopState) Fault) (taken : Meanings → Step) → ((meanings : Meanings) → (taken meanings).changes ≡ [])
-    → WithMeanings (λ meanings. Replies a b (fault_of result) (reply_octets meanings (taken meanings).reply)) → WithMeanings (λ meanings. IfOk result (λ next. state_or_ended next ≡ (taken meanings).state))
+pub takes_reply : (a b : Around) (result : Result (Option PopState) Fault) (taken : Oracles → Step) → ((oracles : Oracles) → (taken oracles).changes ≡ [])
+    → WithOracles (λ oracles. Replies a b (fault_of result) (reply_octets oracles (taken oracles).reply)) → WithOracles (λ oracles. IfOk result (λ next. state_or_ended next ≡ (taken oracles).state))
     → IfOk result (λ next. KnowsState b.desk.store (state_or_ended next)) → TakesStep a b result [] taken
 takes_reply a b result taken none replies next known =
-    takes_asking a b result [] taken none (λ meanings are. AsksAndReplies-replies a b (fault_of result) (reply_octets meanings (taken meanings).reply) (replies meanings are)) next known
+    takes_asking a b result [] taken none (λ oracles are. AsksAndReplies-replies a b (fault_of result) (reply_octets oracles (taken oracles).reply) (replies oracles are)) next known
 
 -- or a fault in it
-pub takes_failed : (a b : Around) (met : Fault) (taken : Meanings → Step) → ((meanings : Meanings) → (taken meanings).changes ≡ [])
-    → WithMeanings (λ meanings. Replies a b (Some met) (reply_octets meanings (taken meanings).reply)) → TakesStep a b (Err met) [] taken
-takes_failed a b met taken none replies = takes_reply a b (Err met) taken none replies (λ meanings are. tt) tt
+pub takes_failed : (a b : Around) (met : Fault) (taken : Oracles → Step) → ((oracles : Oracles) → (taken oracles).changes ≡ [])
+    → WithOracles (λ oracles. Replies a b (Some met) (reply_octets oracles (taken oracles).reply)) → TakesStep a b (Err met) [] taken
+takes_failed a b met taken none replies = takes_reply a b (Err met) taken none replies (λ oracles are. tt) tt
 
 -- a fault before it
-pub takes_stop : (a : Around) (met : Fault) (asked : List Asked) (taken : Meanings → Step) → (met ≡ fault.Keeper → ⊥) → TakesStep a a (Err met) asked taken
+pub takes_stop : (a : Around) (met : Fault) (asked : List Asked) (taken : Oracles → Step) → (met ≡ fault.Keeper → ⊥) → TakesStep a a (Err met) asked taken
 takes_stop a met asked taken fine = record {
-  does = λ meanings are. DoesFirst-none (part_octets meanings) a met (asking asked (acts_in (taken meanings))) fine;
-  next = λ meanings are. tt;
+  does = λ oracles are. DoesFirst-none (part_octets oracles) a met (asking asked (acts_in (taken oracles))) fine;
+  next = λ oracles are. tt;
   known = tt;
 }
 
 -- the same of a step that is told otherwise
-pub takes_as : (a b : Around) (result : Result (Option PopState) Fault) (asked : List Asked) (taken other : Meanings → Step) → ((meanings : Meanings) → other meanings ≡ taken meanings) → TakesStep a b result asked taken
+pub takes_as : (a b : Around) (result : Result (Option PopState) Fault) (asked : List Asked) (taken other : Oracles → Step) → ((oracles : Oracles) → other oracles ≡ taken oracles) → TakesStep a b result asked taken
     → TakesStep a b result asked other
 takes_as a b result asked taken other same takes = record {
-  does = λ meanings are. rw (same meanings) (takes.does meanings are);
-  next = λ meanings are. rw (same meanings) (takes.next meanings are);
+  does = λ oracles are. rw (same oracles) (takes.does oracles are);
+  next = λ oracles are. rw (same oracles) (takes.next oracles are);
   known = takes.known;
 }
 
 -- the session behind a step stands for what it leaves
-stands_behind : (a b : Around) (found : Option PopState) (taken : Step) (more : List Moment) → state_or_ended found ≡ taken.state → b.desk.store ≡ with_records a.desk.store (records_of taken.changes)
+stands_after : (a b : Around) (found : Option PopState) (taken : Step) (more : List Moment) → state_or_ended found ≡ taken.state → b.desk.store ≡ with_records a.desk.store (records_of taken.changes)
     → StandsNext pop_grammar PopStands more found b.desk (after_step a.desk.store taken)
-stands_behind a b None taken more next store = rw (← next) refl
-stands_behind a b (Some session) taken more next store = rw (← next, ← store) refl
+stands_after a b None taken more next store = rw (← next) refl
+stands_after a b (Some session) taken more next store = rw (← next, ← store) refl
 
-row_done : (meanings : Meanings) (a b : Around) (result : Result (Option PopState) Fault) (more : List Moment) (asked : List Asked) (taken : Step)
-    → Does (part_octets meanings) a b (fault_of result) (asking asked (acts_in taken)) → IfOk result (λ next. state_or_ended next ≡ taken.state)
-    → AnswersBy pop_grammar PopStands meanings a b result more (record { acts = asking asked (acts_in taken); after = after_step a.desk.store taken })
-row_done meanings a b (Ok found) more asked taken does next = record {
+row_done : (oracles : Oracles) (a b : Around) (result : Result (Option PopState) Fault) (more : List Moment) (asked : List Asked) (taken : Step)
+    → Does (part_octets oracles) a b (fault_of result) (asking asked (acts_in taken)) → IfOk result (λ next. state_or_ended next ≡ taken.state)
+    → AnswersBy pop_grammar PopStands oracles a b result more (record { acts = asking asked (acts_in taken); after = after_step a.desk.store taken })
+row_done oracles a b (Ok found) more asked taken does next = record {
   does = does;
-  next = stands_behind a b found taken more next (rw (changes_in-asking {P = ReplyPart} asked (acts_in taken), changes_in-acts {P = ReplyPart} taken.changes taken.reply) at does.follows.store);
+  next = stands_after a b found taken more next (rw (changes_in-asking {P = ReplyPart} asked (acts_in taken), changes_in-acts {P = ReplyPart} taken.changes taken.reply) at does.follows.store);
 }
-row_done meanings a b (Err met) more asked taken does next = record { does = does; next = tt }
+row_done oracles a b (Err met) more asked taken does next = record { does = does; next = tt }
 
 -- the step of a line is its row
 pub answers_step : (a b : Around) (session : PopState) (text : List ℕ) (result : Result (Option PopState) Fault)
-    → TakesStep a b result (asked_of (state_of session) a.desk.store (command_of text)) (λ meanings. step meanings (state_of session) a.desk.store (command_of text))
+    → TakesStep a b result (asked_of (state_of session) a.desk.store (command_of text)) (λ oracles. step oracles (state_of session) a.desk.store (command_of text))
     → Answers pop_grammar PopStands a b session text result
 answers_step a b session text result takes = record {
   told = [];
   are_told = All-nil (IsTold a.clock);
-  answers = λ meanings are more machine stood.
-      rw stood (row_done meanings a b result more (asked_of (state_of session) a.desk.store (command_of text)) (step meanings (state_of session) a.desk.store (command_of text))
-      (takes.does meanings are) (takes.next meanings are));
+  answers = λ oracles are more machine stood.
+      rw stood (row_done oracles a b result more (asked_of (state_of session) a.desk.store (command_of text)) (step oracles (state_of session) a.desk.store (command_of text))
+      (takes.does oracles are) (takes.next oracles are));
 }
 
 -- ---- rows that leave the state
 
 -- what was done of one
-abbrev pub DoesRow : Meanings → Mode → List MaildropMessage → Around → Around → Option Fault → Keyword → Option (List ℕ) → Type 0
-DoesRow meanings mode maildrop a b met word argument =
-    AsksAndReplies a b met (transaction_asks mode maildrop a.desk.store word argument) (reply_octets meanings (transaction_reply meanings mode maildrop a.desk.store word argument))
+abbrev pub DoesRow : Oracles → Mode → List MaildropMessage → Around → Around → Option Fault → Keyword → Option (List ℕ) → Type 0
+DoesRow oracles mode maildrop a b met word argument =
+    AsksAndReplies a b met (transaction_asks mode maildrop a.desk.store word argument) (reply_octets oracles (transaction_reply oracles mode maildrop a.desk.store word argument))
 
 -- the commands of AUTHORIZATION alone
 abbrev pub IsOfAuthorization : Keyword → Type 0
 IsOfAuthorization word = (word ≡ keyword.User) ⊎ (word ≡ keyword.Pass) ⊎ (word ≡ keyword.Utf8)
 
-pub row_out_of_order : (meanings : Meanings) (mode : Mode) (maildrop : List MaildropMessage) (a b : Around) (met : Option Fault) (word : Keyword) (argument : Option (List ℕ)) → IsOfAuthorization word
-    → Replies a b met (reply_octets meanings out_of_order) → DoesRow meanings mode maildrop a b met word argument
-row_out_of_order meanings mode maildrop a b met word argument (inl is) replies = rw is (AsksAndReplies-replies a b met (reply_octets meanings out_of_order) replies)
-row_out_of_order meanings mode maildrop a b met word argument (inr (inl is)) replies = rw is (AsksAndReplies-replies a b met (reply_octets meanings out_of_order) replies)
-row_out_of_order meanings mode maildrop a b met word argument (inr (inr is)) replies = rw is (AsksAndReplies-replies a b met (reply_octets meanings out_of_order) replies)
+pub row_out_of_order : (oracles : Oracles) (mode : Mode) (maildrop : List MaildropMessage) (a b : Around) (met : Option Fault) (word : Keyword) (argument : Option (List ℕ)) → IsOfAuthorization word
+    → Replies a b met (reply_octets oracles out_of_order) → DoesRow oracles mode maildrop a b met word argument
+row_out_of_order oracles mode maildrop a b met word argument (inl is) replies = rw is (AsksAndReplies-replies a b met (reply_octets oracles out_of_order) replies)
+row_out_of_order oracles mode maildrop a b met word argument (inr (inl is)) replies = rw is (AsksAndReplies-replies a b met (reply_octets oracles out_of_order) replies)
+row_out_of_order oracles mode maildrop a b met word argument (inr (inr is)) replies = rw is (AsksAndReplies-replies a b met (reply_octets oracles out_of_order) replies)
 
 -- ---- LIST, UIDL and RETR of one message
 
@@ -160,18 +160,18 @@ abbrev pub NamesOne : Keyword → Type 0
 NamesOne word = (word ≡ keyword.List) ⊎ (word ≡ keyword.Uidl) ⊎ (word ≡ keyword.Retr)
 
 -- the text is no number
-pub one_unread : (meanings : Meanings) (mode : Mode) (maildrop : List MaildropMessage) (a b : Around) (met : Option Fault) (word : Keyword) (text : List ℕ) → NamesOne word → number_of text ≡ None
-    → Replies a b met (reply_octets meanings syntax_error) → DoesRow meanings mode maildrop a b met word (Some text)
-one_unread meanings mode maildrop a b met word text (inl is) none replies = rw (is, none) (AsksAndReplies-replies a b met (reply_octets meanings syntax_error) replies)
-one_unread meanings mode maildrop a b met word text (inr (inl is)) none replies = rw is (rw none (AsksAndReplies-replies a b met (reply_octets meanings syntax_error) replies))
-one_unread meanings mode maildrop a b met word text (inr (inr is)) none replies = rw (is, none) (AsksAndReplies-replies a b met (reply_octets meanings syntax_error) replies)
+pub one_unread : (oracles : Oracles) (mode : Mode) (maildrop : List MaildropMessage) (a b : Around) (met : Option Fault) (word : Keyword) (text : List ℕ) → NamesOne word → number_of text ≡ None
+    → Replies a b met (reply_octets oracles syntax_error) → DoesRow oracles mode maildrop a b met word (Some text)
+one_unread oracles mode maildrop a b met word text (inl is) none replies = rw (is, none) (AsksAndReplies-replies a b met (reply_octets oracles syntax_error) replies)
+one_unread oracles mode maildrop a b met word text (inr (inl is)) none replies = rw is (rw none (AsksAndReplies-replies a b met (reply_octets oracles syntax_error) replies))
+one_unread oracles mode maildrop a b met word text (inr (inr is)) none replies = rw (is, none) (AsksAndReplies-replies a b met (reply_octets oracles syntax_error) replies)
 
 -- there is no such message
-pub one_missing : (meanings : Meanings) (mode : Mode) (maildrop : List MaildropMessage) (a b : Around) (met : Option Fault) (word : Keyword) (text : List ℕ) (n : ℕ) → NamesOne word → number_of text ≡ Some n
-    → listed_at maildrop n ≡ None → Replies a b met (reply_octets meanings no_such_message) → DoesRow meanings mode maildrop a b met word (Some text)
-one_missing meanings mode maildrop a b met word text n (inl is) number none replies = rw (is, number, none) (AsksAndReplies-replies a b met (reply_octets meanings no_such_message) replies)
-one_missing meanings mode maildrop a b met word text n (inr (inl is)) number none replies = rw is (rw (number, none) (AsksAndReplies-replies a b met (reply_octets meanings no_such_message) replies))
-one_missing meanings mode maildrop a b met word text n (inr (inr is)) number none replies = rw (is, number, none) (AsksAndReplies-replies a b met (reply_octets meanings no_such_message) replies)
+pub one_missing : (oracles : Oracles) (mode : Mode) (maildrop : List MaildropMessage) (a b : Around) (met : Option Fault) (word : Keyword) (text : List ℕ) (n : ℕ) → NamesOne word → number_of text ≡ Some n
+    → listed_at maildrop n ≡ None → Replies a b met (reply_octets oracles no_such_message) → DoesRow oracles mode maildrop a b met word (Some text)
+one_missing oracles mode maildrop a b met word text n (inl is) number none replies = rw (is, number, none) (AsksAndReplies-replies a b met (reply_octets oracles no_such_message) replies)
+one_missing oracles mode maildrop a b met word text n (inr (inl is)) number none replies = rw is (rw (number, none) (AsksAndReplies-replies a b met (reply_octets oracles no_such_message) replies))
+one_missing oracles mode maildrop a b met word text n (inr (inr is)) number none replies = rw (is, number, none) (AsksAndReplies-replies a b met (reply_octets oracles no_such_message) replies)
 
 -- ---- rows without a reply of their own
 
@@ -190,27 +190,27 @@ has_reply keyword.Top (Some text) = true
 has_reply word argument = false
 
 -- else it is a syntax error
-pub no_reply : (meanings : Meanings) (mode : Mode) (maildrop : List MaildropMessage) (a b : Around) (met : Option Fault) (word : Keyword) (argument : Option (List ℕ)) → has_reply word argument ≡ false
-    → Replies a b met (reply_octets meanings syntax_error) → DoesRow meanings mode maildrop a b met word argument
-no_reply meanings mode maildrop a b met keyword.Capa None none replies = cc
-no_reply meanings mode maildrop a b met keyword.Capa (Some text) none replies = AsksAndReplies-replies a b met (reply_octets meanings syntax_error) replies
-no_reply meanings mode maildrop a b met keyword.Utf8 argument none replies = cc
-no_reply meanings mode maildrop a b met keyword.User argument none replies = cc
-no_reply meanings mode maildrop a b met keyword.Pass argument none replies = cc
-no_reply meanings mode maildrop a b met keyword.Quit argument none replies = AsksAndReplies-replies a b met (reply_octets meanings syntax_error) replies
-no_reply meanings mode maildrop a b met keyword.Stat None none replies = cc
-no_reply meanings mode maildrop a b met keyword.Stat (Some text) none replies = AsksAndReplies-replies a b met (reply_octets meanings syntax_error) replies
-no_reply meanings mode maildrop a b met keyword.List argument none replies = cc
-no_reply meanings mode maildrop a b met keyword.Uidl argument none replies = cc
-no_reply meanings mode maildrop a b met keyword.Retr None none replies = AsksAndReplies-replies a b met (reply_octets meanings syntax_error) replies
-no_reply meanings mode maildrop a b met keyword.Retr (Some text) none replies = cc
-no_reply meanings mode maildrop a b met keyword.Top None none replies = AsksAndReplies-replies a b met (reply_octets meanings syntax_error) replies
-no_reply meanings mode maildrop a b met keyword.Top (Some text) none replies = cc
-no_reply meanings mode maildrop a b met keyword.Dele argument none replies = AsksAndReplies-replies a b met (reply_octets meanings syntax_error) replies
-no_reply meanings mode maildrop a b met keyword.Rset argument none replies = AsksAndReplies-replies a b met (reply_octets meanings syntax_error) replies
-no_reply meanings mode maildrop a b met keyword.Noop None none replies = cc
-no_reply meanings mode maildrop a b met keyword.Noop (Some text) none replies = AsksAndReplies-replies a b met (reply_octets meanings syntax_error) replies
-no_reply meanings mode maildrop a b met keyword.Other argument none replies = AsksAndReplies-replies a b met (reply_octets meanings syntax_error) replies
+pub no_reply : (oracles : Oracles) (mode : Mode) (maildrop : List MaildropMessage) (a b : Around) (met : Option Fault) (word : Keyword) (argument : Option (List ℕ)) → has_reply word argument ≡ false
+    → Replies a b met (reply_octets oracles syntax_error) → DoesRow oracles mode maildrop a b met word argument
+no_reply oracles mode maildrop a b met keyword.Capa None none replies = cc
+no_reply oracles mode maildrop a b met keyword.Capa (Some text) none replies = AsksAndReplies-replies a b met (reply_octets oracles syntax_error) replies
+no_reply oracles mode maildrop a b met keyword.Utf8 argument none replies = cc
+no_reply oracles mode maildrop a b met keyword.User argument none replies = cc
+no_reply oracles mode maildrop a b met keyword.Pass argument none replies = cc
+no_reply oracles mode maildrop a b met keyword.Quit argument none replies = AsksAndReplies-replies a b met (reply_octets oracles syntax_error) replies
+no_reply oracles mode maildrop a b met keyword.Stat None none replies = cc
+no_reply oracles mode maildrop a b met keyword.Stat (Some text) none replies = AsksAndReplies-replies a b met (reply_octets oracles syntax_error) replies
+no_reply oracles mode maildrop a b met keyword.List argument none replies = cc
+no_reply oracles mode maildrop a b met keyword.Uidl argument none replies = cc
+no_reply oracles mode maildrop a b met keyword.Retr None none replies = AsksAndReplies-replies a b met (reply_octets oracles syntax_error) replies
+no_reply oracles mode maildrop a b met keyword.Retr (Some text) none replies = cc
+no_reply oracles mode maildrop a b met keyword.Top None none replies = AsksAndReplies-replies a b met (reply_octets oracles syntax_error) replies
+no_reply oracles mode maildrop a b met keyword.Top (Some text) none replies = cc
+no_reply oracles mode maildrop a b met keyword.Dele argument none replies = AsksAndReplies-replies a b met (reply_octets oracles syntax_error) replies
+no_reply oracles mode maildrop a b met keyword.Rset argument none replies = AsksAndReplies-replies a b met (reply_octets oracles syntax_error) replies
+no_reply oracles mode maildrop a b met keyword.Noop None none replies = cc
+no_reply oracles mode maildrop a b met keyword.Noop (Some text) none replies = AsksAndReplies-replies a b met (reply_octets oracles syntax_error) replies
+no_reply oracles mode maildrop a b met keyword.Other argument none replies = AsksAndReplies-replies a b met (reply_octets oracles syntax_error) replies
 
 -- ---- TOP
 

@@ -50,14 +50,14 @@ octet_first : (place : Place) (x : ℕ) (rest : List ℕ) (b : Bool) → needs_d
 octet_first place x rest true is = rw is refl
 octet_first place x rest false is = rw is refl
 
-none_behind : (x : ℕ) (rest : List ℕ) → HasNoLfDot (x ∷ rest) → HasNoLfDot rest
-none_behind x rest none at lf dot = let next : suc at + 1 ≡ suc (at + 1) = omega arith in none (suc at) lf (rw next dot)
+none_following : (x : ℕ) (rest : List ℕ) → HasNoLfDot (x ∷ rest) → HasNoLfDot rest
+none_following x rest none at lf dot = let next : suc at + 1 ≡ suc (at + 1) = omega arith in none (suc at) lf (rw next dot)
 
 pub plain : (place : Place) (octets : List ℕ) → HasNoLfDot octets → stuffed_from place octets ≡ dot_before place octets ++ octets
 plain place [] none = refl
 plain place (x ∷ []) none = octet_first place x [] (needs_dot place x) refl
 plain place (x ∷ y ∷ rest) none =
-    let next = plain (next_place place x) (y ∷ rest) (none_behind x (y ∷ rest) none) in
+    let next = plain (next_place place x) (y ∷ rest) (none_following x (y ∷ rest) none) in
     let second = second_by place x y rest none (is_start (next_place place x)) (y == 46) refl refl in
     ap (λ more. stuffed_octet place x ++ more) (next ∙ ap (λ dots. dots ++ y ∷ rest) second) ∙ octet_first place x (y ∷ rest) (needs_dot place x) refl
 
@@ -121,10 +121,10 @@ run_last xs none = none_before xs (length xs) (λ place lt stands. none place (o
 -- a run with its dot, and what is behind it
 pub run_split : (place after : Place) (rest run others : List ℕ) (n : ℕ) → run ≡ take n rest → others ≡ drop n rest → length run ≡ n → 0 < n → HasNoLfDot (take n rest) → after ≡ place_after place run
     → (dot_before place rest ++ run) ++ stuffed_from after others ≡ stuffed_from place rest
-run_split place after rest run others n front back long some none behind =
+run_split place after rest run others n front back long some none following =
     let split : run ++ others ≡ rest = rw (front, back) (take-append-drop n rest) in
     let first = run_first place run others (omega (arith, long, some)) (rw front none) in
-    rw behind (append_assoc (dot_before place rest) run (stuffed_from (place_after place run) others) ∙ sym (rw split at first))
+    rw following (append_assoc (dot_before place rest) run (stuffed_from (place_after place run) others) ∙ sym (rw split at first))
 
 -- the dot comes first
 pub dot_first : (place : Place) (rest : List ℕ) → (more : List ℕ) × (dot_before place rest ++ more ≡ stuffed_from place rest)
@@ -136,6 +136,6 @@ dot_first place (x ∷ rest) =
 -- the place of one turn
 pub place_goes_on : (place after last : Place) (rest run others : List ℕ) (n : ℕ) → run ≡ take n rest → others ≡ drop n rest → after ≡ place_after place run
     → place_after place rest ≡ last → place_after after others ≡ last
-place_goes_on place after last rest run others n front back behind so_far =
+place_goes_on place after last rest run others n front back following so_far =
     let split : run ++ others ≡ rest = rw (front, back) (take-append-drop n rest) in
-    rw behind (sym (place_after-append place run others) ∙ ap (place_after place) split ∙ so_far)
+    rw following (sym (place_after-append place run others) ∙ ap (place_after place) split ∙ so_far)

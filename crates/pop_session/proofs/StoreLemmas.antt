@@ -7,7 +7,7 @@ use Rattle.mail_wire.specs.Framing.{Framed, waiting, whole, too_long}
 use Rattle.surrogate_cache.specs.Caching.{Asked}
 use Rattle.session_core.specs.Acts.{Act, acts_of, asking, changes_in}
 use Rattle.session_core.specs.Grammar.{cut_by, turn_by, turn_in}
-use Rattle.session_core.specs.Meanings.{Meanings}
+use Rattle.session_core.specs.Oracles.{Oracles}
 use Rattle.session_core.specs.Turns.{Turn}
 use Rattle.session_core.specs.declared.rows.Wants.{Wants}
 use Rattle.session_core.proofs.DoneLemmas.{changes_in-acts, changes_in-asking}
@@ -25,21 +25,21 @@ with_changes : (store : StoreState) (asked : List Asked) (made : List (List Reco
 with_changes store asked made reply =
     ap (λ (changes : List (List Record)). with_records store (records_of changes)) (sym (changes_in-asking asked (acts_of made reply) ∙ changes_in-acts made reply))
 
-unit_tracks : (meanings : Meanings) (machine : Machine) (framed : Framed) (turn : Turn Machine (Act ReplyPart)) → turn_by pop_grammar meanings machine framed ≡ Some turn → Tracks (λ (m : Machine). m.store) machine turn
-unit_tracks meanings machine waiting turn is = cc
-unit_tracks meanings machine (whole text rest) turn is =
+unit_tracks : (oracles : Oracles) (machine : Machine) (framed : Framed) (turn : Turn Machine (Act ReplyPart)) → turn_by pop_grammar oracles machine framed ≡ Some turn → Tracks (λ (m : Machine). m.store) machine turn
+unit_tracks oracles machine waiting turn is = cc
+unit_tracks oracles machine (whole text rest) turn is =
     let asked = asked_of machine.state machine.store (command_of text) in
-    let taken = step meanings machine.state machine.store (command_of text) in
+    let taken = step oracles machine.state machine.store (command_of text) in
     subst (λ (t : Turn Machine (Act ReplyPart)). Tracks (λ (m : Machine). m.store) machine t) (unsome is) (with_changes machine.store asked taken.changes taken.reply)
-unit_tracks meanings machine (too_long rest) turn is =
+unit_tracks oracles machine (too_long rest) turn is =
     subst (λ (t : Turn Machine (Act ReplyPart)). Tracks (λ (m : Machine). m.store) machine t) (unsome is) (with_changes machine.store [] [] line_too_long)
 
-turn_tracks : (meanings : Meanings) (machine : Machine) (want : Option Wants) (octets : List ℕ) (turn : Turn Machine (Act ReplyPart)) → turn_in pop_grammar meanings machine want octets ≡ Some turn
+turn_tracks : (oracles : Oracles) (machine : Machine) (want : Option Wants) (octets : List ℕ) (turn : Turn Machine (Act ReplyPart)) → turn_in pop_grammar oracles machine want octets ≡ Some turn
     → Tracks (λ (m : Machine). m.store) machine turn
-turn_tracks meanings machine None octets turn is = cc
-turn_tracks meanings machine (Some want) octets turn is = unit_tracks meanings machine (cut_by want octets) turn is
+turn_tracks oracles machine None octets turn is = cc
+turn_tracks oracles machine (Some want) octets turn is = unit_tracks oracles machine (cut_by want octets) turn is
 
-pub stream_store : (meanings : Meanings) (machine : Machine) (octets : List ℕ)
-    → (turns_of meanings machine octets).after.store ≡ with_records machine.store (records_of (changes_in (turns_of meanings machine octets).parts))
-stream_store meanings machine octets =
-    all_track (pop_protocol.next meanings) (λ (m : Machine). m.store) (λ m text turn is. turn_tracks meanings m (wants_in m.state) text turn is) machine octets
+pub stream_store : (oracles : Oracles) (machine : Machine) (octets : List ℕ)
+    → (turns_of oracles machine octets).after.store ≡ with_records machine.store (records_of (changes_in (turns_of oracles machine octets).parts))
+stream_store oracles machine octets =
+    all_track (pop_protocol.next oracles) (λ (m : Machine). m.store) (λ m text turn is. turn_tracks oracles m (wants_in m.state) text turn is) machine octets

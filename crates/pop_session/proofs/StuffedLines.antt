@@ -23,8 +23,8 @@ stuffed-crlf AfterCr = refl
 stuffed-crlf Within = refl
 
 -- octets that end with CRLF are stuffed with it
-crlf_behind : (octets : List ℕ) → stuffed octets ++ crlf ≡ stuffed (octets ++ crlf)
-crlf_behind octets =
+crlf_after : (octets : List ℕ) → stuffed octets ++ crlf ≡ stuffed (octets ++ crlf)
+crlf_after octets =
     ap (λ front. front ++ crlf) (stuffed-from octets) ∙ ap (λ back. stuffed_from LineStart octets ++ back) (sym (stuffed-crlf (place_after LineStart octets)))
     ∙ sym (stuffed_from-append LineStart octets crlf) ∙ sym (stuffed-from (octets ++ crlf))
 
@@ -34,7 +34,7 @@ multi_line-stuffed octets = by (are_complete octets) refl
   where
     by : (b : Bool) → are_complete octets ≡ b → multi_line octets ≡ stuffed (octets ++ missing_end octets)
     by true is = rw (is, append-nil octets) (append-nil (stuffed octets))
-    by false is = rw is (crlf_behind octets)
+    by false is = rw is (crlf_after octets)
 
 lines_of-multi_line : (octets : List ℕ) → lines_of (multi_line octets) ≡ map stuffed_line (lines_of (octets ++ missing_end octets))
 lines_of-multi_line octets = ap lines_of (multi_line-stuffed octets) ∙ lines_of-stuffed (octets ++ missing_end octets)
@@ -88,25 +88,25 @@ unfolding are_complete
 complete_next x y [] apart complete = cc
 complete_next x y (z ∷ rest) apart complete = complete
 
-behind_by : (x y : ℕ) (rest more : List ℕ) → are_complete (x ∷ y ∷ rest) ≡ true → (are_complete (y ∷ rest) ≡ true → lines_of (y ∷ (rest ++ more)) ≡ lines_of (y ∷ rest) ++ lines_of more)
+following_by : (x y : ℕ) (rest more : List ℕ) → are_complete (x ∷ y ∷ rest) ≡ true → (are_complete (y ∷ rest) ≡ true → lines_of (y ∷ (rest ++ more)) ≡ lines_of (y ∷ rest) ++ lines_of more)
     → (are_complete rest ≡ true → lines_of (rest ++ more) ≡ lines_of rest ++ lines_of more) → (b : Bool) → is_crlf x y ≡ b
     → lines_of (x ∷ y ∷ (rest ++ more)) ≡ lines_of (x ∷ y ∷ rest) ++ lines_of more
-behind_by x y rest more complete next after true is =
+following_by x y rest more complete next after true is =
     lines_of-crlf x y (rest ++ more) is ∙ ap (λ (lines : List (List ℕ)). crlf ∷ lines) (after (complete_after x y rest is complete))
     ∙ ap (λ (lines : List (List ℕ)). lines ++ lines_of more) (sym (lines_of-crlf x y rest is))
-behind_by x y rest more complete next after false is =
+following_by x y rest more complete next after false is =
     let first = begins y rest in
     let here : lines_of (y ∷ (rest ++ more)) ≡ ((y ∷ first.line) ∷ first.lines) ++ lines_of more = next (complete_next x y rest is complete) ∙ ap (λ (lines : List (List ℕ)). lines ++ lines_of more) first.split in
     lines_of-other x y (rest ++ more) is ∙ ap (put_before x) here
     ∙ ap (λ (lines : List (List ℕ)). lines ++ lines_of more) (sym (lines_of-other x y rest is ∙ ap (put_before x) first.split))
 
 -- behind complete octets a line begins
-behind_complete : (octets more : List ℕ) → are_complete octets ≡ true → lines_of (octets ++ more) ≡ lines_of octets ++ lines_of more
+after_complete : (octets more : List ℕ) → are_complete octets ≡ true → lines_of (octets ++ more) ≡ lines_of octets ++ lines_of more
 unfolding lines_of are_complete
-behind_complete [] more complete = refl
-behind_complete (x ∷ []) more complete = cc
-behind_complete (x ∷ y ∷ rest) more complete =
-    behind_by x y rest more complete (λ next. behind_complete (y ∷ rest) more next) (λ after. behind_complete rest more after) (is_crlf x y) refl
+after_complete [] more complete = refl
+after_complete (x ∷ []) more complete = cc
+after_complete (x ∷ y ∷ rest) more complete =
+    following_by x y rest more complete (λ next. after_complete (y ∷ rest) more next) (λ after. after_complete rest more after) (is_crlf x y) refl
 
 -- the place behind stuffed octets that begin a line
 place_by : (x : ℕ) (rest : List ℕ) → place_after Within (stuffed_from Within rest) ≡ place_after Within rest
@@ -140,5 +140,5 @@ unfolding lines_of
 end_line = refl
 
 -- the line that ends the reply stands behind the message's lines
-pub line_behind : (octets : List ℕ) → lines_of (multi_line octets ++ codes ".\r\n") ≡ lines_of (multi_line octets) ++ codes ".\r\n" ∷ []
-line_behind octets = behind_complete (multi_line octets) (codes ".\r\n") (complete_multi_line octets) ∙ ap (λ (lines : List (List ℕ)). lines_of (multi_line octets) ++ lines) end_line
+pub line_after : (octets : List ℕ) → lines_of (multi_line octets ++ codes ".\r\n") ≡ lines_of (multi_line octets) ++ codes ".\r\n" ∷ []
+line_after octets = after_complete (multi_line octets) (codes ".\r\n") (complete_multi_line octets) ∙ ap (λ (lines : List (List ℕ)). lines_of (multi_line octets) ++ lines) end_line

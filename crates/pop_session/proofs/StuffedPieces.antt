@@ -2,7 +2,7 @@
 use Rattle.std.proofs.Common.{◌≡◌, ◌<◌, ◌≤◌, ◌+◌, ◌-◌, ℕ, zero, suc, List, [], ◌∷◌, ◌++◌, length, take, drop, min, refl, sym, ap, ◌∙◌, arith, append-nil, append_assoc, Result, cond, codes, Bool}
 use Rattle.std.proofs.lemmas.List.{take-append-drop, take-append-le, drop-take, drop-drop, length-take, length-drop, drop_all}
 use Rattle.mail_wire.specs.Lines.{crlf}
-use Rattle.mail_wire.specs.Telling.{Telling}
+use Rattle.mail_wire.specs.WireState.{WireState}
 use Rattle.mail_wire.specs.Moves.{Gives, GivesPrefix, GivesOrFails, GoesOn}
 use Rattle.mail_wire.proofs.Moving.{Gives-trans, Gives-prefix, GivesPrefix-more, GivesOrFails-after, Gives-nil, GoesOn-nil, GoesOn-trans}
 use Rattle.pop_session.specs.declared.stuffing.Place.{Place}
@@ -16,17 +16,17 @@ use Rattle.pop_session.proofs.RunLemmas.{last_two}
 -- ---- what was given so far
 
 -- Of octets that are to be given a front was given, and these, stuffed from this place on, are left.
-pub record HasGiven (before now : Telling) (whole : List ℕ) (place : Place) (rest : List ℕ) : Type 0 where
+pub record HasGiven (before now : WireState) (whole : List ℕ) (place : Place) (rest : List ℕ) : Type 0 where
   pub given : List ℕ
   pub gives : Gives before now given
   pub left : given ++ stuffed_from place rest ≡ whole
   pub on : GoesOn before now
 
-pub nothing_given : (a : Telling) (place : Place) (octets : List ℕ) → HasGiven a a (stuffed_from place octets) place octets
+pub nothing_given : (a : WireState) (place : Place) (octets : List ℕ) → HasGiven a a (stuffed_from place octets) place octets
 nothing_given a place octets = record { given = []; gives = Gives-nil a; left = refl; on = GoesOn-nil a }
 
 -- more was given
-pub more_given : (a b c : Telling) (whole made : List ℕ) (place after : Place) (rest others : List ℕ) → HasGiven a b whole place rest → Gives b c made → GoesOn b c
+pub more_given : (a b c : WireState) (whole made : List ℕ) (place after : Place) (rest others : List ℕ) → HasGiven a b whole place rest → Gives b c made → GoesOn b c
     → made ++ stuffed_from after others ≡ stuffed_from place rest → HasGiven a c whole after others
 more_given a b c whole made place after rest others so_far gives on split = record {
   given = so_far.given ++ made;
@@ -36,14 +36,14 @@ more_given a b c whole made place after rest others so_far gives on split = reco
 }
 
 -- a failure in what is given next
-pub broken_off : (a b c : Telling) (whole made more : List ℕ) (place : Place) (rest : List ℕ) → HasGiven a b whole place rest → GivesPrefix b c made → made ++ more ≡ stuffed_from place rest
+pub broken_off : (a b c : WireState) (whole made more : List ℕ) (place : Place) (rest : List ℕ) → HasGiven a b whole place rest → GivesPrefix b c made → made ++ more ≡ stuffed_from place rest
     → GivesPrefix a c whole
 broken_off a b c whole made more place rest so_far gives split =
     let all : so_far.given ++ (made ++ more) ≡ whole = ap (λ back. so_far.given ++ back) split ∙ so_far.left in
     rw all at (Gives-prefix a b c so_far.given (made ++ more) so_far.gives (GivesPrefix-more b c made more gives))
 
 -- nothing is left
-pub all_given : (a b : Telling) (whole : List ℕ) (place : Place) (rest : List ℕ) → HasGiven a b whole place rest → rest ≡ [] → Gives a b whole
+pub all_given : (a b : WireState) (whole : List ℕ) (place : Place) (rest : List ℕ) → HasGiven a b whole place rest → rest ≡ [] → Gives a b whole
 all_given a b whole place rest so_far none =
     let all : so_far.given ≡ whole = sym (append-nil so_far.given) ∙ (rw none at so_far.left) in
     rw all at so_far.gives
@@ -75,7 +75,7 @@ next_of_range shown run piece at len given count stands low cut is =
 
 -- a piece and what is behind it
 pub piece_split : (place after : Place) (rest piece others : List ℕ) → piece ++ others ≡ rest → after ≡ place_after place piece → stuffed_from place piece ++ stuffed_from after others ≡ stuffed_from place rest
-piece_split place after rest piece others split behind = rw behind (sym (stuffed_from-append place piece others) ∙ ap (stuffed_from place) split)
+piece_split place after rest piece others split following = rw following (sym (stuffed_from-append place piece others) ∙ ap (stuffed_from place) split)
 
 -- at the end of a range nothing is left of it
 pub range_end : (octets : List ℕ) (len given : ℕ) → len ≤ given → drop given (take len octets) ≡ []
@@ -116,7 +116,7 @@ last_place shown old buffer piece (suc (suc m)) count low two read filled is =
     ap (place_after LineStart) ends ∙ two_last (take m shown) (take 2 (drop m shown)) long ∙ ap (place_after LineStart) (sym (take_cut m shown))
 
 -- behind the stuffed lines the end is given
-pub end_given : {T E : Type 0} (a b c : Telling) (result : Result T E) (octets end : List ℕ) (place : Place) → Gives a b (stuffed octets) → place ≡ place_after LineStart octets
+pub end_given : {T E : Type 0} (a b c : WireState) (result : Result T E) (octets end : List ℕ) (place : Place) → Gives a b (stuffed octets) → place ≡ place_after LineStart octets
     → end ≡ cond (is_start place) [] crlf ++ codes ".\r\n" → GivesOrFails b c result end → GivesOrFails a c result (ended_lines octets)
 end_given a b c result octets end place gave here is gives =
     let complete : is_start place ≡ are_complete octets = ap is_start here ∙ are_complete-from octets in
@@ -125,5 +125,5 @@ end_given a b c result octets end place gave here is gives =
     rw whole at (GivesOrFails-after a b c result (stuffed octets) end gave gives)
 
 -- a failure in the stuffed lines
-pub lines_broken_off : (a b : Telling) (octets : List ℕ) → GivesPrefix a b (stuffed octets) → GivesPrefix a b (ended_lines octets)
+pub lines_broken_off : (a b : WireState) (octets : List ℕ) → GivesPrefix a b (stuffed octets) → GivesPrefix a b (ended_lines octets)
 lines_broken_off a b octets gives = GivesPrefix-more a b (stuffed octets ++ missing_end octets) (codes ".\r\n") (GivesPrefix-more a b (stuffed octets) (missing_end octets) gives)

@@ -2,6 +2,7 @@
 use Rattle.std.specs.Prelude.{ℕ, ◌+◌, ◌-◌, ◌==◌, List, [], ◌∷◌, Bool, Option, None, Some, length, take, drop, codes, unwrap_or, option_and_then, position}
 use Rattle.std.specs.List.{before_first}
 use Rattle.std.specs.Option.{option_map}
+use Rattle.mail_wire.specs.Characters.{space}
 use Rattle.mail_wire.specs.Numbers.{number_of}
 use Rattle.mail_wire.specs.Tables.{Named, said_by}
 use Rattle.pop_session.specs.declared.command.Keyword.{Keyword}
@@ -36,7 +37,7 @@ keyword_of word = unwrap_or (said_by keywords word) keyword.Other
 
 -- A space, which divides a keyword from its argument (RFC 1939, 3).
 abbrev pub is_space : ℕ → Bool
-is_space x = x == 32
+is_space x = x == space
 
 -- the line without its CRLF
 abbrev pub text_of : List ℕ → List ℕ

@@ -9,7 +9,7 @@ use Rattle.mail_store.specs.StoreState.{StoreState}
 use Rattle.surrogate_cache.specs.Caching.{Asked}
 use Rattle.surrogate_cache.specs.Served.{Mode, enabled}
 use Rattle.session_core.specs.Desks.{stored_octets}
-use Rattle.session_core.specs.Meanings.{Meanings}
+use Rattle.session_core.specs.Oracles.{Oracles}
 use Rattle.pop_session.specs.declared.command.Keyword.{Keyword}
 use Rattle.pop_session.specs.declared.command.Keyword.TheVariants as keyword
 use Rattle.pop_session.specs.declared.states.MaildropMessage.{MaildropMessage}
@@ -22,13 +22,13 @@ use Rattle.pop_session.specs.Session.{Machine, after_step}
 -- ---- the commands that are done
 
 -- the machine behind a command
-abbrev pub after_command : Meanings → Machine → Command → Machine
-after_command meanings machine command = after_step machine.store (step meanings machine.state machine.store command)
+abbrev pub after_command : Oracles → Machine → Command → Machine
+after_command oracles machine command = after_step machine.store (step oracles machine.state machine.store command)
 
 -- the machine behind these commands
-abbrev pub after_commands : Meanings → Machine → List Command → Machine
-after_commands meanings machine [] = machine
-after_commands meanings machine (command ∷ commands) = after_commands meanings (after_command meanings machine command) commands
+abbrev pub after_commands : Oracles → Machine → List Command → Machine
+after_commands oracles machine [] = machine
+after_commands oracles machine (command ∷ commands) = after_commands oracles (after_command oracles machine command) commands
 
 -- the command of a line, and more behind it
 abbrev pub commands_by : (List ℕ → List Command) → Framed → List Command
@@ -65,14 +65,14 @@ enables (transaction mode maildrop) command = false
 enables ended command = false
 
 -- One of these commands enables UTF-8.
-abbrev pub some_enables : Meanings → Machine → List Command → Bool
-some_enables meanings machine [] = false
-some_enables meanings machine (command ∷ commands) = enables machine.state command || some_enables meanings (after_command meanings machine command) commands
+abbrev pub some_enables : Oracles → Machine → List Command → Bool
+some_enables oracles machine [] = false
+some_enables oracles machine (command ∷ commands) = enables machine.state command || some_enables oracles (after_command oracles machine command) commands
 
 -- the mode behind commands one of which asks for UTF-8, or none does
-abbrev pub mode_behind : Bool → Mode → Mode
-mode_behind true mode = enabled
-mode_behind false mode = mode
+abbrev pub mode_after : Bool → Mode → Mode
+mode_after true mode = enabled
+mode_after false mode = mode
 
 -- ---- the marks
 
@@ -122,10 +122,10 @@ IsMarked mode listing marks ended = Unit {0}
 -- ---- the messages that are asked for
 
 -- the messages that these commands ask for, in their order
-abbrev pub asked_by_commands : Meanings → Machine → List Command → List Asked
-asked_by_commands meanings machine [] = []
-asked_by_commands meanings machine (command ∷ commands) =
-    asked_of machine.state machine.store command ++ asked_by_commands meanings (after_command meanings machine command) commands
+abbrev pub asked_by_commands : Oracles → Machine → List Command → List Asked
+asked_by_commands oracles machine [] = []
+asked_by_commands oracles machine (command ∷ commands) =
+    asked_of machine.state machine.store command ++ asked_by_commands oracles (after_command oracles machine command) commands
 
 -- STAT, or LIST of all messages
 abbrev pub TellsSizes : Command → Type 0

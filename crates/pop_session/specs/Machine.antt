@@ -13,7 +13,7 @@ use Rattle.mail_store.specs.StoreState.{StoreState}
 use Rattle.journal_records.specs.declared.records.Record.{Record}
 use Rattle.surrogate_cache.specs.Caching.{Asked, asked_by}
 use Rattle.surrogate_cache.specs.Served.{Mode, enabled, served_by}
-use Rattle.session_core.specs.Meanings.{Meanings}
+use Rattle.session_core.specs.Oracles.{Oracles}
 use Rattle.pop_session.specs.declared.command.Keyword.{Keyword}
 use Rattle.pop_session.specs.declared.command.Keyword.TheVariants as keyword
 use Rattle.pop_session.specs.Commands.{Command, top_numbers_of}
@@ -83,8 +83,8 @@ abbrev pub listed_octets : StoreState → Listed → List ℕ
 listed_octets store one = stored_octets store one.id
 
 -- how many octets a session is served of a message
-abbrev pub size_of : Meanings → Mode → StoreState → Listed → ℕ
-size_of meanings mode store one = length (served_by meanings.surrogate mode (listed_octets store one))
+abbrev pub size_of : Oracles → Mode → StoreState → Listed → ℕ
+size_of oracles mode store one = length (served_by oracles.surrogate mode (listed_octets store one))
 
 -- two numbers behind a word
 abbrev pub two_numbers : List ℕ → ℕ → ℕ → List ℕ
@@ -123,9 +123,9 @@ listed_at maildrop (suc place) = option_and_then unless_deleted (slice_get maild
 -- ---- replies on messages
 
 -- how many messages, and the sum of their sizes
-abbrev pub stat_reply : Meanings → Mode → StoreState → List MaildropMessage → List ReplyPart
-stat_reply meanings mode store maildrop =
-    says (two_numbers (codes "+OK ") (length (left_of maildrop)) (sum_by (size_of meanings mode store) (left_of maildrop)))
+abbrev pub stat_reply : Oracles → Mode → StoreState → List MaildropMessage → List ReplyPart
+stat_reply oracles mode store maildrop =
+    says (two_numbers (codes "+OK ") (length (left_of maildrop)) (sum_by (size_of oracles mode store) (left_of maildrop)))
 
 -- what UIDL tells of a message, behind its number; LIST tells its size
 abbrev pub uid_row : Listed → ℕ
@@ -147,9 +147,9 @@ abbrev pub listing_one_reply : (Listed → ℕ) → ℕ → Listed → List Repl
 listing_one_reply row number one = says (two_numbers (codes "+OK ") number (row one))
 
 -- The reply of RETR: what the session is served of the message, and a dot (RFC 1939, 5).
-abbrev pub retr_reply : Meanings → Mode → StoreState → ℕ → Listed → List ReplyPart
-retr_reply meanings mode store number one =
-    line (codes "+OK") ∷ shown (listed_octets store one) mode 0 (size_of meanings mode store one) ∷ line (codes ".") ∷ []
+abbrev pub retr_reply : Oracles → Mode → StoreState → ℕ → Listed → List ReplyPart
+retr_reply oracles mode store number one =
+    line (codes "+OK") ∷ shown (listed_octets store one) mode 0 (size_of oracles mode store one) ∷ line (codes ".") ∷ []
 
 -- the lines up to the first empty one, and so many lines behind it
 abbrev pub top_lines : ℕ → List (List ℕ) → List (List ℕ)
@@ -161,9 +161,9 @@ abbrev pub top_length : ℕ → List ℕ → ℕ
 top_length n octets = sum_by length (top_lines n (lines_of octets))
 
 -- The reply of TOP: the header, the empty line and so many lines of what the session is served, and a dot (RFC 1939, 7).
-abbrev pub top_reply : Meanings → Mode → StoreState → ℕ → ℕ → Listed → List ReplyPart
-top_reply meanings mode store lines number one =
-    line (codes "+OK") ∷ shown (listed_octets store one) mode 0 (top_length lines (served_by meanings.surrogate mode (listed_octets store one)))
+abbrev pub top_reply : Oracles → Mode → StoreState → ℕ → ℕ → Listed → List ReplyPart
+top_reply oracles mode store lines number one =
+    line (codes "+OK") ∷ shown (listed_octets store one) mode 0 (top_length lines (served_by oracles.surrogate mode (listed_octets store one)))
     ∷ line (codes ".") ∷ []
 
 -- what this server can do (RFC 2449, 5; RFC 6856, 2)
@@ -223,37 +223,37 @@ is_of_transaction keyword.Noop = true
 is_of_transaction keyword = false
 
 -- the rows of AUTHORIZATION that are its own
-abbrev pub authorization_row : Meanings → Mode → Option (List ℕ) → StoreState → Keyword → Option (List ℕ) → Step
-authorization_row meanings mode user store keyword.Capa None = answers capabilities (authorization mode user)
-authorization_row meanings mode user store keyword.Utf8 None = answers done (authorization enabled user)
-authorization_row meanings mode user store keyword.User (Some (x ∷ name)) = answers done (authorization mode (Some (x ∷ name)))
-authorization_row meanings mode None store keyword.Pass (Some password) = answers out_of_order (authorization mode None)
-authorization_row meanings mode (Some name) store keyword.Pass (Some password) = pass_step mode store (logged_in meanings.path_of store.kept name password)
-authorization_row meanings mode user store keyword.Quit None = answers bye ended
-authorization_row meanings mode user store keyword argument = answers syntax_error (authorization mode user)
+abbrev pub authorization_row : Oracles → Mode → Option (List ℕ) → StoreState → Keyword → Option (List ℕ) → Step
+authorization_row oracles mode user store keyword.Capa None = answers capabilities (authorization mode user)
+authorization_row oracles mode user store keyword.Utf8 None = answers done (authorization enabled user)
+authorization_row oracles mode user store keyword.User (Some (x ∷ name)) = answers done (authorization mode (Some (x ∷ name)))
+authorization_row oracles mode None store keyword.Pass (Some password) = answers out_of_order (authorization mode None)
+authorization_row oracles mode (Some name) store keyword.Pass (Some password) = pass_step mode store (logged_in oracles.path_of store.kept name password)
+authorization_row oracles mode user store keyword.Quit None = answers bye ended
+authorization_row oracles mode user store keyword argument = answers syntax_error (authorization mode user)
 
 -- the rows of AUTHORIZATION
-abbrev pub authorization_step : Meanings → Mode → Option (List ℕ) → StoreState → Keyword → Option (List ℕ) → Step
-authorization_step meanings mode user store keyword argument =
+abbrev pub authorization_step : Oracles → Mode → Option (List ℕ) → StoreState → Keyword → Option (List ℕ) → Step
+authorization_step oracles mode user store keyword argument =
     if is_of_transaction keyword then answers out_of_order (authorization mode user)
-    else authorization_row meanings mode user store keyword argument
+    else authorization_row oracles mode user store keyword argument
 
 -- the replies of the rows of TRANSACTION that leave the state
-abbrev pub transaction_reply : Meanings → Mode → List MaildropMessage → StoreState → Keyword → Option (List ℕ) → List ReplyPart
-transaction_reply meanings mode maildrop store keyword.User argument = out_of_order
-transaction_reply meanings mode maildrop store keyword.Pass argument = out_of_order
-transaction_reply meanings mode maildrop store keyword.Utf8 argument = out_of_order
-transaction_reply meanings mode maildrop store keyword.Capa None = capabilities
-transaction_reply meanings mode maildrop store keyword.Noop None = done
-transaction_reply meanings mode maildrop store keyword.Stat None = stat_reply meanings mode store maildrop
-transaction_reply meanings mode maildrop store keyword.List None = listing_reply (size_of meanings mode store) maildrop
-transaction_reply meanings mode maildrop store keyword.List (Some number) =
-    of_number (listing_one_reply (size_of meanings mode store)) maildrop (number_of number)
-transaction_reply meanings mode maildrop store keyword.Uidl None = listing_reply uid_row maildrop
-transaction_reply meanings mode maildrop store keyword.Uidl (Some number) = of_number (listing_one_reply uid_row) maildrop (number_of number)
-transaction_reply meanings mode maildrop store keyword.Retr (Some number) = of_number (retr_reply meanings mode store) maildrop (number_of number)
-transaction_reply meanings mode maildrop store keyword.Top (Some numbers) = of_top (top_reply meanings mode store) maildrop (top_numbers_of numbers)
-transaction_reply meanings mode maildrop store keyword argument = syntax_error
+abbrev pub transaction_reply : Oracles → Mode → List MaildropMessage → StoreState → Keyword → Option (List ℕ) → List ReplyPart
+transaction_reply oracles mode maildrop store keyword.User argument = out_of_order
+transaction_reply oracles mode maildrop store keyword.Pass argument = out_of_order
+transaction_reply oracles mode maildrop store keyword.Utf8 argument = out_of_order
+transaction_reply oracles mode maildrop store keyword.Capa None = capabilities
+transaction_reply oracles mode maildrop store keyword.Noop None = done
+transaction_reply oracles mode maildrop store keyword.Stat None = stat_reply oracles mode store maildrop
+transaction_reply oracles mode maildrop store keyword.List None = listing_reply (size_of oracles mode store) maildrop
+transaction_reply oracles mode maildrop store keyword.List (Some number) =
+    of_number (listing_one_reply (size_of oracles mode store)) maildrop (number_of number)
+transaction_reply oracles mode maildrop store keyword.Uidl None = listing_reply uid_row maildrop
+transaction_reply oracles mode maildrop store keyword.Uidl (Some number) = of_number (listing_one_reply uid_row) maildrop (number_of number)
+transaction_reply oracles mode maildrop store keyword.Retr (Some number) = of_number (retr_reply oracles mode store) maildrop (number_of number)
+transaction_reply oracles mode maildrop store keyword.Top (Some numbers) = of_top (top_reply oracles mode store) maildrop (top_numbers_of numbers)
+transaction_reply oracles mode maildrop store keyword argument = syntax_error
 
 -- DELE marks the message of a number
 abbrev pub dele_message : Mode → List MaildropMessage → ℕ → Option Listed → Step
@@ -275,18 +275,18 @@ abbrev pub quit_step : List MaildropMessage → Step
 quit_step maildrop = record { changes = taken_out (deleted_ids maildrop); reply = bye; state = ended }
 
 -- the rows of TRANSACTION
-abbrev pub transaction_step : Meanings → Mode → List MaildropMessage → StoreState → Keyword → Option (List ℕ) → Step
-transaction_step meanings mode maildrop store keyword.Dele (Some number) = dele_step mode maildrop (number_of number)
-transaction_step meanings mode maildrop store keyword.Rset None = answers done (transaction mode (map (marked false) maildrop))
-transaction_step meanings mode maildrop store keyword.Quit None = quit_step maildrop
-transaction_step meanings mode maildrop store keyword argument =
-    answers (transaction_reply meanings mode maildrop store keyword argument) (transaction mode maildrop)
+abbrev pub transaction_step : Oracles → Mode → List MaildropMessage → StoreState → Keyword → Option (List ℕ) → Step
+transaction_step oracles mode maildrop store keyword.Dele (Some number) = dele_step mode maildrop (number_of number)
+transaction_step oracles mode maildrop store keyword.Rset None = answers done (transaction mode (map (marked false) maildrop))
+transaction_step oracles mode maildrop store keyword.Quit None = quit_step maildrop
+transaction_step oracles mode maildrop store keyword argument =
+    answers (transaction_reply oracles mode maildrop store keyword argument) (transaction mode maildrop)
 
 -- one command
-unfoldable pub step : Meanings → State → StoreState → Command → Step
-step meanings (authorization mode user) store command = authorization_step meanings mode user store command.keyword command.argument
-step meanings (transaction mode maildrop) store command = transaction_step meanings mode maildrop store command.keyword command.argument
-step meanings ended store command = answers [] ended
+unfoldable pub step : Oracles → State → StoreState → Command → Step
+step oracles (authorization mode user) store command = authorization_step oracles mode user store command.keyword command.argument
+step oracles (transaction mode maildrop) store command = transaction_step oracles mode maildrop store command.keyword command.argument
+step oracles ended store command = answers [] ended
 
 -- ---- what a command asks its cache for
 

@@ -6,7 +6,7 @@ use Rattle.mail_wire.specs.Lines.{crlf}
 use Rattle.mail_wire.specs.Octets.{is_ascii}
 use Rattle.surrogate_rope.specs.Layout.{HasSurrogate, HasAsciiBlocks}
 use Rattle.surrogate_cache.specs.Served.{legacy, enabled, served_by}
-use Rattle.session_core.specs.Meanings.{Meanings}
+use Rattle.session_core.specs.Oracles.{Oracles}
 use Rattle.pop_session.specs.Machine.{ReplyPart, line, shown}
 
 -- the octets of a message in a reply of many lines: each line stuffed, and the last one complete
@@ -18,20 +18,20 @@ abbrev pub ended_lines : List ℕ → List ℕ
 ended_lines octets = multi_line octets ++ codes ".\r\n"
 
 -- the octets of a part
-abbrev pub part_octets : Meanings → ReplyPart → List ℕ
-part_octets meanings (line octets) = octets ++ crlf
-part_octets meanings (shown msg mode at len) = multi_line (take len (drop at (served_by meanings.surrogate mode msg)))
+abbrev pub part_octets : Oracles → ReplyPart → List ℕ
+part_octets oracles (line octets) = octets ++ crlf
+part_octets oracles (shown msg mode at len) = multi_line (take len (drop at (served_by oracles.surrogate mode msg)))
 
 -- the octets of a reply
-abbrev pub reply_octets : Meanings → List ReplyPart → List ℕ
-reply_octets meanings parts = flat_map (part_octets meanings) parts
+abbrev pub reply_octets : Oracles → List ReplyPart → List ℕ
+reply_octets oracles parts = flat_map (part_octets oracles) parts
 
 -- A line is ASCII. What a legacy session is shown is a range of the message's surrogate, all of whose header blocks are ASCII.
-abbrev pub IsFit : Meanings → ReplyPart → Type 0
-IsFit meanings (line octets) = list_all is_ascii octets ≡ true
-IsFit meanings (shown msg legacy at len) = HasSurrogate msg (meanings.surrogate msg) × HasAsciiBlocks (meanings.surrogate msg)
-IsFit meanings (shown msg enabled at len) = Unit {0}
+abbrev pub IsFit : Oracles → ReplyPart → Type 0
+IsFit oracles (line octets) = list_all is_ascii octets ≡ true
+IsFit oracles (shown msg legacy at len) = HasSurrogate msg (oracles.surrogate msg) × HasAsciiBlocks (oracles.surrogate msg)
+IsFit oracles (shown msg enabled at len) = Unit {0}
 
 -- Each of the parts may be sent.
-abbrev pub AreFit : Meanings → List ReplyPart → Type 0
-AreFit meanings parts = AllByRecursion (IsFit meanings) parts
+abbrev pub AreFit : Oracles → List ReplyPart → Type 0
+AreFit oracles parts = AllByRecursion (IsFit oracles) parts

@@ -12,7 +12,7 @@ use Rattle.session_core.specs.Doing.{Does}
 use Rattle.session_core.specs.Grammar.{Grammar, Row, protocol_of}
 use Rattle.session_core.specs.Keeps.{fault_of}
 use Rattle.session_core.specs.Moments.{Moment}
-use Rattle.session_core.specs.Meanings.{Meanings, WithMeanings}
+use Rattle.session_core.specs.Oracles.{Oracles, WithOracles}
 use Rattle.session_core.specs.Protocol.{Protocol}
 use Rattle.session_core.specs.declared.desk.Desk.{Desk}
 use Rattle.session_core.specs.declared.rows.Wants.{Wants}
@@ -51,10 +51,10 @@ wants_in (transaction mode maildrop) = Some wants.Line
 wants_in ended = None
 
 -- what a line brings
-abbrev pub line_row : Meanings → Machine → List ℕ → Row Machine ReplyPart
-line_row meanings machine text =
+abbrev pub line_row : Oracles → Machine → List ℕ → Row Machine ReplyPart
+line_row oracles machine text =
     let asked = asked_of machine.state machine.store (command_of text) in
-    let taken = step meanings machine.state machine.store (command_of text) in
+    let taken = step oracles machine.state machine.store (command_of text) in
     record { acts = asking asked (acts_in taken); after = after_step machine.store taken }
 
 -- A line that is too long is answered, and ends the session.
@@ -70,7 +70,7 @@ pop_grammar = record {
   start = λ moments store. start_of store;
   wants = λ machine. wants_in machine.state;
   row = line_row;
-  long_row = λ meanings machine. long_row machine;
+  long_row = λ oracles machine. long_row machine;
   spelled = part_octets;
   Fits = IsFit;
   IsSound = λ machine. AreStored machine.store.kept.messages;
@@ -81,8 +81,8 @@ abbrev pub pop_protocol : Protocol
 pop_protocol = protocol_of pop_grammar
 
 -- what these octets bring
-abbrev pub turns_of : Meanings → Machine → List ℕ → Turn Machine (Act ReplyPart)
-turns_of meanings machine octets = all_turns (pop_protocol.next meanings) machine octets
+abbrev pub turns_of : Oracles → Machine → List ℕ → Turn Machine (Act ReplyPart)
+turns_of oracles machine octets = all_turns (pop_protocol.next oracles) machine octets
 
 -- ---- what values stand for
 
@@ -100,7 +100,7 @@ KnowsPop session desk = KnowsState desk.store (state_of session)
 
 -- These messages were asked for and the step was carried out, or after a fault the first of it; the session is in its state, and the store
 -- has the messages that it names.
-pub record TakesStep (before now : Around) (result : Result (Option PopState) Fault) (asked : List Asked) (taken : Meanings → Step) : Type 0 where
-  pub does : WithMeanings (λ meanings. Does (part_octets meanings) before now (fault_of result) (asking asked (acts_in (taken meanings))))
-  pub next : WithMeanings (λ meanings. IfOk result (λ next. state_or_ended next ≡ (taken meanings).state))
+pub record TakesStep (before now : Around) (result : Result (Option PopState) Fault) (asked : List Asked) (taken : Oracles → Step) : Type 0 where
+  pub does : WithOracles (λ oracles. Does (part_octets oracles) before now (fault_of result) (asking asked (acts_in (taken oracles))))
+  pub next : WithOracles (λ oracles. IfOk result (λ next. state_or_ended next ≡ (taken oracles).state))
   pub known : IfOk result (λ next. KnowsState now.desk.store (state_or_ended next))

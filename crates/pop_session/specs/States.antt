@@ -6,7 +6,7 @@ use Rattle.kept_mail.specs.Kept.{logged_in}
 use Rattle.kept_mail.specs.Records.{IsLive}
 use Rattle.mail_store.specs.StoreState.{StoreState}
 use Rattle.surrogate_cache.specs.Served.{legacy, enabled}
-use Rattle.session_core.specs.Meanings.{Meanings}
+use Rattle.session_core.specs.Oracles.{Oracles}
 use Rattle.pop_session.specs.declared.states.PopState.{PopState}
 use Rattle.pop_session.specs.declared.states.PopState.TheVariants as pop
 use Rattle.pop_session.specs.declared.states.Login.{Login}
@@ -37,18 +37,18 @@ KnowsState store (transaction mode maildrop) = Knows store maildrop
 KnowsState store ended = Unit {0}
 
 -- the login found this account
-pub record IsAdmitted (meanings : Meanings) (store : StoreState) (user : Option (List ℕ)) (password : List ℕ) (maildrop : List MaildropMessage) : Type 0 where
+pub record IsAdmitted (oracles : Oracles) (store : StoreState) (user : Option (List ℕ)) (password : List ℕ) (maildrop : List MaildropMessage) : Type 0 where
   pub name : List ℕ
   pub account : ℕ
   pub user_is : user ≡ Some name
-  pub found : logged_in meanings.path_of store.kept name password ≡ Some account
+  pub found : logged_in oracles.path_of store.kept name password ≡ Some account
   pub maildrop_is : maildrop ≡ maildrop_of store.kept account
 
 -- what PASS leads to, by the name that USER gave
-abbrev pub IsLogin : {V : Type 0} → Meanings → Login V → Option (List ℕ) → List ℕ → StoreState → Type 0
-IsLogin meanings (OutOfOrder session) user password store = (user ≡ None) × (session.state.user ≡ None)
-IsLogin meanings (Refused session) user password store = (name : List ℕ) × (user ≡ Some name) × (logged_in meanings.path_of store.kept name password ≡ None) × (session.state.user ≡ None)
-IsLogin meanings (Open session) user password store = IsAdmitted meanings store user password session.state.maildrop.items
+abbrev pub IsLogin : {V : Type 0} → Oracles → Login V → Option (List ℕ) → List ℕ → StoreState → Type 0
+IsLogin oracles (OutOfOrder session) user password store = (user ≡ None) × (session.state.user ≡ None)
+IsLogin oracles (Refused session) user password store = (name : List ℕ) × (user ≡ Some name) × (logged_in oracles.path_of store.kept name password ≡ None) × (session.state.user ≡ None)
+IsLogin oracles (Open session) user password store = IsAdmitted oracles store user password session.state.maildrop.items
 
 -- the store has the messages of the session that PASS leads to
 abbrev pub KnowsLogin : {V : Type 0} → StoreState → Login V → Type 0

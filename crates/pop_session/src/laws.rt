@@ -9,10 +9,10 @@ ghost use Rattle.surrogate_cache.specs.Caching.{Asked, asked_by};
 ghost use Rattle.surrogate_cache.specs.Served.{Mode, legacy, enabled};
 ghost use Rattle.session_core.specs.Acts.{asked_in, changes_in};
 ghost use Rattle.session_core.specs.Desks.{stored_octets};
-ghost use Rattle.session_core.specs.Meanings.{Meanings};
+ghost use Rattle.session_core.specs.Oracles.{Oracles};
 ghost use Rattle.pop_session.specs.Commands.{Command};
 ghost use Rattle.mail_wire.specs.Numbers.{number_of};
-ghost use Rattle.pop_session.specs.History.{after_commands, commands_in, IsOfMode, enables, some_enables, mode_behind, IsQuit, with_marks, marks_by, marks_after, IsMarked, AreInStore, IsRefused, TellsSizes, asked_by_commands, number_in};
+ghost use Rattle.pop_session.specs.History.{after_commands, commands_in, IsOfMode, enables, some_enables, mode_after, IsQuit, with_marks, marks_by, marks_after, IsMarked, AreInStore, IsRefused, TellsSizes, asked_by_commands, number_in};
 ghost use Rattle.pop_session.specs.Machine.{State, authorization, transaction, ended, asked_of, done, inbox_messages, left_of, listed_at, quit_step, step, transaction_step};
 ghost use Rattle.pop_session.specs.Replies.{multi_line};
 ghost use Rattle.mail_wire.specs.Dots.{unstuffed_line, missing_end};
@@ -31,40 +31,40 @@ pub fn stuffed_lines_are_no_dots()
 /// Only UTF8 that is accepted changes the mode, and every other command leaves it. So behind a stream a session is enabled
 /// where one of its commands was such, and else it is legacy, or it has ended.
 pub fn only_utf8_changes_the_mode()
-    ensures accepted { (meanings : Meanings) (state : State) (store : StoreState) (argument : Option (List ℕ))
+    ensures accepted { (oracles : Oracles) (state : State) (store : StoreState) (argument : Option (List ℕ))
         → let command : Command = record { keyword = keyword.Utf8; argument = argument } in
-        ((step meanings state store command).reply ≡ done) ↔ IsTrue (enables state command) }
+        ((step oracles state store command).reply ≡ done) ↔ IsTrue (enables state command) }
     ensures other { (state : State) (command : Command) → command.keyword ≢ keyword.Utf8 → ¬ IsTrue (enables state command) }
-    ensures command { (meanings : Meanings) (state : State) (store : StoreState) (command : Command) (mode : Mode)
-        → IsOfMode mode state → IsOfMode (mode_behind (enables state command) mode) (step meanings state store command).state }
-    ensures stream { (meanings : Meanings) (store : StoreState) (octets : List ℕ)
-        → IsOfMode (mode_behind (some_enables meanings (start_of store) (commands_in octets)) legacy) (turns_of meanings (start_of store) octets).after.state }
+    ensures command { (oracles : Oracles) (state : State) (store : StoreState) (command : Command) (mode : Mode)
+        → IsOfMode mode state → IsOfMode (mode_after (enables state command) mode) (step oracles state store command).state }
+    ensures stream { (oracles : Oracles) (store : StoreState) (octets : List ℕ)
+        → IsOfMode (mode_after (some_enables oracles (start_of store) (commands_in octets)) legacy) (turns_of oracles (start_of store) octets).after.state }
 {}
 
 /// QUIT takes out exactly the messages that DELE has marked since the last RSET, where each DELE is one that was answered so. No other
 /// command changes the store: until the session has ended, it is as it was.
 pub fn quit_takes_out_what_is_marked()
-    ensures login { (meanings : Meanings) (mode is : Mode) (user : Option (List ℕ)) (store : StoreState) (command : Command) (maildrop : List MaildropMessage)
-        → (step meanings (authorization mode user) store command).state ≡ transaction is maildrop
+    ensures login { (oracles : Oracles) (mode is : Mode) (user : Option (List ℕ)) (store : StoreState) (command : Command) (maildrop : List MaildropMessage)
+        → (step oracles (authorization mode user) store command).state ≡ transaction is maildrop
         → (account : ℕ) × (maildrop ≡ with_marks 1 [] (inbox_messages store.kept account)) }
-    ensures marked { (meanings : Meanings) (mode : Mode) (listing : List Listed) (marks : List ℕ) (machine : Machine) (commands : List Command)
+    ensures marked { (oracles : Oracles) (mode : Mode) (listing : List Listed) (marks : List ℕ) (machine : Machine) (commands : List Command)
         → IsMarked mode listing marks machine.state
-        → IsMarked mode listing (marks_after listing marks commands) (after_commands meanings machine commands).state }
-    ensures answered { (meanings : Meanings) (mode : Mode) (listing : List Listed) (marks : List ℕ) (store : StoreState) (text : List ℕ) (number : ℕ)
+        → IsMarked mode listing (marks_after listing marks commands) (after_commands oracles machine commands).state }
+    ensures answered { (oracles : Oracles) (mode : Mode) (listing : List Listed) (marks : List ℕ) (store : StoreState) (text : List ℕ) (number : ℕ)
         → number_of text ≡ Some number
-        → ((transaction_step meanings mode (with_marks 1 marks listing) store keyword.Dele (Some text)).reply ≡ done)
+        → ((transaction_step oracles mode (with_marks 1 marks listing) store keyword.Dele (Some text)).reply ≡ done)
         ↔ (marks_by listing marks keyword.Dele (Some text) ≡ number ∷ marks) }
-    ensures quit { (meanings : Meanings) (mode : Mode) (listing : List Listed) (marks : List ℕ) (store : StoreState) (command : Command)
-        → let state = transaction mode (with_marks 1 marks listing) in IsQuit state command → step meanings state store command ≡ quit_step (with_marks 1 marks listing) }
-    ensures others { (meanings : Meanings) (state : State) (store : StoreState) (command : Command) → ¬ IsQuit state command
-        → (step meanings state store command).changes ≡ [] }
-    ensures stream { (meanings : Meanings) (machine : Machine) (octets : List ℕ) → (turns_of meanings machine octets).after.state ≢ ended
-        → (turns_of meanings machine octets).after.store ≡ machine.store }
+    ensures quit { (oracles : Oracles) (mode : Mode) (listing : List Listed) (marks : List ℕ) (store : StoreState) (command : Command)
+        → let state = transaction mode (with_marks 1 marks listing) in IsQuit state command → step oracles state store command ≡ quit_step (with_marks 1 marks listing) }
+    ensures others { (oracles : Oracles) (state : State) (store : StoreState) (command : Command) → ¬ IsQuit state command
+        → (step oracles state store command).changes ≡ [] }
+    ensures stream { (oracles : Oracles) (machine : Machine) (octets : List ℕ) → (turns_of oracles machine octets).after.state ≢ ended
+        → (turns_of oracles machine octets).after.store ≡ machine.store }
 {}
 
 /// Behind a stream the machine's store is the one before it with the changes that its commands make.
 pub fn the_store_has_the_changes()
-    ensures { (meanings : Meanings) (machine : Machine) (octets : List ℕ) → let turn = turns_of meanings machine octets in
+    ensures { (oracles : Oracles) (machine : Machine) (octets : List ℕ) → let turn = turns_of oracles machine octets in
         turn.after.store ≡ with_records machine.store (records_of (changes_in turn.parts)) }
 {}
 
@@ -83,13 +83,13 @@ pub fn legacy_sizes_and_messages_are_asked_for()
 pub fn nothing_else_is_asked_for()
     ensures others { (state : State) (store : StoreState) (command : Command) → ¬ TellsSizes command → number_in command.keyword command.argument ≡ None
         → asked_of state store command ≡ [] }
-    ensures refused { (meanings : Meanings) (state : State) (store : StoreState) (command : Command) → IsRefused (step meanings state store command).reply
+    ensures refused { (oracles : Oracles) (state : State) (store : StoreState) (command : Command) → IsRefused (step oracles state store command).reply
         → asked_of state store command ≡ [] }
     ensures enabled { (state : State) (store : StoreState) (command : Command) → IsOfMode enabled state → asked_of state store command ≡ [] }
 {}
 
 /// The messages that a stream asks for are those of its commands, in their order.
 pub fn a_stream_asks_for_what_its_commands_do()
-    ensures { (meanings : Meanings) (machine : Machine) (octets : List ℕ)
-        → asked_in (turns_of meanings machine octets).parts ≡ asked_by_commands meanings machine (commands_in octets) }
+    ensures { (oracles : Oracles) (machine : Machine) (octets : List ℕ)
+        → asked_in (turns_of oracles machine octets).parts ≡ asked_by_commands oracles machine (commands_in octets) }
 {}

@@ -4,7 +4,7 @@ ghost use Rattle.mail_wire.specs.Lines.{crlf};
 ghost use Rattle.session_core.specs.Desks.{IsOpen, stored_octets};
 ghost use Rattle.session_core.specs.Doing.{Asks, AsksAndReplies, Replies, wanting};
 ghost use Rattle.session_core.specs.Keeps.{Keeps, fault_of};
-ghost use Rattle.session_core.specs.Meanings.{Meanings, WithMeanings};
+ghost use Rattle.session_core.specs.Oracles.{Oracles, WithOracles};
 ghost use Rattle.pop_session.specs.private.Asked.{IsAsked, IsKnown};
 ghost use Rattle.mail_wire.specs.Numbers.{number_of};
 ghost use Rattle.pop_session.specs.Machine.{asked_for, asked_for_left, size_of, uid_row, stat_reply, listing_reply, listing_one_reply, retr_reply, top_reply, listed_at as message_at_of, two_numbers};
@@ -28,7 +28,7 @@ fn size<V: View, W: Wire, J: Keeper, C: Clock>(
 ) -> Result<usize, Memory>
     requires opens { IsOpen outside.old.desk }
     requires id { one.now.id < length outside.old.desk.store.kept.messages }
-    ensures size { IfOk result (λ n. WithMeanings (λ meanings. n ≡ size_of meanings V.mode outside.old.desk.store one.now)) }
+    ensures size { IfOk result (λ n. WithOracles (λ oracles. n ≡ size_of oracles V.mode outside.old.desk.store one.now)) }
     ensures asks { Asks outside.old outside.new (wanting result) (asked_for V.mode outside.old.desk.store one.now) }
     ensures keeps { Keeps outside.old outside.new (wanting result) }
 {
@@ -42,8 +42,8 @@ pub fn stat<V: View, W: Wire, J: Keeper, C: Clock>(
 ) -> Result<String, Memory>
     requires opens { IsOpen outside.old.desk }
     requires known { Knows outside.old.desk.store maildrop.now }
-    ensures text { IfOk result (λ text. WithMeanings (λ meanings.
-        string_bytes text ≡ reply_octets meanings (stat_reply meanings V.mode outside.old.desk.store maildrop.now))) }
+    ensures text { IfOk result (λ text. WithOracles (λ oracles.
+        string_bytes text ≡ reply_octets oracles (stat_reply oracles V.mode outside.old.desk.store maildrop.now))) }
     ensures asks { Asks outside.old outside.new (wanting result) (asked_for_left V.mode outside.old.desk.store maildrop.now) }
     ensures keeps { Keeps outside.old outside.new (wanting result) }
 {
@@ -72,8 +72,8 @@ pub fn list<V: View, W: Wire, J: Keeper, C: Clock>(
 ) -> Result<String, Memory>
     requires opens { IsOpen outside.old.desk }
     requires known { Knows outside.old.desk.store maildrop.now }
-    ensures text { IfOk result (λ text. WithMeanings (λ meanings.
-        string_bytes text ≡ reply_octets meanings (listing_reply (size_of meanings V.mode outside.old.desk.store) maildrop.now))) }
+    ensures text { IfOk result (λ text. WithOracles (λ oracles.
+        string_bytes text ≡ reply_octets oracles (listing_reply (size_of oracles V.mode outside.old.desk.store) maildrop.now))) }
     ensures asks { Asks outside.old outside.new (wanting result) (asked_for_left V.mode outside.old.desk.store maildrop.now) }
     ensures keeps { Keeps outside.old outside.new (wanting result) }
 {
@@ -92,7 +92,7 @@ pub fn list<V: View, W: Wire, J: Keeper, C: Clock>(
 
 /// A line for each message that isn't marked, with its UID.
 pub fn uidl(alloc: Global, maildrop: &[MaildropMessage]) -> Result<String, Memory>
-    ensures { IfOk result (λ text. (meanings : Meanings) → string_bytes text ≡ reply_octets meanings (listing_reply uid_row maildrop.now)) }
+    ensures { IfOk result (λ text. (oracles : Oracles) → string_bytes text ≡ reply_octets oracles (listing_reply uid_row maildrop.now)) }
 {
     let mut text = String::from_str(alloc, "+OK\r\n")?;
     for (place, one) in maildrop.iter().enumerate() {
@@ -113,8 +113,8 @@ pub fn list_one<V: View, W: Wire, J: Keeper, C: Clock>(
 ) -> Result<String, Memory>
     requires opens { IsOpen outside.old.desk }
     requires id { one.now.id < length outside.old.desk.store.kept.messages }
-    ensures text { IfOk result (λ text. WithMeanings (λ meanings.
-        string_bytes text ≡ reply_octets meanings (listing_one_reply (size_of meanings V.mode outside.old.desk.store) number one.now))) }
+    ensures text { IfOk result (λ text. WithOracles (λ oracles.
+        string_bytes text ≡ reply_octets oracles (listing_one_reply (size_of oracles V.mode outside.old.desk.store) number one.now))) }
     ensures asks { Asks outside.old outside.new (wanting result) (asked_for V.mode outside.old.desk.store one.now) }
     ensures keeps { Keeps outside.old outside.new (wanting result) }
 {
@@ -125,7 +125,7 @@ pub fn list_one<V: View, W: Wire, J: Keeper, C: Clock>(
 
 /// The line of one message, with its UID.
 pub fn uidl_one(alloc: Global, number: u64, one: &Listed) -> Result<String, Memory>
-    ensures { IfOk result (λ text. (meanings : Meanings) → string_bytes text ≡ reply_octets meanings (listing_one_reply uid_row number one.now)) }
+    ensures { IfOk result (λ text. (oracles : Oracles) → string_bytes text ≡ reply_octets oracles (listing_one_reply uid_row number one.now)) }
 {
     let uid = one.uid;
     Ok(format!(in alloc; "+OK {number} {uid}\r\n")?)
@@ -153,8 +153,8 @@ pub fn retr<V: View, W: Wire, J: Keeper, C: Clock>(
 ) -> Result<(), Fault>
     requires opens { IsOpen outside.old.desk }
     requires id { one.now.id < length outside.old.desk.store.kept.messages }
-    ensures replies { WithMeanings (λ meanings. AsksAndReplies outside.old outside.new (fault_of result) (asked_for V.mode outside.old.desk.store one.now)
-        (reply_octets meanings (retr_reply meanings V.mode outside.old.desk.store 0 one.now))) }
+    ensures replies { WithOracles (λ oracles. AsksAndReplies outside.old outside.new (fault_of result) (asked_for V.mode outside.old.desk.store one.now)
+        (reply_octets oracles (retr_reply oracles V.mode outside.old.desk.store 0 one.now))) }
     ensures keeps { Keeps outside.old outside.new (fault_of result) }
 {
     if V::enabled() {
@@ -174,9 +174,9 @@ pub fn top<V: View, W: Wire, J: Keeper, C: Clock>(
 ) -> Result<(), Fault>
     requires opens { IsOpen outside.old.desk }
     requires id { one.now.id < length outside.old.desk.store.kept.messages }
-    ensures replies { WithMeanings (λ meanings. (n : ℕ) → min n (2 ^ 64 - 1) ≡ lines →
+    ensures replies { WithOracles (λ oracles. (n : ℕ) → min n (2 ^ 64 - 1) ≡ lines →
         AsksAndReplies outside.old outside.new (fault_of result) (asked_for V.mode outside.old.desk.store one.now)
-        (reply_octets meanings (top_reply meanings V.mode outside.old.desk.store n 0 one.now))) }
+        (reply_octets oracles (top_reply oracles V.mode outside.old.desk.store n 0 one.now))) }
     ensures keeps { Keeps outside.old outside.new (fault_of result) }
 {
     let shown = outside.show::<V>(one.id)?;

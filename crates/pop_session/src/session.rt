@@ -5,7 +5,7 @@ ghost use Rattle.mail_wire.specs.Numbers.{number_of};
 ghost use Rattle.session_core.specs.Desks.{IsOpen};
 ghost use Rattle.session_core.specs.Doing.{AsksAndReplies};
 ghost use Rattle.session_core.specs.Keeps.{Keeps, fault_of};
-ghost use Rattle.session_core.specs.Meanings.{WithMeanings};
+ghost use Rattle.session_core.specs.Oracles.{WithOracles};
 ghost use Rattle.session_core.specs.Served.{met_of};
 ghost use Rattle.session_core.specs.Serving.{ServesBy};
 ghost use Rattle.session_core.specs.declared.rows.Wants.TheVariants.{Line};
@@ -53,10 +53,10 @@ fn answer_authorization<V: Kind>(
     command: Command,
     store: &Store,
 ) -> Result<OneLine, Memory>
-    ensures reply { IfOk result (λ answer. WithMeanings (λ meanings.
-        answer.reply.now ≡ reply_octets meanings (authorization_step meanings V.mode pop.state.user store.now command.entry.keyword (option_copied command.entry.argument)).reply)) }
-    ensures next { IfOk result (λ answer. WithMeanings (λ meanings.
-        state_or_ended answer.next ≡ (authorization_step meanings V.mode pop.state.user store.now command.entry.keyword (option_copied command.entry.argument)).state)) }
+    ensures reply { IfOk result (λ answer. WithOracles (λ oracles.
+        answer.reply.now ≡ reply_octets oracles (authorization_step oracles V.mode pop.state.user store.now command.entry.keyword (option_copied command.entry.argument)).reply)) }
+    ensures next { IfOk result (λ answer. WithOracles (λ oracles.
+        state_or_ended answer.next ≡ (authorization_step oracles V.mode pop.state.user store.now command.entry.keyword (option_copied command.entry.argument)).state)) }
     ensures known { IfOk result (λ answer. KnowsState store.now (state_or_ended answer.next)) }
 {
     let (reply, next) = match (command.keyword, command.argument) {
@@ -86,7 +86,7 @@ fn authorize<V: Kind, W: Wire, J: Keeper, C: Clock>(
     outside: &mut Outside<W, J, C>,
 ) -> Result<Option<PopState>, Fault>
     ensures takes { TakesStep outside.old outside.new result []
-        (λ meanings. authorization_step meanings V.mode pop.state.user outside.old.desk.store command.entry.keyword (option_copied command.entry.argument)) }
+        (λ oracles. authorization_step oracles V.mode pop.state.user outside.old.desk.store command.entry.keyword (option_copied command.entry.argument)) }
     ensures keeps { Keeps outside.old outside.new (fault_of result) }
 {
     let answer = answer_authorization(outside.alloc(), pop, command, outside.store())?;
@@ -104,9 +104,9 @@ fn give_of_message<V: Kind, W: Wire, J: Keeper, C: Clock>(
     requires keyword { (keyword ≡ Keyword.List) ⊎ (keyword ≡ Keyword.Uidl) ⊎ (keyword ≡ Keyword.Retr) }
     requires opens { IsOpen outside.old.desk }
     requires known { Knows outside.old.desk.store maildrop.now }
-    ensures replies { WithMeanings (λ meanings. AsksAndReplies outside.old outside.new (fault_of result)
+    ensures replies { WithOracles (λ oracles. AsksAndReplies outside.old outside.new (fault_of result)
         (transaction_asks V.mode maildrop.now outside.old.desk.store keyword (Some text.now))
-        (reply_octets meanings (transaction_reply meanings V.mode maildrop.now outside.old.desk.store keyword (Some text.now)))) }
+        (reply_octets oracles (transaction_reply oracles V.mode maildrop.now outside.old.desk.store keyword (Some text.now)))) }
     ensures keeps { Keeps outside.old outside.new (fault_of result) }
 {
     let (number, one) = match find_message(outside.store(), maildrop, text) {
@@ -135,9 +135,9 @@ fn give_top<V: Kind, W: Wire, J: Keeper, C: Clock>(
 ) -> Result<(), Fault>
     requires opens { IsOpen outside.old.desk }
     requires known { Knows outside.old.desk.store maildrop.now }
-    ensures replies { WithMeanings (λ meanings. AsksAndReplies outside.old outside.new (fault_of result)
+    ensures replies { WithOracles (λ oracles. AsksAndReplies outside.old outside.new (fault_of result)
         (transaction_asks V.mode maildrop.now outside.old.desk.store Keyword.Top (Some text.now))
-        (reply_octets meanings (transaction_reply meanings V.mode maildrop.now outside.old.desk.store Keyword.Top (Some text.now)))) }
+        (reply_octets oracles (transaction_reply oracles V.mode maildrop.now outside.old.desk.store Keyword.Top (Some text.now)))) }
     ensures keeps { Keeps outside.old outside.new (fault_of result) }
 {
     let Some(numbers) = read_top_numbers(text) else {
@@ -157,9 +157,9 @@ fn give_reply<V: Kind, W: Wire, J: Keeper, C: Clock>(
 ) -> Result<(), Fault>
     requires opens { IsOpen outside.old.desk }
     requires known { Knows outside.old.desk.store maildrop.now }
-    ensures replies { WithMeanings (λ meanings. AsksAndReplies outside.old outside.new (fault_of result)
+    ensures replies { WithOracles (λ oracles. AsksAndReplies outside.old outside.new (fault_of result)
         (transaction_asks V.mode maildrop.now outside.old.desk.store command.entry.keyword (option_copied command.entry.argument))
-        (reply_octets meanings (transaction_reply meanings V.mode maildrop.now outside.old.desk.store command.entry.keyword (option_copied command.entry.argument)))) }
+        (reply_octets oracles (transaction_reply oracles V.mode maildrop.now outside.old.desk.store command.entry.keyword (option_copied command.entry.argument)))) }
     ensures keeps { Keeps outside.old outside.new (fault_of result) }
 {
     match (command.keyword, command.argument) {
@@ -196,8 +196,8 @@ fn stay<V: Kind, W: Wire, J: Keeper, C: Clock>(
     requires known { Knows outside.old.desk.store pop.state.maildrop.items }
     ensures takes { TakesStep outside.old outside.new result
         (transaction_asks V.mode pop.state.maildrop.items outside.old.desk.store command.entry.keyword (option_copied command.entry.argument))
-        (λ meanings. answers
-        (transaction_reply meanings V.mode pop.state.maildrop.items outside.old.desk.store command.entry.keyword (option_copied command.entry.argument))
+        (λ oracles. answers
+        (transaction_reply oracles V.mode pop.state.maildrop.items outside.old.desk.store command.entry.keyword (option_copied command.entry.argument))
         (transaction V.mode pop.state.maildrop.items)) }
     ensures keeps { Keeps outside.old outside.new (fault_of result) }
 {
@@ -212,7 +212,7 @@ fn dele<V: Kind, W: Wire, J: Keeper, C: Clock>(
     outside: &mut Outside<W, J, C>,
 ) -> Result<Option<PopState>, Fault>
     requires { Knows outside.old.desk.store pop.state.maildrop.items }
-    ensures takes { TakesStep outside.old outside.new result [] (λ meanings. dele_step V.mode pop.state.maildrop.items (number_of text.now)) }
+    ensures takes { TakesStep outside.old outside.new result [] (λ oracles. dele_step V.mode pop.state.maildrop.items (number_of text.now)) }
     ensures keeps { Keeps outside.old outside.new (fault_of result) }
 {
     match find_message(outside.store(), &pop.state.maildrop, text) {
@@ -237,7 +237,7 @@ fn rset<V: Kind, W: Wire, J: Keeper, C: Clock>(
     outside: &mut Outside<W, J, C>,
 ) -> Result<Option<PopState>, Fault>
     requires { Knows outside.old.desk.store pop.state.maildrop.items }
-    ensures takes { TakesStep outside.old outside.new result [] (λ meanings. answers done (transaction V.mode (map (marked false) pop.state.maildrop.items))) }
+    ensures takes { TakesStep outside.old outside.new result [] (λ oracles. answers done (transaction V.mode (map (marked false) pop.state.maildrop.items))) }
     ensures keeps { Keeps outside.old outside.new (fault_of result) }
 {
     outside.give(DONE)?;
@@ -251,7 +251,7 @@ fn quit<V: Kind, W: Wire, J: Keeper, C: Clock>(
 ) -> Result<Option<PopState>, Fault>
     requires opens { IsOpen outside.old.desk }
     requires known { Knows outside.old.desk.store pop.state.maildrop.items }
-    ensures takes { TakesStep outside.old outside.new result [] (λ meanings. quit_step pop.state.maildrop.items) }
+    ensures takes { TakesStep outside.old outside.new result [] (λ oracles. quit_step pop.state.maildrop.items) }
     ensures keeps { Keeps outside.old outside.new (fault_of result) }
 {
     pop.quit().update(outside)?;
@@ -269,7 +269,7 @@ fn transact<V: Kind, W: Wire, J: Keeper, C: Clock>(
     requires known { Knows outside.old.desk.store pop.state.maildrop.items }
     ensures takes { TakesStep outside.old outside.new result
         (transaction_asks V.mode pop.state.maildrop.items outside.old.desk.store command.entry.keyword (option_copied command.entry.argument))
-        (λ meanings. transaction_step meanings V.mode pop.state.maildrop.items outside.old.desk.store command.entry.keyword (option_copied command.entry.argument)) }
+        (λ oracles. transaction_step oracles V.mode pop.state.maildrop.items outside.old.desk.store command.entry.keyword (option_copied command.entry.argument)) }
     ensures keeps { Keeps outside.old outside.new (fault_of result) }
 {
     match (command.keyword, command.argument) {
@@ -322,7 +322,7 @@ impl Rows for PopState {
 
     ghost agrees = { agrees_by };
 
-    ghost ends = { λ meanings machine. refl };
+    ghost ends = { λ oracles machine. refl };
 
     ghost opening_fits = { opening_fits_by };
 

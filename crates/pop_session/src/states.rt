@@ -5,7 +5,7 @@ ghost use Rattle.surrogate_cache.specs.Served.{legacy, enabled};
 ghost use Rattle.session_core.specs.Desks.{IsOpen};
 ghost use Rattle.session_core.specs.Doing.{Makes};
 ghost use Rattle.session_core.specs.Keeps.{Keeps, fault_of};
-ghost use Rattle.session_core.specs.Meanings.{WithMeanings};
+ghost use Rattle.session_core.specs.Oracles.{WithOracles};
 ghost use Rattle.pop_session.specs.Machine.{State, authorization, transaction, unmarked, marked, deleted_ids as deleted_ids_of, taken_out};
 ghost use Rattle.pop_session.specs.States.{state_of, IsLogin, Knows, KnowsLogin};
 
@@ -171,7 +171,7 @@ impl<V: Kind> Pop<Authorization, V> {
 
     /// One try with the name that USER gave; after it there is no name.
     pub fn pass(self, alloc: Global, password: &[u8], store: &Store) -> Result<Login<V>, Memory>
-        ensures login { IfOk result (λ login. WithMeanings (λ meanings. IsLogin meanings login self.state.user password.now store.now)) }
+        ensures login { IfOk result (λ login. WithOracles (λ oracles. IsLogin oracles login self.state.user password.now store.now)) }
         ensures known { IfOk result (KnowsLogin store.now) }
     {
         let Some(name) = self.state.user else {

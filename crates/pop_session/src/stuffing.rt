@@ -40,7 +40,7 @@ pub fn next_place(place: Place, octet: u8) -> Place
 }
 
 // The place behind octets that stand from a place on. Only the last two tell it.
-fn place_behind(place: Place, octets: &[u8]) -> Place
+fn place_following(place: Place, octets: &[u8]) -> Place
     ensures { result ≡ place_after place octets.now }
 {
     match octets {
@@ -64,16 +64,16 @@ fn run_len(octets: &[u8]) -> usize
 
 // Gives octets as they are.
 fn give_plain<W: Wire>(octets: &[u8], wire: &mut W) -> Result<(), Failed>
-    ensures gives { GivesOrFails (W.tells wire.old) (W.tells wire.new) result octets.now }
-    ensures cause { HasWireCause (W.tells wire.old) (W.tells wire.new) result Failed.Outside }
+    ensures gives { GivesOrFails (W.observed wire.old) (W.observed wire.new) result octets.now }
+    ensures cause { HasWireCause (W.observed wire.old) (W.observed wire.new) result Failed.Outside }
 {
     wire.give(octets)
 }
 
 // Gives the dot that is put before these octets, which stand from a place on, where there is one.
 fn give_dot<W: Wire>(place: Place, octets: &[u8], wire: &mut W) -> Result<(), Failed>
-    ensures gives { GivesOrFails (W.tells wire.old) (W.tells wire.new) result (dot_before place octets.now) }
-    ensures cause { HasWireCause (W.tells wire.old) (W.tells wire.new) result Failed.Outside }
+    ensures gives { GivesOrFails (W.observed wire.old) (W.observed wire.new) result (dot_before place octets.now) }
+    ensures cause { HasWireCause (W.observed wire.old) (W.observed wire.new) result Failed.Outside }
 {
     if needs_dot(place, octets) {
         return give_plain(b".", wire);
@@ -83,9 +83,9 @@ fn give_dot<W: Wire>(place: Place, octets: &[u8], wire: &mut W) -> Result<(), Fa
 
 // Gives octets that stand from a place on, with a dot more before each line that begins with one, and answers the place behind them.
 fn give_stuffed<W: Wire>(place: Place, octets: &[u8], wire: &mut W) -> Result<Place, Failed>
-    ensures place { IfOk result (λ behind. behind ≡ place_after place octets.now) }
-    ensures gives { GivesOrFails (W.tells wire.old) (W.tells wire.new) result (stuffed_from place octets.now) }
-    ensures cause { HasWireCause (W.tells wire.old) (W.tells wire.new) result Failed.Outside }
+    ensures place { IfOk result (λ following. following ≡ place_after place octets.now) }
+    ensures gives { GivesOrFails (W.observed wire.old) (W.observed wire.new) result (stuffed_from place octets.now) }
+    ensures cause { HasWireCause (W.observed wire.old) (W.observed wire.new) result Failed.Outside }
 {
     let mut at = place;
     let mut rest = octets;
@@ -93,7 +93,7 @@ fn give_stuffed<W: Wire>(place: Place, octets: &[u8], wire: &mut W) -> Result<Pl
         give_dot(at, rest, wire)?;
         let (run, others) = rest.split_at(run_len(rest));
         give_plain(run, wire)?;
-        at = place_behind(at, run);
+        at = place_following(at, run);
         rest = others;
     }
     Ok(at)
@@ -112,8 +112,8 @@ pub fn give_dotted<W: Wire>(
     requires within { at + len ≤ length (shown_octets msg.now shown.now) }
     // It starts where a line does: nothing stands before it, or a CRLF.
     requires start { IsEnded (take at (shown_octets msg.now shown.now)) }
-    ensures gives { GivesOrFails (W.tells wire.old) (W.tells wire.new) result (stuffed (take len (drop at (shown_octets msg.now shown.now)))) }
-    ensures cause { HasWireCause (W.tells wire.old) (W.tells wire.new) result Failed.Outside }
+    ensures gives { GivesOrFails (W.observed wire.old) (W.observed wire.new) result (stuffed (take len (drop at (shown_octets msg.now shown.now)))) }
+    ensures cause { HasWireCause (W.observed wire.old) (W.observed wire.new) result Failed.Outside }
 {
     // Its places are numbers, as they stand within a size.
     let _size = shown.size(msg);
@@ -137,7 +137,7 @@ fn place_at(shown: &Shown, msg: &[u8], len: usize) -> Place
 {
     let mut last = [0; 2];
     let count = shown.read_at(msg, len.saturating_sub(2), &mut last);
-    place_behind(Place::LineStart, &last[..count.min(len)])
+    place_following(Place::LineStart, &last[..count.min(len)])
 }
 
 // The end of a reply of many lines, whose last octet stands before this place.

@@ -2,7 +2,7 @@
 ghost use Rattle.std.specs.Prelude.{◌≡◌, ◌≤◌, length};
 ghost use Rattle.surrogate_rope.specs.Served.{IsShownOf, shown_octets};
 ghost use Rattle.pop_session.specs.Machine.{top_length as top_length_of};
-ghost use Rattle.pop_session.specs.private.Top.{begin, is_ended, behind_octet, all_behind, count_from};
+ghost use Rattle.pop_session.specs.private.Top.{begin, is_ended, following_octet, all_after, count_from};
 
 use crate::stuffing::{Place, next_place};
 use mail_wire::PIECE;
@@ -43,7 +43,7 @@ impl Scan {
 
     // Goes on by an octet.
     fn read_octet(&mut self, octet: u8)
-        ensures { self.new ≡ behind_octet self.old octet }
+        ensures { self.new ≡ following_octet self.old octet }
     {
         let place = next_place(self.place, octet);
         if matches!(place, Place::LineStart) {
@@ -59,7 +59,7 @@ impl Scan {
 
     // Goes on over a piece, but not past the end, and answers how many octets of it are shown.
     fn read_piece(&mut self, piece: &[u8]) -> usize
-        ensures scan { self.new ≡ all_behind self.old piece.now }
+        ensures scan { self.new ≡ all_after self.old piece.now }
         ensures count { result ≡ count_from self.old piece.now }
     {
         let mut count = 0;

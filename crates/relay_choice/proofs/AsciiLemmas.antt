@@ -20,7 +20,7 @@ use Rattle.relay_choice.specs.declared.replies.Reply.{Reply}
 use Rattle.relay_choice.specs.Offers.{offer_of, offers}
 use Rattle.relay_choice.specs.Plans.{form_of, is_normal, is_sent, is_utf8, plan_for}
 use Rattle.relay_choice.specs.Said.{said_address, said_domain, said_path}
-use Rattle.relay_choice.specs.Letters.{demands_of, path_form}
+use Rattle.relay_choice.specs.MailObjects.{demands_of, path_form}
 
 -- ---- the choice
 

@@ -8,18 +8,18 @@ use Rattle.relay_choice.specs.declared.plans.Offer.{Offer}
 use Rattle.relay_choice.specs.declared.plans.Plan.{Plan}
 use Rattle.relay_choice.specs.declared.plans.Plan.TheVariants as plan
 use Rattle.relay_choice.specs.declared.replies.Reply.{Reply}
-use Rattle.relay_choice.specs.declared.letters.Recipient.{Recipient}
-use Rattle.relay_choice.specs.declared.letters.Letter.{Letter}
-use Rattle.relay_choice.specs.declared.letters.Outcome.{Outcome}
-use Rattle.relay_choice.specs.declared.letters.Outcome.TheVariants.{Refused, Sent}
-use Rattle.relay_choice.specs.declared.letters.Act.{Act}
-use Rattle.relay_choice.specs.declared.letters.Act.TheVariants as act
+use Rattle.relay_choice.specs.declared.mail_objects.Recipient.{Recipient}
+use Rattle.relay_choice.specs.declared.mail_objects.MailObject.{MailObject}
+use Rattle.relay_choice.specs.declared.mail_objects.Outcome.{Outcome}
+use Rattle.relay_choice.specs.declared.mail_objects.Outcome.TheVariants.{Refused, Sent}
+use Rattle.relay_choice.specs.declared.mail_objects.Act.{Act}
+use Rattle.relay_choice.specs.declared.mail_objects.Act.TheVariants as act
 use Rattle.relay_choice.specs.Offers.{is_completed, is_intermediate, is_permanent, offer_of}
 use Rattle.relay_choice.specs.Replies.{IsReply, is_code}
 use Rattle.relay_choice.specs.Said.{data_line, reset_line, rcpt_line, mail_line, ehlo_line, quit_line}
 use Rattle.relay_choice.specs.Settling.{HasCode, IsCode, IsFitOutcome}
-use Rattle.relay_choice.specs.Relay.{Run, Transaction, answered_course, behind_act, behind_acts, course_to, data_course, done, ehlo_run, end_course, ended, followed, is_answer, is_some_accepted, letter_course, letters_run}
-use Rattle.relay_choice.specs.Relay.{mail_course, merged, outcome_by, plan_of, rcpt_course, relay_of, reset_course, sent_to, stopped, waits}
+use Rattle.relay_choice.specs.Relay.{Run, Transaction, answered_transaction, after_act, after_acts, transaction_to, data_transaction, done, ehlo_run, end_transaction, ended, followed, is_answer, is_some_accepted, mail_object_transaction, mail_objects_run}
+use Rattle.relay_choice.specs.Relay.{mail_transaction, merged, outcome_by, plan_of, rcpt_transaction, relay_of, reset_transaction, sent_to, stopped, waits}
 
 -- ---- the code of a reply
 
@@ -31,11 +31,11 @@ code_of_digits [] is = absurd (true≢false (sym is))
 code_of_digits (x ∷ []) is = absurd (true≢false (sym is))
 code_of_digits (x ∷ y ∷ []) is = absurd (true≢false (sym is))
 code_of_digits (x ∷ y ∷ z ∷ []) is =
-    let behind = and_parts (nat_le 50 x && nat_le x 53 && is_digit y) (is_digit z) is in
-    let front = and_parts (nat_le 50 x && nat_le x 53) (is_digit y) behind.0 in
+    let following = and_parts (nat_le 50 x && nat_le x 53 && is_digit y) (is_digit z) is in
+    let front = and_parts (nat_le 50 x && nat_le x 53) (is_digit y) following.0 in
     let hundreds = and_parts (nat_le 50 x) (nat_le x 53) front.0 in
     let tens = and_parts (nat_le 48 y) (nat_le y 57) front.1 in
-    let ones = and_parts (nat_le 48 z) (nat_le z 57) behind.1 in
+    let ones = and_parts (nat_le 48 z) (nat_le z 57) following.1 in
     code_value x y z (leb-true 50 x hundreds.0) (leb-true x 53 hundreds.1) (leb-true 48 y tens.0) (leb-true y 57 tens.1) (leb-true 48 z ones.0) (leb-true z 57 ones.1)
 code_of_digits (x ∷ y ∷ z ∷ w ∷ more) is = absurd (true≢false (sym is))
 
@@ -55,9 +55,9 @@ abbrev pub Fits : Transaction → Type 0
 Fits (done acts outcomes left) = All IsFitAct acts × All IsFitOutcome outcomes × All HasCode left
 Fits (ended acts end) = All IsFitAct acts
 
-behind_fits : (first : Act) (course : Transaction) → IsFitAct first → Fits course → Fits (behind_act first course)
-behind_fits first (done acts outcomes left) is fit = (All-cons IsFitAct first acts is fit.0, fit.1, fit.2)
-behind_fits first (ended acts end) is fit = All-cons IsFitAct first acts is fit
+following_fits : (first : Act) (exchange : Transaction) → IsFitAct first → Fits exchange → Fits (after_act first exchange)
+following_fits first (done acts outcomes left) is fit = (All-cons IsFitAct first acts is fit.0, fit.1, fit.2)
+following_fits first (ended acts end) is fit = All-cons IsFitAct first acts is fit
 
 either_fits : (b : Bool) (one other : Transaction) → Fits one → Fits other → Fits (if b then one else other)
 either_fits true one other fit others = fit
@@ -83,7 +83,7 @@ all_refused_fit code [] is = All-nil IsFitOutcome
 all_refused_fit code (recipient ∷ recipients) is =
     All-cons IsFitOutcome (Refused 0 (Some code)) (map (λ (recipient : Recipient). Refused 0 (Some code)) recipients) is (all_refused_fit code recipients is)
 
-reset_fits : (outcomes : List Outcome) (replies : List Reply) → All IsFitOutcome outcomes → All HasCode replies → Fits (reset_course outcomes replies)
+reset_fits : (outcomes : List Outcome) (replies : List Reply) → All IsFitOutcome outcomes → All HasCode replies → Fits (reset_transaction outcomes replies)
 reset_fits outcomes [] fit codes = All-nil IsFitAct
 reset_fits outcomes (reply ∷ left) fit codes =
     either_fits (is_completed reply.code) (done [] outcomes left) (ended [] (stopped reply)) (All-nil IsFitAct, fit, All-tail HasCode reply left codes) (All-nil IsFitAct)
@@ -94,45 +94,45 @@ refused_fits answers reply left given codes =
     either_fits (is_permanent reply.code) (done [] (map (outcome_by (Some reply.code)) answers) left) (ended [] (stopped reply))
     (All-nil IsFitAct, refused_fit reply.code answers (All-head HasCode reply left codes) given, All-tail HasCode reply left codes) (All-nil IsFitAct)
 
-end_fits : (answers : List ℕ) (replies : List Reply) → All IsCode answers → All HasCode replies → Fits (end_course answers replies)
+end_fits : (answers : List ℕ) (replies : List Reply) → All IsCode answers → All HasCode replies → Fits (end_transaction answers replies)
 end_fits answers [] given codes = All-nil IsFitAct
 end_fits answers (reply ∷ left) given codes = either_fits (is_completed reply.code) (done [] (map (outcome_by None) answers) left) _
     (All-nil IsFitAct, sent_fit answers given, All-tail HasCode reply left codes) (refused_fits answers reply left given codes)
 
-data_fits : (number : ℕ) (answers : List ℕ) (replies : List Reply) → All IsCode answers → All HasCode replies → Fits (data_course number answers replies)
+data_fits : (number : ℕ) (answers : List ℕ) (replies : List Reply) → All IsCode answers → All HasCode replies → Fits (data_transaction number answers replies)
 data_fits number answers [] given codes = All-nil IsFitAct
 data_fits number answers (reply ∷ left) given codes = either_fits (is_intermediate reply.code) _ _
-    (behind_fits (act.SayData number) (end_course answers left) tt (end_fits answers left given (All-tail HasCode reply left codes))) (refused_fits answers reply left given codes)
+    (following_fits (act.SayData number) (end_transaction answers left) tt (end_fits answers left given (All-tail HasCode reply left codes))) (refused_fits answers reply left given codes)
 
-answered_fits : (number : ℕ) (answers : List ℕ) (replies : List Reply) → All IsCode answers → All HasCode replies → Fits (answered_course number answers replies)
+answered_fits : (number : ℕ) (answers : List ℕ) (replies : List Reply) → All IsCode answers → All HasCode replies → Fits (answered_transaction number answers replies)
 answered_fits number answers replies given codes = either_fits (is_some_accepted answers) _ _
-    (behind_fits (act.Say data_line) (data_course number answers replies) tt (data_fits number answers replies given codes))
-    (behind_fits (act.Say reset_line) (reset_course (map (outcome_by None) answers) replies) tt (reset_fits (map (outcome_by None) answers) replies (sent_fit answers given) codes))
+    (following_fits (act.Say data_line) (data_transaction number answers replies) tt (data_fits number answers replies given codes))
+    (following_fits (act.Say reset_line) (reset_transaction (map (outcome_by None) answers) replies) tt (reset_fits (map (outcome_by None) answers) replies (sent_fit answers given) codes))
 
 rcpt_fits : (offer : Offer) (number : ℕ) (recipients : List Recipient) (answers : List ℕ) (replies : List Reply) → All IsCode answers → All HasCode replies
-    → Fits (rcpt_course offer number recipients answers replies)
-unfolding rcpt_course
+    → Fits (rcpt_transaction offer number recipients answers replies)
+unfolding rcpt_transaction
 rcpt_fits offer number [] answers replies given codes = answered_fits number answers replies given codes
-rcpt_fits offer number (recipient ∷ recipients) answers [] given codes = behind_fits (act.Say (rcpt_line offer recipient)) (ended [] waits) tt (All-nil IsFitAct)
+rcpt_fits offer number (recipient ∷ recipients) answers [] given codes = following_fits (act.Say (rcpt_line offer recipient)) (ended [] waits) tt (All-nil IsFitAct)
 rcpt_fits offer number (recipient ∷ recipients) answers (reply ∷ left) given codes =
-    behind_fits (act.Say (rcpt_line offer recipient)) (if is_answer reply.code then rcpt_course offer number recipients (answers ++ reply.code ∷ []) left else ended [] (stopped reply)) tt
-    (either_fits (is_answer reply.code) (rcpt_course offer number recipients (answers ++ reply.code ∷ []) left) (ended [] (stopped reply))
+    following_fits (act.Say (rcpt_line offer recipient)) (if is_answer reply.code then rcpt_transaction offer number recipients (answers ++ reply.code ∷ []) left else ended [] (stopped reply)) tt
+    (either_fits (is_answer reply.code) (rcpt_transaction offer number recipients (answers ++ reply.code ∷ []) left) (ended [] (stopped reply))
     (rcpt_fits offer number recipients (answers ++ reply.code ∷ []) left (All-push IsCode answers reply.code given (All-head HasCode reply left codes)) (All-tail HasCode reply left codes))
     (All-nil IsFitAct))
 
-mail_fits : (offer : Offer) (number : ℕ) (sent : List Recipient) (replies : List Reply) → All HasCode replies → Fits (mail_course offer number sent replies)
+mail_fits : (offer : Offer) (number : ℕ) (sent : List Recipient) (replies : List Reply) → All HasCode replies → Fits (mail_transaction offer number sent replies)
 mail_fits offer number sent [] codes = All-nil IsFitAct
 mail_fits offer number sent (reply ∷ left) codes =
     let refused : List Outcome = map (λ (recipient : Recipient). Refused 0 (Some reply.code)) sent in
-    let behind : All HasCode left = All-tail HasCode reply left codes in
-    either_fits (is_completed reply.code) _ _ (rcpt_fits offer number sent [] left (All-nil IsCode) behind)
+    let following : All HasCode left = All-tail HasCode reply left codes in
+    either_fits (is_completed reply.code) _ _ (rcpt_fits offer number sent [] left (All-nil IsCode) following)
     (either_fits (is_permanent reply.code) _ (ended [] (stopped reply))
-    (behind_fits (act.Say reset_line) (reset_course refused left) tt (reset_fits refused left (all_refused_fit reply.code sent (All-head HasCode reply left codes)) behind)) (All-nil IsFitAct))
+    (following_fits (act.Say reset_line) (reset_transaction refused left) tt (reset_fits refused left (all_refused_fit reply.code sent (All-head HasCode reply left codes)) following)) (All-nil IsFitAct))
 
-course_fits : (offer : Offer) (number : ℕ) (letter : Letter) (sent : List Recipient) (replies : List Reply) → All HasCode replies → Fits (course_to offer number letter sent replies)
-course_fits offer number letter [] replies codes = (All-nil IsFitAct, All-nil IsFitOutcome, codes)
-course_fits offer number letter (recipient ∷ recipients) replies codes =
-    behind_fits (act.Say (mail_line offer letter (recipient ∷ recipients))) (mail_course offer number (recipient ∷ recipients) replies) tt
+transaction_fits : (offer : Offer) (number : ℕ) (mail_object : MailObject) (sent : List Recipient) (replies : List Reply) → All HasCode replies → Fits (transaction_to offer number mail_object sent replies)
+transaction_fits offer number mail_object [] replies codes = (All-nil IsFitAct, All-nil IsFitOutcome, codes)
+transaction_fits offer number mail_object (recipient ∷ recipients) replies codes =
+    following_fits (act.Say (mail_line offer mail_object (recipient ∷ recipients))) (mail_transaction offer number (recipient ∷ recipients) replies) tt
     (mail_fits offer number (recipient ∷ recipients) replies codes)
 
 -- ---- a run
@@ -152,36 +152,36 @@ either_acts : (b : Bool) (one other : Run) → All IsFitAct one.acts → All IsF
 either_acts true one other fit others = fit
 either_acts false one other fit others = others
 
-followed_fits : (offer : Offer) (number : ℕ) (letter : Letter) (next : List Reply → Run) → ((left : List Reply) → All HasCode left → All IsFitAct (next left).acts)
-    → (course : Transaction) → Fits course → All IsFitAct (followed offer number letter course next).acts
-followed_fits offer number letter next goes (done acts outcomes left) fit =
-    let made : List Outcome = merged (map (plan_of offer letter) letter.recipients) outcomes in
+followed_fits : (offer : Offer) (number : ℕ) (mail_object : MailObject) (next : List Reply → Run) → ((left : List Reply) → All HasCode left → All IsFitAct (next left).acts)
+    → (exchange : Transaction) → Fits exchange → All IsFitAct (followed offer number mail_object exchange next).acts
+followed_fits offer number mail_object next goes (done acts outcomes left) fit =
+    let made : List Outcome = merged (map (plan_of offer mail_object) mail_object.recipients) outcomes in
     All-append IsFitAct (acts ++ act.Settle number made ∷ []) (next left).acts
-    (All-push IsFitAct acts (act.Settle number made) fit.0 (merged_fit (map (plan_of offer letter) letter.recipients) outcomes fit.1)) (goes left fit.2)
-followed_fits offer number letter next goes (ended acts end) fit = fit
+    (All-push IsFitAct acts (act.Settle number made) fit.0 (merged_fit (map (plan_of offer mail_object) mail_object.recipients) outcomes fit.1)) (goes left fit.2)
+followed_fits offer number mail_object next goes (ended acts end) fit = fit
 
-letters_fit : (offer : Offer) (number : ℕ) (letters : List Letter) (replies : List Reply) → All HasCode replies → All IsFitAct (letters_run offer number letters replies).acts
-unfolding letters_run
-letters_fit offer number [] replies codes = All-cons IsFitAct (act.Say quit_line) [] tt (All-nil IsFitAct)
-letters_fit offer number (letter ∷ letters) replies codes =
-    followed_fits offer number letter (letters_run offer (number + 1) letters) (letters_fit offer (number + 1) letters) (letter_course offer number letter replies)
-    (course_fits offer number letter (sent_to offer letter) replies codes)
+mail_objects_fit : (offer : Offer) (number : ℕ) (mail_objects : List MailObject) (replies : List Reply) → All HasCode replies → All IsFitAct (mail_objects_run offer number mail_objects replies).acts
+unfolding mail_objects_run
+mail_objects_fit offer number [] replies codes = All-cons IsFitAct (act.Say quit_line) [] tt (All-nil IsFitAct)
+mail_objects_fit offer number (mail_object ∷ mail_objects) replies codes =
+    followed_fits offer number mail_object (mail_objects_run offer (number + 1) mail_objects) (mail_objects_fit offer (number + 1) mail_objects) (mail_object_transaction offer number mail_object replies)
+    (transaction_fits offer number mail_object (sent_to offer mail_object) replies codes)
 
-ehlo_fits : (letters : List Letter) (replies : List Reply) → All HasCode replies → All IsFitAct (ehlo_run letters replies).acts
-ehlo_fits letters [] codes = All-nil IsFitAct
-ehlo_fits letters (reply ∷ left) codes =
-    either_acts (is_completed reply.code) (letters_run (offer_of reply) 0 letters left) (record { acts = []; end = stopped reply }) (letters_fit (offer_of reply) 0 letters left (All-tail HasCode reply left codes))
+ehlo_fits : (mail_objects : List MailObject) (replies : List Reply) → All HasCode replies → All IsFitAct (ehlo_run mail_objects replies).acts
+ehlo_fits mail_objects [] codes = All-nil IsFitAct
+ehlo_fits mail_objects (reply ∷ left) codes =
+    either_acts (is_completed reply.code) (mail_objects_run (offer_of reply) 0 mail_objects left) (record { acts = []; end = stopped reply }) (mail_objects_fit (offer_of reply) 0 mail_objects left (All-tail HasCode reply left codes))
     (All-nil IsFitAct)
 
-relay_fits : (name : List ℕ) (letters : List Letter) (replies : List Reply) → All HasCode replies → All IsFitAct (relay_of name letters replies).acts
-relay_fits name letters [] codes = All-nil IsFitAct
-relay_fits name letters (reply ∷ left) codes =
-    either_acts (is_completed reply.code) (behind_acts (act.Say (ehlo_line name) ∷ []) (ehlo_run letters left)) (record { acts = []; end = stopped reply })
-    (All-cons IsFitAct (act.Say (ehlo_line name)) (ehlo_run letters left).acts tt (ehlo_fits letters left (All-tail HasCode reply left codes))) (All-nil IsFitAct)
+relay_fits : (name : List ℕ) (mail_objects : List MailObject) (replies : List Reply) → All HasCode replies → All IsFitAct (relay_of name mail_objects replies).acts
+relay_fits name mail_objects [] codes = All-nil IsFitAct
+relay_fits name mail_objects (reply ∷ left) codes =
+    either_acts (is_completed reply.code) (after_acts (act.Say (ehlo_line name) ∷ []) (ehlo_run mail_objects left)) (record { acts = []; end = stopped reply })
+    (All-cons IsFitAct (act.Say (ehlo_line name)) (ehlo_run mail_objects left).acts tt (ehlo_fits mail_objects left (All-tail HasCode reply left codes))) (All-nil IsFitAct)
 
 -- ---- what the law says
 
-pub settled_fit : (name : List ℕ) (letters : List Letter) (replies : List Reply) (number : ℕ) (outcomes : List Outcome) → All HasCode replies
-    → Contains (relay_of name letters replies).acts (act.Settle number outcomes) → All IsFitOutcome outcomes
-settled_fit name letters replies number outcomes codes has =
-    All-contains IsFitAct (relay_of name letters replies).acts (act.Settle number outcomes) (relay_fits name letters replies codes) has
+pub settled_fit : (name : List ℕ) (mail_objects : List MailObject) (replies : List Reply) (number : ℕ) (outcomes : List Outcome) → All HasCode replies
+    → Contains (relay_of name mail_objects replies).acts (act.Settle number outcomes) → All IsFitOutcome outcomes
+settled_fit name mail_objects replies number outcomes codes has =
+    All-contains IsFitAct (relay_of name mail_objects replies).acts (act.Settle number outcomes) (relay_fits name mail_objects replies codes) has

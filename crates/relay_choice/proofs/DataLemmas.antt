@@ -107,8 +107,8 @@ run_by x y rest next after true is zero h none = crlf_others x y rest is
 run_by x y rest next after true is (suc zero) h none = absurd (lf_no_cr x y rest is h)
 run_by x y rest next after true is (suc (suc k)) h none =
     let free = not_dotted x y rest is (λ at. none 0 (omega arith) at) in
-    let behind = after k (later y rest k (later x (y ∷ rest) (suc k) h)) (λ j lt at. none (suc (suc j)) (omega arith) (before x (y ∷ rest) (suc j) (before y rest j at))) in
-    crlf_others x y rest is ∙ ap (λ more. x ∷ y ∷ more) (no_dot rest free ∙ behind)
+    let following = after k (later y rest k (later x (y ∷ rest) (suc k) h)) (λ j lt at. none (suc (suc j)) (omega arith) (before x (y ∷ rest) (suc j) (before y rest j at))) in
+    crlf_others x y rest is ∙ ap (λ more. x ∷ y ∷ more) (no_dot rest free ∙ following)
 run_by x y rest next after false is zero h none = let both = is_crlf_true x y h.cr h.lf in absurd (differ (sym both ∙ is))
   where
     differ : true ≡ false → ⊥

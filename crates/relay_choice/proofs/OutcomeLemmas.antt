@@ -3,9 +3,9 @@ use Rattle.std.proofs.Common.{◌≡◌, ℕ, ◌+◌, ◌<◌, List, [], ◌∷
 use Rattle.std.proofs.lemmas.List.{at_drop_more, append_assoc}
 use Rattle.relay_choice.specs.declared.plans.Plan.{Plan}
 use Rattle.relay_choice.specs.declared.plans.Plan.TheVariants as plan
-use Rattle.relay_choice.specs.declared.letters.Recipient.{Recipient}
-use Rattle.relay_choice.specs.declared.letters.Outcome.{Outcome}
-use Rattle.relay_choice.specs.declared.letters.Outcome.TheVariants as outcome
+use Rattle.relay_choice.specs.declared.mail_objects.Recipient.{Recipient}
+use Rattle.relay_choice.specs.declared.mail_objects.Outcome.{Outcome}
+use Rattle.relay_choice.specs.declared.mail_objects.Outcome.TheVariants as outcome
 use Rattle.relay_choice.specs.Plans.{is_sent}
 use Rattle.relay_choice.specs.Relay.{merged}
 use Rattle.relay_choice.specs.private.Asking.{detail_of}

@@ -26,10 +26,10 @@ cr_last [] is = cc
 cr_last (x ∷ []) is = let parts = is_crlf_parts x 10 is in ([], ap (λ z. z ∷ []) parts.0)
 cr_last (x ∷ y ∷ xs) is = let more = cr_last (y ∷ xs) is in (x ∷ more.0, ap (λ l. x ∷ l) more.1)
 
-pub joins_behind : (xs : List ℕ) (y : ℕ) (ys zs : List ℕ) → joins (xs ++ y ∷ ys) zs ≡ joins (y ∷ ys) zs
-joins_behind [] y ys zs = refl
-joins_behind (x ∷ []) y ys zs = refl
-joins_behind (x ∷ z ∷ xs) y ys zs = joins_behind (z ∷ xs) y ys zs
+pub joins_after : (xs : List ℕ) (y : ℕ) (ys zs : List ℕ) → joins (xs ++ y ∷ ys) zs ≡ joins (y ∷ ys) zs
+joins_after [] y ys zs = refl
+joins_after (x ∷ []) y ys zs = refl
+joins_after (x ∷ z ∷ xs) y ys zs = joins_after (z ∷ xs) y ys zs
 
 -- an octet behind these makes no CRLF with them
 pub octet_apart : (xs : List ℕ) (x : ℕ) → (x ≡ 10 → ends_by_cr xs ≡ false) → joins xs (x ∷ []) ≡ false
@@ -108,7 +108,7 @@ room front (y ∷ z ∷ later) text x line short ended is =
 
 -- a front of a line that is within it
 pub line_front : (own : List ℕ) (n : ℕ) (front line later : List ℕ) (x : ℕ) → IsReplyLine line → HasSign n own line → first_line front ≡ None → line ≡ front ++ x ∷ later → IsLineFront own n front
-line_front own n front line later x is signed unended reaches = elim (splits own (signed.sign ∷ signed.behind) front (x ∷ later) (sym signed.spelled ∙ reaches)) [
+line_front own n front line later x is signed unended reaches = elim (splits own (signed.sign ∷ signed.following) front (x ∷ later) (sym signed.spelled ∙ reaches)) [
   | inl p ↦ by p.0 p.1 p.2
   | inr p ↦ inl (p.0, p.1)
 ]
@@ -120,11 +120,11 @@ line_front own n front line later x is signed unended reaches = elim (splits own
       | inr (inr r) ↦ inl (omega (arith, r))
     ]
 
-    by : (e : List ℕ) → front ≡ own ++ e → signed.sign ∷ signed.behind ≡ e ++ x ∷ later → IsLineFront own n front
+    by : (e : List ℕ) → front ≡ own ++ e → signed.sign ∷ signed.following ≡ e ++ x ∷ later → IsLineFront own n front
     by [] is_front left = inl ([], sym (rw (append-nil own) at is_front) ∙ sym (append-nil front))
     by (s ∷ text) is_front left =
         let head : signed.sign ≡ s = cc in
-        let tail : signed.behind ≡ text ++ x ∷ later = cc in
+        let tail : signed.following ≡ text ++ x ∷ later = cc in
         inr (record {
           sign = s;
           text = text;
@@ -166,7 +166,7 @@ code_with (a ∷ b ∷ c ∷ d ∷ front) left x y is fits = cc
 
 -- within the code
 pub within_code : (code : List ℕ) (n : ℕ) (front : List ℕ) (x : ℕ) → length front < 3 → (at : IsWithin code n front x) → (left : List ℕ) × (at.own ≡ front ++ x ∷ left)
-within_code code n front x small at = elim (splits front (x ∷ at.later) at.own (at.signed.sign ∷ at.signed.behind) (sym at.reaches ∙ at.signed.spelled)) [
+within_code code n front x small at = elim (splits front (x ∷ at.later) at.own (at.signed.sign ∷ at.signed.following) (sym at.reaches ∙ at.signed.spelled)) [
   | inl p ↦ by p.0 p.1 p.2
   | inr p ↦
       let three = code_length at.own at.is_code_of in
@@ -174,7 +174,7 @@ within_code code n front x small at = elim (splits front (x ∷ at.later) at.own
       absurd (omega (arith, small, three, count))
 ]
   where
-    by : (e : List ℕ) → at.own ≡ front ++ e → x ∷ at.later ≡ e ++ at.signed.sign ∷ at.signed.behind → (left : List ℕ) × (at.own ≡ front ++ x ∷ left)
+    by : (e : List ℕ) → at.own ≡ front ++ e → x ∷ at.later ≡ e ++ at.signed.sign ∷ at.signed.following → (left : List ℕ) × (at.own ≡ front ++ x ∷ left)
     by [] is left =
         let three = code_length at.own at.is_code_of in
         let count = ap (λ (l : List ℕ). length l) (is ∙ append-nil front) in
@@ -194,18 +194,18 @@ same_code_by code front n x small some at =
 -- behind the code
 pub sign_by : (code front : List ℕ) (n x : ℕ) → length front ≡ 3 → IsWithin code n front x → sign_fits n x ≡ true
 sign_by code front n x three at =
-    let both = same_fronts at.own (at.signed.sign ∷ at.signed.behind) front (x ∷ at.later) 3 (code_length at.own at.is_code_of) three (sym at.signed.spelled ∙ at.reaches) in
+    let both = same_fronts at.own (at.signed.sign ∷ at.signed.following) front (x ∷ at.later) 3 (code_length at.own at.is_code_of) three (sym at.signed.spelled ∙ at.reaches) in
     let head : at.signed.sign ≡ x = cc in
     subst (λ z. sign_fits n z ≡ true) head at.signed.fits
 
 ends_line : (front text : List ℕ) (x : ℕ) → 4 ≤ length front → x ≡ 10 → front ≡ text ++ 13 ∷ [] → EndsReplyLine front x
 ends_line front text x long lf cr =
     let count = ap (λ (l : List ℕ). length l) cr ∙ length-append text (13 ∷ []) in
-    record { ends = lf; front = text; line_is = cr; behind_code = omega (arith, long, count) }
+    record { ends = lf; front = text; line_is = cr; after_code = omega (arith, long, count) }
 
 -- within the text
 pub text_by : (code front : List ℕ) (n x : ℕ) → 4 ≤ length front → (EndsReplyLine front x → ⊥) → IsWithin code n front x → text_fits front x ≡ true
-text_by code front n x long goes at = elim (splits at.own (at.signed.sign ∷ at.signed.behind) front (x ∷ at.later) (sym at.signed.spelled ∙ at.reaches)) [
+text_by code front n x long goes at = elim (splits at.own (at.signed.sign ∷ at.signed.following) front (x ∷ at.later) (sym at.signed.spelled ∙ at.reaches)) [
   | inl p ↦ by p.0 p.1 p.2
   | inr p ↦
       let three = code_length at.own at.is_code_of in
@@ -227,14 +227,14 @@ text_by code front n x long goes at = elim (splits at.own (at.signed.sign ∷ at
         grind (arith, nat_tests)
     fits sign is differs (inr r) = let other : get_or front 3 0 ≡ 13 → ⊥ = λ h. differs (sym is ∙ h) in grind (arith, nat_tests)
 
-    by : (e : List ℕ) → front ≡ at.own ++ e → at.signed.sign ∷ at.signed.behind ≡ e ++ x ∷ at.later → text_fits front x ≡ true
+    by : (e : List ℕ) → front ≡ at.own ++ e → at.signed.sign ∷ at.signed.following ≡ e ++ x ∷ at.later → text_fits front x ≡ true
     by [] is left =
         let three = code_length at.own at.is_code_of in
         let count = ap (λ (l : List ℕ). length l) (is ∙ append-nil at.own) in
         absurd (omega (arith, long, three, count))
     by (s ∷ text) is left =
         let head : at.signed.sign ≡ s = cc in
-        let tail : at.signed.behind ≡ text ++ x ∷ at.later = cc in
+        let tail : at.signed.following ≡ text ++ x ∷ at.later = cc in
         let third : get_or front 3 0 ≡ s = rw is (get_or_at at.own s text 0 3 (code_length at.own at.is_code_of)) in
         fits s third (λ h.
         let both = alone text at.later x 10 (sym tail ∙ at.signed.bare (head ∙ h)) in

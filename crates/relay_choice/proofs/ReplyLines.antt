@@ -101,27 +101,27 @@ rest_by code own n text line rest is own_is is_further (other_text ∷ texts) la
     }
 
 -- behind one line more
-rest_behind : (code : List ℕ) (n : ℕ) (text line rest : List ℕ) → is_code code ≡ true → IsFurtherLine code text line → IsRest code n (line ++ rest) → IsRest code (n + 1) rest
-rest_behind code n text line rest is is_further of =
+rest_after : (code : List ℕ) (n : ℕ) (text line rest : List ℕ) → is_code code ≡ true → IsFurtherLine code text line → IsRest code n (line ++ rest) → IsRest code (n + 1) rest
+rest_after code n text line rest is is_further of =
     rest_by code of.own n text line rest is of.is_code_of is_further of.texts of.text of.further of.last of.few of.whole of.are_further of.is_last
 
-pub rest_behind_all : (code : List ℕ) (n : ℕ) (texts : List (List ℕ)) (further rest : List ℕ) → is_code code ≡ true → AreFurtherLines code texts further
+pub rest_after_all : (code : List ℕ) (n : ℕ) (texts : List (List ℕ)) (further rest : List ℕ) → is_code code ≡ true → AreFurtherLines code texts further
     → IsRest code n (further ++ rest) → IsRest code (n + length texts) rest
-rest_behind_all code n [] further rest is none of = rw add-zero (subst (λ all. IsRest code n (all ++ rest)) none of)
-rest_behind_all code n (text ∷ texts) further rest is are of =
+rest_after_all code n [] further rest is none of = rw add-zero (subst (λ all. IsRest code n (all ++ rest)) none of)
+rest_after_all code n (text ∷ texts) further rest is are of =
     let line : List ℕ = are.0 in
     let others : List ℕ = are.1 in
     let from : IsRest code n (line ++ (others ++ rest)) = subst (IsRest code n) (ap (λ all. all ++ rest) are.2 ∙ append_assoc line others rest) of in
     let count : n + 1 + length texts ≡ n + suc (length texts) = omega arith in
-    subst (λ k. IsRest code k rest) count (rest_behind_all code (n + 1) texts others rest is are.4 (rest_behind code n text line (others ++ rest) is are.3 from))
+    subst (λ k. IsRest code k rest) count (rest_after_all code (n + 1) texts others rest is are.4 (rest_after code n text line (others ++ rest) is are.3 from))
 
 -- what a line is behind its code, and that it has CRLF at its end
 pub record HasSign (n : ℕ) (code line : List ℕ) : Type 0 where
   pub sign : ℕ
-  pub behind : List ℕ
-  pub spelled : line ≡ code ++ sign ∷ behind
+  pub following : List ℕ
+  pub spelled : line ≡ code ++ sign ∷ following
   pub fits : sign_fits n sign ≡ true
-  pub bare : sign ≡ 13 → behind ≡ 10 ∷ []
+  pub bare : sign ≡ 13 → following ≡ 10 ∷ []
   pub text : List ℕ
   pub ended : line ≡ text ++ crlf
 
@@ -141,20 +141,20 @@ last_signed : (n : ℕ) (code text line : List ℕ) → IsLastLine code text lin
 last_signed n code text line is = elim is.spelled [
   | inl e ↦ record {
     sign = 32;
-    behind = text ++ crlf;
+    following = text ++ crlf;
     spelled = e;
     fits = refl;
     bare = λ h. absurd (omega (arith, h));
     text = code ++ 32 ∷ text;
     ended = e ∙ sym (append_assoc code (32 ∷ text) crlf);
   }
-  | inr e ↦ record { sign = 13; behind = 10 ∷ []; spelled = e.1; fits = refl; bare = λ h. refl; text = code; ended = e.1 }
+  | inr e ↦ record { sign = 13; following = 10 ∷ []; spelled = e.1; fits = refl; bare = λ h. refl; text = code; ended = e.1 }
 ]
 
 further_signed : (n : ℕ) (code text line : List ℕ) → n + 1 < REPLY_LINES → IsFurtherLine code text line → HasSign n code line
 further_signed n code text line few is = record {
   sign = 45;
-  behind = text ++ crlf;
+  following = text ++ crlf;
   spelled = is.spelled;
   fits = lt-ltb n 99 (omega (arith, few));
   bare = λ h. absurd (omega (arith, h));
@@ -233,7 +233,7 @@ pub within_reply : (code : List ℕ) (texts : List (List ℕ)) (further front : 
 within_reply code texts further front x more reply is are unended is_reply =
     let all : IsRest code 0 (further ++ (front ++ x ∷ more)) = subst (IsRest code 0) (append_assoc further front (x ∷ more)) (whole_rest code _ reply is_reply) in
     let count : 0 + length texts ≡ length texts = omega arith in
-    let rest : IsRest code (length texts) (front ++ x ∷ more) = subst (λ k. IsRest code k (front ++ x ∷ more)) count (rest_behind_all code 0 texts further (front ++ x ∷ more) is are all) in
+    let rest : IsRest code (length texts) (front ++ x ∷ more) = subst (λ k. IsRest code k (front ++ x ∷ more)) count (rest_after_all code 0 texts further (front ++ x ∷ more) is are all) in
     let next = next_of code (length texts) (front ++ x ∷ more) rest in
     let found = reaches front more next.line next.others x unended next.is_line.whole next.whole in
     record {

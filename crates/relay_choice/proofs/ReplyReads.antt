@@ -14,7 +14,7 @@ use Rattle.relay_choice.specs.Replies.{is_code, IsFurtherLine, IsLastLine, AreFu
 use Rattle.relay_choice.specs.Pieces.{DecidesBy}
 use Rattle.relay_choice.specs.private.Places.{IsReplyFront}
 use Rattle.relay_choice.specs.private.Texts.{text_of_line}
-use Rattle.relay_choice.proofs.ReplyLines.{unsome, whole_first, same_first, code_length, not_last, IsRest, whole_rest, rest_behind_all}
+use Rattle.relay_choice.proofs.ReplyLines.{unsome, whole_first, same_first, code_length, not_last, IsRest, whole_rest, rest_after_all}
 use Rattle.relay_choice.proofs.ReplySteps.{front_of}
 
 lines_by : (x y : ℕ) (rest : List ℕ) (cut : Cut) → first_line (x ∷ y ∷ rest) ≡ Some cut → ((next : Cut) → first_line (y ∷ rest) ≡ Some next → lines_of (y ∷ rest) ≡ next.line ∷ lines_of next.rest)
@@ -35,23 +35,23 @@ lines_first (x ∷ y ∷ rest) cut found = lines_by x y rest cut found (λ next 
 
 -- what a line says
 
-says_behind : (code text line : List ℕ) (sign : ℕ) → is_code code ≡ true → line ≡ code ++ sign ∷ (text ++ crlf) → text_of_line line ≡ text
-says_behind code text line sign is spelled =
+says_after : (code text line : List ℕ) (sign : ℕ) → is_code code ≡ true → line ≡ code ++ sign ∷ (text ++ crlf) → text_of_line line ≡ text
+says_after code text line sign is spelled =
     let three = code_length code is in
     let count = ap (λ (l : List ℕ). length l) spelled ∙ length-append code (sign ∷ (text ++ crlf)) in
-    let behind = length-append text crlf in
+    let following = length-append text crlf in
     let four : length (code ++ sign ∷ []) ≡ 4 = omega (arith, three, length_push code sign) in
     let parts : line ≡ (code ++ sign ∷ []) ++ (text ++ crlf) = spelled ∙ sym (append_assoc code (sign ∷ []) (text ++ crlf)) in
     let left : drop 4 line ≡ text ++ crlf = ap (λ (l : List ℕ). drop 4 l) parts ∙ drop_at (code ++ sign ∷ []) (text ++ crlf) 4 four in
-    let some : length text ≡ length line - 6 = omega (arith, count, three, behind) in
-    rw (le-ltb (length line) 6 (omega (arith, count, three, behind)), left) (take_at text crlf (length line - 6) some)
+    let some : length text ≡ length line - 6 = omega (arith, count, three, following) in
+    rw (le-ltb (length line) 6 (omega (arith, count, three, following)), left) (take_at text crlf (length line - 6) some)
 
 further_says : (code text line : List ℕ) → is_code code ≡ true → IsFurtherLine code text line → text_of_line line ≡ text
-further_says code text line is is_line = says_behind code text line 45 is is_line.spelled
+further_says code text line is is_line = says_after code text line 45 is is_line.spelled
 
 last_says : (code text line : List ℕ) → is_code code ≡ true → IsLastLine code text line → text_of_line line ≡ text
 last_says code text line is is_line = elim is_line.spelled [
-  | inl e ↦ says_behind code text line 32 is e
+  | inl e ↦ says_after code text line 32 is e
   | inr e ↦
       let three = code_length code is in
       let count : length line ≡ 5 = ap (λ (l : List ℕ). length l) e.1 ∙ omega (arith, three, length-append code crlf) in
@@ -108,7 +108,7 @@ pub reply_ends : (octets more : List ℕ) → AreReply octets → AreReply (octe
 reply_ends octets more are longer =
     let is = are.1 in
     let all : IsRest is.code 0 (is.further ++ (is.last ++ more)) = subst (IsRest is.code 0) (ap (λ (l : List ℕ). l ++ more) is.whole ∙ append_assoc is.further is.last more) (whole_rest is.code (octets ++ more) longer.0 longer.1) in
-    let rest = rest_behind_all is.code 0 is.texts is.further (is.last ++ more) is.is_code_of is.are_further all in
+    let rest = rest_after_all is.code 0 is.texts is.further (is.last ++ more) is.is_code_of is.are_further all in
     ends_by is.code (0 + length is.texts) is.text is.last more is.is_code_of is.is_last rest rest.texts rest.are_further
 
 pub never_more : (octets : List ℕ) → AreReply octets → IsBegun octets → ⊥
@@ -226,17 +226,17 @@ no_front before x begun none =
 
 -- one octet more, as it is read
 
-next_octets : (octets before behind : List ℕ) (used : ℕ) → used < length octets → before ≡ take used octets → behind ≡ drop used octets
-    → take (used + 1) octets ≡ before ++ get_or behind 0 0 ∷ []
-next_octets octets before behind used lt front back =
-    let first : get_or behind 0 0 ≡ get_or octets used 0 = ap (λ (l : List ℕ). get_or l 0 0) back ∙ get_or-drop used octets 0 0 ∙ ap (λ n. get_or octets n 0) (add-zero used) in
+next_octets : (octets before following : List ℕ) (used : ℕ) → used < length octets → before ≡ take used octets → following ≡ drop used octets
+    → take (used + 1) octets ≡ before ++ get_or following 0 0 ∷ []
+next_octets octets before following used lt front back =
+    let first : get_or following 0 0 ≡ get_or octets used 0 = ap (λ (l : List ℕ). get_or l 0 0) back ∙ get_or-drop used octets 0 0 ∙ ap (λ n. get_or octets n 0) (add-zero used) in
     take_more octets used 0 lt ∙ rw (front, first) refl
 
-pub none_read : (octets before behind : List ℕ) (used : ℕ) (place : Place) → used < length octets → before ≡ take used octets → behind ≡ drop used octets
-    → IsReplyFront (take used octets) place → (IsReplyFront before place → IsFront (before ++ get_or behind 0 0 ∷ []) → ⊥) → IsReplyRead octets (read.NotReply (used + 1))
-none_read octets before behind used place lt front back is none =
+pub none_read : (octets before following : List ℕ) (used : ℕ) (place : Place) → used < length octets → before ≡ take used octets → following ≡ drop used octets
+    → IsReplyFront (take used octets) place → (IsReplyFront before place → IsFront (before ++ get_or following 0 0 ∷ []) → ⊥) → IsReplyRead octets (read.NotReply (used + 1))
+none_read octets before following used place lt front back is none =
     let here : IsReplyFront before place = subst (λ l. IsReplyFront l place) (sym front) is in
-    (omega (arith, lt), subst IsNoFront (sym (next_octets octets before behind used lt front back)) (no_front before (get_or behind 0 0) here.begun (none here)))
+    (omega (arith, lt), subst IsNoFront (sym (next_octets octets before following used lt front back)) (no_front before (get_or following 0 0) here.begun (none here)))
 
 pub more_read : (octets : List ℕ) (used : ℕ) (place : Place) → length octets ≤ used → IsReplyFront (take used octets) place → IsBegun octets
 more_read octets used place all is = subst IsBegun (take_all used octets all) is.begun

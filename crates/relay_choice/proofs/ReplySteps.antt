@@ -11,7 +11,7 @@ use Rattle.relay_choice.specs.declared.steps.Place.{Place}
 use Rattle.relay_choice.specs.Replies.{is_code, IsReplyLine, IsFurtherLine, IsLastLine, AreFurtherLines, IsReply, AreReply, IsBegun, IsFront}
 use Rattle.relay_choice.specs.private.Places.{sign_fits, first_code_fits, IsReplyFront}
 use Rattle.relay_choice.proofs.ReplyLines.{code_length, same_fronts, within_reply, IsWithin}
-use Rattle.relay_choice.proofs.ReplyFronts.{IsTextFront, IsLineFront, line_front, ends_by_cr, by_cr, cr_last, joins_behind, octet_apart, unended_more, unended_front, code_unended, code_apart, code_with}
+use Rattle.relay_choice.proofs.ReplyFronts.{IsTextFront, IsLineFront, line_front, ends_by_cr, by_cr, cr_last, joins_after, octet_apart, unended_more, unended_front, code_unended, code_apart, code_with}
 
 -- lines make a reply
 pub made : (code : List ℕ) (texts : List (List ℕ)) (further text last : List ℕ) → is_code code ≡ true → length texts < REPLY_LINES → AreFurtherLines code texts further
@@ -125,10 +125,10 @@ sign_cases n sign fits = elim (or_cases (sign == 32 || sign == 13) (sign == 45 &
 text_ended : (code front : List ℕ) (sign : ℕ) (text : List ℕ) → front ≡ code ++ sign ∷ text → ends_by_cr front ≡ true → (sign ≡ 13 → ⊥)
     → (said : List ℕ) × (front ++ 10 ∷ [] ≡ code ++ sign ∷ (said ++ crlf))
 text_ended code front sign [] spelled cr differs =
-    let parts = is_crlf_parts sign 10 (sym (joins_behind code sign [] (10 ∷ [])) ∙ sym (ap ends_by_cr spelled) ∙ cr) in
+    let parts = is_crlf_parts sign 10 (sym (joins_after code sign [] (10 ∷ [])) ∙ sym (ap ends_by_cr spelled) ∙ cr) in
     absurd (differs parts.0)
 text_ended code front sign (y ∷ text) spelled cr differs =
-    let last = cr_last (y ∷ text) (sym (joins_behind code sign (y ∷ text) (10 ∷ [])) ∙ sym (ap ends_by_cr spelled) ∙ cr) in (
+    let last = cr_last (y ∷ text) (sym (joins_after code sign (y ∷ text) (10 ∷ [])) ∙ sym (ap ends_by_cr spelled) ∙ cr) in (
       last.0,
       ap (λ (l : List ℕ). l ++ 10 ∷ []) (spelled ∙ ap (λ (l : List ℕ). code ++ sign ∷ l) last.1) ∙ append_assoc code (sign ∷ (last.0 ++ 13 ∷ [])) (10 ∷ [])
           ∙ ap (λ (l : List ℕ). code ++ sign ∷ l) (append_assoc last.0 (13 ∷ []) (10 ∷ [])),

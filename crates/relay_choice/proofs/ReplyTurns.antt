@@ -134,7 +134,7 @@ no_cr : (front : List ℕ) (x : ℕ) → 4 ≤ length front → (EndsReplyLine f
 no_cr front x long goes lf true is =
     let last = cr_last front is in
     let count = ap (λ (l : List ℕ). length l) last.1 ∙ length-append last.0 (13 ∷ []) in
-    absurd (goes (record { ends = lf; front = last.0; line_is = last.1; behind_code = omega (arith, long, count) }))
+    absurd (goes (record { ends = lf; front = last.0; line_is = last.1; after_code = omega (arith, long, count) }))
 no_cr front x long goes lf false is = is
 
 pub step_text : (before : List ℕ) (place : Place) (x : ℕ) (b : Bool) → 4 ≤ length (line_at before place) → (EndsReplyLine (line_at before place) x → ⊥) → b ≡ text_fits (line_at before place) x
@@ -158,8 +158,8 @@ step_text before place x false long goes fits f = λ are.
 ended_long : (line : List ℕ) (x : ℕ) → EndsReplyLine line x → 4 ≤ length line
 ended_long line x ends =
     let count = ap (λ (l : List ℕ). length l) ends.line_is ∙ length-append ends.front (13 ∷ []) in
-    let behind = ends.behind_code in
-    omega (arith, count, behind)
+    let following = ends.after_code in
+    omega (arith, count, following)
 
 ended_cr : (line : List ℕ) (x : ℕ) → EndsReplyLine line x → ends_by_cr line ≡ true
 ended_cr line x ends = ap ends_by_cr ends.line_is ∙ by_cr ends.front

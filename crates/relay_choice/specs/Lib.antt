@@ -4,7 +4,7 @@ pub mod Replies
 pub mod Pieces
 pub mod Offers
 pub mod Said
-pub mod Letters
+pub mod MailObjects
 pub mod Relay
 pub mod Within
 pub mod Standing

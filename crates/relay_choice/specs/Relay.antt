@@ -6,23 +6,23 @@ use Rattle.relay_choice.specs.declared.plans.Offer.{Offer}
 use Rattle.relay_choice.specs.declared.plans.Plan.{Plan}
 use Rattle.relay_choice.specs.declared.plans.Plan.TheVariants as plan
 use Rattle.relay_choice.specs.declared.replies.Reply.{Reply}
-use Rattle.relay_choice.specs.declared.letters.Recipient.{Recipient}
-use Rattle.relay_choice.specs.declared.letters.Letter.{Letter}
-use Rattle.relay_choice.specs.declared.letters.Outcome.{Outcome}
-use Rattle.relay_choice.specs.declared.letters.Outcome.TheVariants as outcome
-use Rattle.relay_choice.specs.declared.letters.Act.{Act}
-use Rattle.relay_choice.specs.declared.letters.Act.TheVariants as act
+use Rattle.relay_choice.specs.declared.mail_objects.Recipient.{Recipient}
+use Rattle.relay_choice.specs.declared.mail_objects.MailObject.{MailObject}
+use Rattle.relay_choice.specs.declared.mail_objects.Outcome.{Outcome}
+use Rattle.relay_choice.specs.declared.mail_objects.Outcome.TheVariants as outcome
+use Rattle.relay_choice.specs.declared.mail_objects.Act.{Act}
+use Rattle.relay_choice.specs.declared.mail_objects.Act.TheVariants as act
 use Rattle.relay_choice.specs.Plans.{plan_for, is_sent}
 use Rattle.relay_choice.specs.Offers.{is_completed, is_intermediate, is_permanent, offer_of}
 use Rattle.relay_choice.specs.Said.{ehlo_line, mail_line, rcpt_line, data_line, reset_line, quit_line, data_text}
 
 -- how a run ends over these replies
 pub data End : Type 0 where
-  -- all letters are settled, and the client has said QUIT, the reply to which it doesn't await
+  -- all mail objects are settled, and the client has said QUIT, the reply to which it doesn't await
   finished : End
   -- a further reply is awaited
   waits : End
-  -- this reply stops it: nothing more is said, and no letter settled
+  -- this reply stops it: nothing more is said, and no mail object settled
   stopped : (reply : Reply) → End
 
 -- What a client does, in order, and how that ends.
@@ -31,24 +31,24 @@ pub record Run : Type 0 where
   pub end : End
 
 -- What comes of a run, with these acts before its acts.
-abbrev pub behind_acts : List Act → Run → Run
-behind_acts acts run = record { acts = acts ++ run.acts; end = run.end }
+abbrev pub after_acts : List Act → Run → Run
+after_acts acts run = record { acts = acts ++ run.acts; end = run.end }
 
--- ---- what comes of a letter
+-- ---- what comes of a mail object
 
--- Whether and how a letter is sent to a recipient, by what it needs and what the server offers.
-abbrev pub plan_of : Offer → Letter → Recipient → Plan
-plan_of offer letter recipient = plan_for letter.demands recipient.form offer
+-- Whether and how a mail object is sent to a recipient, by what it needs and what the server offers.
+abbrev pub plan_of : Offer → MailObject → Recipient → Plan
+plan_of offer mail_object recipient = plan_for mail_object.demands recipient.form offer
 
--- the recipients to whom the letter is sent, from this place on
-abbrev pub sent_behind : Offer → Letter → (from : ℕ) → List Recipient
-sent_behind offer letter from = filter (λ recipient. is_sent (plan_of offer letter recipient)) (drop from letter.recipients)
+-- the recipients to whom the mail object is sent, from this place on
+abbrev pub sent_after : Offer → MailObject → (from : ℕ) → List Recipient
+sent_after offer mail_object from = filter (λ recipient. is_sent (plan_of offer mail_object recipient)) (drop from mail_object.recipients)
 
--- The recipients to whom the letter is sent.
-abbrev pub sent_to : Offer → Letter → List Recipient
-sent_to offer letter = sent_behind offer letter 0
+-- The recipients to whom the mail object is sent.
+abbrev pub sent_to : Offer → MailObject → List Recipient
+sent_to offer mail_object = sent_after offer mail_object 0
 
--- What comes of each recipient, of whom those to whom the letter is sent have these outcomes, in order.
+-- What comes of each recipient, of whom those to whom the mail object is sent have these outcomes, in order.
 unfoldable pub merged : (plans : List Plan) (outcomes : List Outcome) → List Outcome
 merged [] outcomes = []
 merged (plan.Report5 detail ∷ plans) outcomes = outcome.Refused detail None ∷ merged plans outcomes
@@ -57,13 +57,13 @@ merged (plan.Send ∷ plans) (one ∷ outcomes) = one ∷ merged plans outcomes
 merged (plan.SendNormal ∷ plans) [] = merged plans []
 merged (plan.SendNormal ∷ plans) (one ∷ outcomes) = one ∷ merged plans outcomes
 
--- The recipients of a letter are settled: those to whom it isn't sent are refused, the others have these outcomes.
-abbrev pub settled : Offer → (number : ℕ) → Letter → (outcomes : List Outcome) → Act
-settled offer number letter outcomes = act.Settle number (merged (map (plan_of offer letter) letter.recipients) outcomes)
+-- The recipients of a mail object are settled: those to whom it isn't sent are refused, the others have these outcomes.
+abbrev pub settled : Offer → (number : ℕ) → MailObject → (outcomes : List Outcome) → Act
+settled offer number mail_object outcomes = act.Settle number (merged (map (plan_of offer mail_object) mail_object.recipients) outcomes)
 
 -- ---- answers to RCPT
 
--- Whoever was refused by his own answer stays so. The others were sent the letter, or all of them are refused by one reply, which has this code.
+-- Whoever was refused by his own answer stays so. The others were sent the mail object, or all of them are refused by one reply, which has this code.
 abbrev pub outcome_by : Option ℕ → (answer : ℕ) → Outcome
 outcome_by None answer = if is_permanent answer then outcome.Refused 0 (Some answer) else outcome.Sent
 outcome_by (Some code) answer = if is_permanent answer then outcome.Refused 0 (Some answer) else outcome.Refused 0 (Some code)
@@ -76,105 +76,105 @@ is_some_accepted answers = list_any (λ answer. not (is_permanent answer)) answe
 
 -- what comes of a transaction over the replies that come from its beginning on
 pub data Transaction : Type 0 where
-  -- it is done, with these outcomes of those to whom the letter is sent; these replies are left
+  -- it is done, with these outcomes of those to whom the mail object is sent; these replies are left
   done : (acts : List Act) (outcomes : List Outcome) (left : List Reply) → Transaction
   -- the run ends within it
   ended : (acts : List Act) (end : End) → Transaction
 
 -- What comes of a transaction, with an act before its acts.
-abbrev pub behind_act : Act → Transaction → Transaction
-behind_act first (done acts outcomes left) = done (first ∷ acts) outcomes left
-behind_act first (ended acts end) = ended (first ∷ acts) end
+abbrev pub after_act : Act → Transaction → Transaction
+after_act first (done acts outcomes left) = done (first ∷ acts) outcomes left
+after_act first (ended acts end) = ended (first ∷ acts) end
 
 -- What comes of a transaction, with these octets sent first.
 abbrev pub says : List ℕ → Transaction → Transaction
-says octets course = behind_act (act.Say octets) course
+says octets exchange = after_act (act.Say octets) exchange
 
 -- the reply to RSET: it must be class 2
-abbrev pub reset_course : List Outcome → List Reply → Transaction
-reset_course outcomes [] = ended [] waits
-reset_course outcomes (reply ∷ left) = if is_completed reply.code then done [] outcomes left else ended [] (stopped reply)
+abbrev pub reset_transaction : List Outcome → List Reply → Transaction
+reset_transaction outcomes [] = ended [] waits
+reset_transaction outcomes (reply ∷ left) = if is_completed reply.code then done [] outcomes left else ended [] (stopped reply)
 
 -- the reply to the end of the data
-abbrev pub end_course : (answers : List ℕ) → List Reply → Transaction
-end_course answers [] = ended [] waits
-end_course answers (reply ∷ left) =
+abbrev pub end_transaction : (answers : List ℕ) → List Reply → Transaction
+end_transaction answers [] = ended [] waits
+end_transaction answers (reply ∷ left) =
     if is_completed reply.code then done [] (map (outcome_by None) answers) left
     else (if is_permanent reply.code then done [] (map (outcome_by (Some reply.code)) answers) left else ended [] (stopped reply))
 
 -- the reply to DATA, which asks for them by class 3
-abbrev pub data_course : (number : ℕ) (answers : List ℕ) → List Reply → Transaction
-data_course number answers [] = ended [] waits
-data_course number answers (reply ∷ left) =
-    if is_intermediate reply.code then behind_act (act.SayData number) (end_course answers left)
+abbrev pub data_transaction : (number : ℕ) (answers : List ℕ) → List Reply → Transaction
+data_transaction number answers [] = ended [] waits
+data_transaction number answers (reply ∷ left) =
+    if is_intermediate reply.code then after_act (act.SayData number) (end_transaction answers left)
     else (if is_permanent reply.code then done [] (map (outcome_by (Some reply.code)) answers) left else ended [] (stopped reply))
 
 -- All recipients have answers: the data go to those who were accepted, and without one the transaction is reset.
-abbrev pub answered_course : (number : ℕ) (answers : List ℕ) → List Reply → Transaction
-answered_course number answers replies =
-    if is_some_accepted answers then says data_line (data_course number answers replies)
-    else says reset_line (reset_course (map (outcome_by None) answers) replies)
+abbrev pub answered_transaction : (number : ℕ) (answers : List ℕ) → List Reply → Transaction
+answered_transaction number answers replies =
+    if is_some_accepted answers then says data_line (data_transaction number answers replies)
+    else says reset_line (reset_transaction (map (outcome_by None) answers) replies)
 
 -- an answer to RCPT is class 2 or 5
 abbrev pub is_answer : (code : ℕ) → Bool
 is_answer code = is_completed code || is_permanent code
 
 -- the reply to RCPT, behind these answers, and what follows
-abbrev pub answer_course : (List ℕ → List Reply → Transaction) → (answers : List ℕ) → List Reply → Transaction
-answer_course next answers [] = ended [] waits
-answer_course next answers (reply ∷ left) = if is_answer reply.code then next (answers ++ reply.code ∷ []) left else ended [] (stopped reply)
+abbrev pub answer_transaction : (List ℕ → List Reply → Transaction) → (answers : List ℕ) → List Reply → Transaction
+answer_transaction next answers [] = ended [] waits
+answer_transaction next answers (reply ∷ left) = if is_answer reply.code then next (answers ++ reply.code ∷ []) left else ended [] (stopped reply)
 
 -- RCPT for each of these recipients, behind those with these answers
-unfoldable pub rcpt_course : Offer → (number : ℕ) (recipients : List Recipient) (answers : List ℕ) → List Reply → Transaction
-rcpt_course offer number [] answers replies = answered_course number answers replies
-rcpt_course offer number (recipient ∷ recipients) answers replies =
-    says (rcpt_line offer recipient) (answer_course (rcpt_course offer number recipients) answers replies)
+unfoldable pub rcpt_transaction : Offer → (number : ℕ) (recipients : List Recipient) (answers : List ℕ) → List Reply → Transaction
+rcpt_transaction offer number [] answers replies = answered_transaction number answers replies
+rcpt_transaction offer number (recipient ∷ recipients) answers replies =
+    says (rcpt_line offer recipient) (answer_transaction (rcpt_transaction offer number recipients) answers replies)
 
 -- the reply to MAIL: where it is refused for good, so are all recipients
-abbrev pub mail_course : Offer → (number : ℕ) (sent : List Recipient) → List Reply → Transaction
-mail_course offer number sent [] = ended [] waits
-mail_course offer number sent (reply ∷ left) =
-    if is_completed reply.code then rcpt_course offer number sent [] left
-    else (if is_permanent reply.code then says reset_line (reset_course (map (λ (recipient : Recipient). outcome.Refused 0 (Some reply.code)) sent) left)
+abbrev pub mail_transaction : Offer → (number : ℕ) (sent : List Recipient) → List Reply → Transaction
+mail_transaction offer number sent [] = ended [] waits
+mail_transaction offer number sent (reply ∷ left) =
+    if is_completed reply.code then rcpt_transaction offer number sent [] left
+    else (if is_permanent reply.code then says reset_line (reset_transaction (map (λ (recipient : Recipient). outcome.Refused 0 (Some reply.code)) sent) left)
     else ended [] (stopped reply))
 
--- A letter that is sent to nobody has no transaction.
-abbrev pub course_to : Offer → (number : ℕ) → Letter → (sent : List Recipient) → List Reply → Transaction
-course_to offer number letter [] replies = done [] [] replies
-course_to offer number letter (recipient ∷ recipients) replies =
-    says (mail_line offer letter (recipient ∷ recipients)) (mail_course offer number (recipient ∷ recipients) replies)
+-- A mail object that is sent to nobody has no transaction.
+abbrev pub transaction_to : Offer → (number : ℕ) → MailObject → (sent : List Recipient) → List Reply → Transaction
+transaction_to offer number mail_object [] replies = done [] [] replies
+transaction_to offer number mail_object (recipient ∷ recipients) replies =
+    says (mail_line offer mail_object (recipient ∷ recipients)) (mail_transaction offer number (recipient ∷ recipients) replies)
 
--- What comes of a letter over these replies.
-abbrev pub letter_course : Offer → (number : ℕ) → Letter → List Reply → Transaction
-letter_course offer number letter replies = course_to offer number letter (sent_to offer letter) replies
+-- What comes of a mail object over these replies.
+abbrev pub mail_object_transaction : Offer → (number : ℕ) → MailObject → List Reply → Transaction
+mail_object_transaction offer number mail_object replies = transaction_to offer number mail_object (sent_to offer mail_object) replies
 
--- ---- all letters
+-- ---- all mail objects
 
--- A letter that is done is settled, and then the run goes on so.
-abbrev pub followed : Offer → (number : ℕ) → Letter → Transaction → (List Reply → Run) → Run
-followed offer number letter (done acts outcomes left) next = behind_acts (acts ++ settled offer number letter outcomes ∷ []) (next left)
-followed offer number letter (ended acts end) next = record { acts = acts; end = end }
+-- A mail object that is done is settled, and then the run goes on so.
+abbrev pub followed : Offer → (number : ℕ) → MailObject → Transaction → (List Reply → Run) → Run
+followed offer number mail_object (done acts outcomes left) next = after_acts (acts ++ settled offer number mail_object outcomes ∷ []) (next left)
+followed offer number mail_object (ended acts end) next = record { acts = acts; end = end }
 
--- the letters in order, the first of which has this number, and QUIT behind them
-unfoldable pub letters_run : Offer → (number : ℕ) → List Letter → List Reply → Run
-letters_run offer number [] replies = record { acts = act.Say quit_line ∷ []; end = finished }
-letters_run offer number (letter ∷ letters) replies =
-    followed offer number letter (letter_course offer number letter replies) (letters_run offer (number + 1) letters)
+-- the mail objects in order, the first of which has this number, and QUIT behind them
+unfoldable pub mail_objects_run : Offer → (number : ℕ) → List MailObject → List Reply → Run
+mail_objects_run offer number [] replies = record { acts = act.Say quit_line ∷ []; end = finished }
+mail_objects_run offer number (mail_object ∷ mail_objects) replies =
+    followed offer number mail_object (mail_object_transaction offer number mail_object replies) (mail_objects_run offer (number + 1) mail_objects)
 
 -- the reply to EHLO; there is no other greeting for a server that doesn't know it
-abbrev pub ehlo_run : List Letter → List Reply → Run
-ehlo_run letters [] = record { acts = []; end = waits }
-ehlo_run letters (reply ∷ left) = if is_completed reply.code then letters_run (offer_of reply) 0 letters left else record { acts = []; end = stopped reply }
+abbrev pub ehlo_run : List MailObject → List Reply → Run
+ehlo_run mail_objects [] = record { acts = []; end = waits }
+ehlo_run mail_objects (reply ∷ left) = if is_completed reply.code then mail_objects_run (offer_of reply) 0 mail_objects left else record { acts = []; end = stopped reply }
 
--- What a client of this name does with these letters, over all replies of the server that it was connected to. The first one is its greeting.
-abbrev pub relay_of : (name : List ℕ) → List Letter → List Reply → Run
-relay_of name letters [] = record { acts = []; end = waits }
-relay_of name letters (reply ∷ left) =
-    if is_completed reply.code then behind_acts (act.Say (ehlo_line name) ∷ []) (ehlo_run letters left) else record { acts = []; end = stopped reply }
+-- What a client of this name does with these mail objects, over all replies of the server that it was connected to. The first one is its greeting.
+abbrev pub relay_of : (name : List ℕ) → List MailObject → List Reply → Run
+relay_of name mail_objects [] = record { acts = []; end = waits }
+relay_of name mail_objects (reply ∷ left) =
+    if is_completed reply.code then after_acts (act.Say (ehlo_line name) ∷ []) (ehlo_run mail_objects left) else record { acts = []; end = stopped reply }
 
 -- ---- what it comes to
 
--- the octets of an act, where these are the messages of the letters
+-- the octets of an act, where these are the messages of the mail objects
 abbrev pub act_octets : (messages : List (List ℕ)) → Act → List ℕ
 act_octets messages (act.Say octets) = octets
 act_octets messages (act.SayData number) = option_map_or data_text (slice_get messages number) []
@@ -195,10 +195,10 @@ outcomes_in (act.Say octets) = []
 outcomes_in (act.SayData number) = []
 outcomes_in (act.Settle number outcomes) = outcomes
 
--- how many recipients the letters were sent to
+-- how many recipients the mail objects were sent to
 abbrev pub sent_count : List Act → ℕ
 sent_count acts = length (filter is_sent_outcome (flat_map outcomes_in acts))
 
--- How many recipients of the letters aren't settled.
-abbrev pub left_count : List Letter → List Act → ℕ
-left_count letters acts = sum_by (λ (letter : Letter). length letter.recipients) letters - length (flat_map outcomes_in acts)
+-- How many recipients of the mail objects aren't settled.
+abbrev pub left_count : List MailObject → List Act → ℕ
+left_count mail_objects acts = sum_by (λ (mail_object : MailObject). length mail_object.recipients) mail_objects - length (flat_map outcomes_in acts)

@@ -1,5 +1,6 @@
 -- Replies of an SMTP server (RFC 5321, 4.2). How many lines they have is a limit of this project; RFC 5321, 4.5.3.1.5 asks for lines of 512 octets.
 use Rattle.std.specs.Prelude.{◌≡◌, ℕ, ◌≤◌, ◌<◌, ◌-◌, ◌⊎◌, List, [], ◌∷◌, ◌++◌, Bool, true, false, ◌&&◌, nat_le, length, take, Some}
+use Rattle.mail_wire.specs.Characters.{space, dash}
 use Rattle.mail_wire.specs.Numbers.{is_digit, number_written}
 use Rattle.mail_wire.specs.Lines.{crlf, first_line}
 use Rattle.relay_choice.specs.declared.replies.TheConstants.{REPLY_LINES, REPLY_LINE_MAX}
@@ -23,12 +24,12 @@ pub record IsReplyLine (line : List ℕ) : Type 0 where
 -- a line that another one follows: the code, a hyphen and a text
 pub record IsFurtherLine (code text line : List ℕ) : Type 0 where
   pub is_line : IsReplyLine line
-  pub spelled : line ≡ code ++ 45 ∷ (text ++ crlf)
+  pub spelled : line ≡ code ++ dash ∷ (text ++ crlf)
 
 -- the last line: the code, and a space and a text or nothing
 pub record IsLastLine (code text line : List ℕ) : Type 0 where
   pub is_line : IsReplyLine line
-  pub spelled : (line ≡ code ++ 32 ∷ (text ++ crlf)) ⊎ ((text ≡ []) × (line ≡ code ++ crlf))
+  pub spelled : (line ≡ code ++ space ∷ (text ++ crlf)) ⊎ ((text ≡ []) × (line ≡ code ++ crlf))
 
 -- lines with these texts, each of which another one follows
 abbrev pub AreFurtherLines : (code : List ℕ) → (texts : List (List ℕ)) → (octets : List ℕ) → Type 0

@@ -1,6 +1,7 @@
 -- What a client says (RFC 5321, 4.1.1; RFC 6152, 3; RFC 6531, 3.4).
 use Rattle.std.specs.Prelude.{ℕ, List, [], ◌∷◌, ◌++◌, Bool, true, false, ◌&&◌, ◌||◌, not, if◌then◌else◌, Option, None, Some, codes, unwrap_or}
 use Rattle.std.specs.List.{list_any}
+use Rattle.mail_wire.specs.Characters.{less_than, greater_than, at_sign}
 use Rattle.mail_wire.specs.Dots.{missing_end, stuffed}
 use Rattle.mail_wire.specs.Lines.{crlf}
 use Rattle.mail_wire.specs.Octets.{is_high}
@@ -11,8 +12,8 @@ use Rattle.relay_choice.specs.declared.plans.Form.{Form}
 use Rattle.relay_choice.specs.declared.plans.Form.TheVariants as form
 use Rattle.relay_choice.specs.declared.plans.Demands.{Demands}
 use Rattle.relay_choice.specs.declared.plans.Offer.{Offer}
-use Rattle.relay_choice.specs.declared.letters.Recipient.{Recipient}
-use Rattle.relay_choice.specs.declared.letters.Letter.{Letter}
+use Rattle.relay_choice.specs.declared.mail_objects.Recipient.{Recipient}
+use Rattle.relay_choice.specs.declared.mail_objects.MailObject.{MailObject}
 
 -- ---- addresses
 
@@ -22,12 +23,12 @@ said_domain offer domain = if not offer.smtputf8 && is_high domain then unwrap_o
 
 -- an address, the local part of which stays as it is
 abbrev pub said_address : Offer → Address → List ℕ
-said_address offer address = local_text address.local ++ 64 ∷ said_domain offer address.domain
+said_address offer address = local_text address.local ++ at_sign ∷ said_domain offer address.domain
 
 -- a path in angle brackets; the null path has no address (RFC 5321, 4.5.5)
 abbrev pub said_path : Offer → Option Address → List ℕ
 said_path offer None = codes "<>"
-said_path offer (Some address) = 60 ∷ (said_address offer address ++ 62 ∷ [])
+said_path offer (Some address) = less_than ∷ (said_address offer address ++ greater_than ∷ [])
 
 -- ---- commands
 
@@ -57,10 +58,10 @@ smtputf8_word true = codes " SMTPUTF8"
 smtputf8_word false = []
 
 -- the parameters are asked for only where the server offers them
-abbrev pub mail_line : Offer → Letter → (sent : List Recipient) → List ℕ
-mail_line offer letter sent =
-    codes "MAIL FROM:" ++ (said_path offer letter.path ++ (eight_word (letter.demands.eight && offer.eight)
-    ++ (smtputf8_word (offer.smtputf8 && needs_smtputf8 letter.demands sent) ++ crlf)))
+abbrev pub mail_line : Offer → MailObject → (sent : List Recipient) → List ℕ
+mail_line offer mail_object sent =
+    codes "MAIL FROM:" ++ (said_path offer mail_object.path ++ (eight_word (mail_object.demands.eight && offer.eight)
+    ++ (smtputf8_word (offer.smtputf8 && needs_smtputf8 mail_object.demands sent) ++ crlf)))
 
 -- The RCPT line of a recipient (RFC 5321, 4.1.1.3).
 abbrev pub rcpt_line : Offer → Recipient → List ℕ

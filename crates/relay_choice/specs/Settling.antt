@@ -1,33 +1,33 @@
--- What the acts of a run say of its letters (RFC 5321, 4.1.1.1 and 4.2).
+-- What the acts of a run say of its mail objects (RFC 5321, 4.1.1.1 and 4.2).
 use Rattle.std.specs.Prelude.{◌≡◌, ℕ, ◌<◌, ◌≤◌, List, [], ◌∷◌, false, None, Some, length, slice_get}
 use Rattle.std.specs.Option.{option_map_or}
 use Rattle.relay_choice.specs.declared.plans.Offer.{Offer}
 use Rattle.relay_choice.specs.declared.replies.Reply.{Reply}
-use Rattle.relay_choice.specs.declared.letters.Letter.{Letter}
-use Rattle.relay_choice.specs.declared.letters.Outcome.{Outcome}
-use Rattle.relay_choice.specs.declared.letters.Outcome.TheVariants as outcome
-use Rattle.relay_choice.specs.declared.letters.Act.{Act}
-use Rattle.relay_choice.specs.declared.letters.Act.TheVariants as act
+use Rattle.relay_choice.specs.declared.mail_objects.MailObject.{MailObject}
+use Rattle.relay_choice.specs.declared.mail_objects.Outcome.{Outcome}
+use Rattle.relay_choice.specs.declared.mail_objects.Outcome.TheVariants as outcome
+use Rattle.relay_choice.specs.declared.mail_objects.Act.{Act}
+use Rattle.relay_choice.specs.declared.mail_objects.Act.TheVariants as act
 use Rattle.relay_choice.specs.Offers.{offer_of}
 use Rattle.relay_choice.specs.Relay.{sent_to}
 
--- the number of the letter that an act settles
+-- the number of the mail object that an act settles
 abbrev pub numbers_in : Act → List ℕ
 numbers_in (act.Say octets) = []
 numbers_in (act.SayData number) = []
 numbers_in (act.Settle number outcomes) = number ∷ []
 
--- The letter of this number is there, and has as many recipients as there are outcomes.
-pub record AreItsOutcomes (letters : List Letter) (number : ℕ) (outcomes : List Outcome) : Type 0 where
-  pub letter : Letter
-  pub there : slice_get letters number ≡ Some letter
-  pub each : length outcomes ≡ length letter.recipients
+-- The mail object of this number is there, and has as many recipients as there are outcomes.
+pub record AreItsOutcomes (mail_objects : List MailObject) (number : ℕ) (outcomes : List Outcome) : Type 0 where
+  pub mail_object : MailObject
+  pub there : slice_get mail_objects number ≡ Some mail_object
+  pub each : length outcomes ≡ length mail_object.recipients
 
--- The letter of this number is there, and by this offer it is sent to somebody.
-pub record IsSentToSome (offer : Offer) (letters : List Letter) (number : ℕ) : Type 0 where
-  pub letter : Letter
-  pub there : slice_get letters number ≡ Some letter
-  pub some : 0 < length (sent_to offer letter)
+-- The mail object of this number is there, and by this offer it is sent to somebody.
+pub record IsSentToSome (offer : Offer) (mail_objects : List MailObject) (number : ℕ) : Type 0 where
+  pub mail_object : MailObject
+  pub there : slice_get mail_objects number ≡ Some mail_object
+  pub some : 0 < length (sent_to offer mail_object)
 
 -- What the second reply offers, which is the one to EHLO. Before it nothing is offered.
 abbrev pub offer_in : List Reply → Offer

@@ -5,22 +5,22 @@ ghost use Rattle.address_grammar.specs.declared.Address.{Address};
 ghost use Rattle.mail_wire.specs.Octets.{is_high};
 ghost use Rattle.mime_tree.specs.declared.entity.Entity.{Entity};
 ghost use Rattle.mime_tree.specs.Tree.{has_high_block};
-ghost use Rattle.relay_choice.specs.declared.letters.Act.{Act};
-ghost use Rattle.relay_choice.specs.declared.letters.Act.TheVariants as act;
+ghost use Rattle.relay_choice.specs.declared.mail_objects.Act.{Act};
+ghost use Rattle.relay_choice.specs.declared.mail_objects.Act.TheVariants as act;
 ghost use Rattle.relay_choice.specs.declared.reader.ReplyReader.{ReplyReader};
-ghost use Rattle.relay_choice.specs.declared.letters.Letter.{Letter};
-ghost use Rattle.relay_choice.specs.declared.letters.Outcome.{Outcome};
+ghost use Rattle.relay_choice.specs.declared.mail_objects.MailObject.{MailObject};
+ghost use Rattle.relay_choice.specs.declared.mail_objects.Outcome.{Outcome};
 ghost use Rattle.relay_choice.specs.declared.plans.Demands.{Demands};
 ghost use Rattle.relay_choice.specs.declared.plans.Form.{Form};
 ghost use Rattle.relay_choice.specs.declared.plans.Offer.{Offer};
 ghost use Rattle.relay_choice.specs.declared.replies.Reply.{Reply};
 ghost use Rattle.relay_choice.specs.declared.replies.ReplyRead.{ReplyRead};
 ghost use Rattle.relay_choice.specs.declared.replies.ReplyRead.TheVariants as read;
-ghost use Rattle.relay_choice.specs.Letters.{demands_of};
+ghost use Rattle.relay_choice.specs.MailObjects.{demands_of};
 ghost use Rattle.relay_choice.specs.Offers.{offer_of};
 ghost use Rattle.relay_choice.specs.Pieces.{BeginsBy, DecidesBy};
 ghost use Rattle.relay_choice.specs.Plans.{form_of, is_sent, plan_for};
-ghost use Rattle.relay_choice.specs.Relay.{Run, behind_acts, finished, left_count, outcomes_in, relay_of, stopped, waits};
+ghost use Rattle.relay_choice.specs.Relay.{Run, after_acts, finished, left_count, outcomes_in, relay_of, stopped, waits};
 ghost use Rattle.relay_choice.specs.Replies.{IsDecided, IsReply, IsReplyRead};
 ghost use Rattle.relay_choice.specs.Said.{said_path};
 ghost use Rattle.relay_choice.specs.Settling.{AreItsOutcomes, HasCode, IsFitOutcome, IsSentToSome, numbers_in, offer_in};
@@ -62,24 +62,24 @@ pub fn pieces_are_read_as_one()
 /// The code of a reply is 200 to 599, and so is that of an outcome, where the replies have such codes.
 pub fn codes_are_those_of_replies()
     ensures reply { (octets : List ℕ) (reply : Reply) → IsReply octets reply → HasCode reply }
-    ensures outcome { (name : List ℕ) (letters : List Letter) (replies : List Reply) (number : ℕ) (outcomes : List Outcome) → All HasCode replies
-        → Contains (relay_of name letters replies).acts (act.Settle number outcomes) → All IsFitOutcome outcomes }
+    ensures outcome { (name : List ℕ) (mail_objects : List MailObject) (replies : List Reply) (number : ℕ) (outcomes : List Outcome) → All HasCode replies
+        → Contains (relay_of name mail_objects replies).acts (act.Settle number outcomes) → All IsFitOutcome outcomes }
 {}
 
 /// A run that was stopped or is finished doesn't go on, whatever else a server says.
 pub fn an_ended_run_stays()
-    ensures stopped { (name : List ℕ) (letters : List Letter) (replies more : List Reply) (reply : Reply) → (relay_of name letters replies).end ≡ stopped reply
-        → relay_of name letters (replies ++ more) ≡ relay_of name letters replies }
-    ensures finished { (name : List ℕ) (letters : List Letter) (replies more : List Reply) → (relay_of name letters replies).end ≡ finished
-        → relay_of name letters (replies ++ more) ≡ relay_of name letters replies }
+    ensures stopped { (name : List ℕ) (mail_objects : List MailObject) (replies more : List Reply) (reply : Reply) → (relay_of name mail_objects replies).end ≡ stopped reply
+        → relay_of name mail_objects (replies ++ more) ≡ relay_of name mail_objects replies }
+    ensures finished { (name : List ℕ) (mail_objects : List MailObject) (replies more : List Reply) → (relay_of name mail_objects replies).end ≡ finished
+        → relay_of name mail_objects (replies ++ more) ≡ relay_of name mail_objects replies }
 {}
 
 /// A run that awaits a reply goes on from there: what was done is done, whatever else a server says.
 pub fn a_waiting_run_goes_on()
-    ensures waits { (name : List ℕ) (letters : List Letter) (replies more : List Reply) → (relay_of name letters replies).end ≡ waits
-        → (rest : Run) × (relay_of name letters (replies ++ more) ≡ behind_acts (relay_of name letters replies).acts rest) }
-    ensures grows { (name : List ℕ) (letters : List Letter) (replies more : List Reply)
-        → (rest : List Act) × ((relay_of name letters (replies ++ more)).acts ≡ (relay_of name letters replies).acts ++ rest) }
+    ensures waits { (name : List ℕ) (mail_objects : List MailObject) (replies more : List Reply) → (relay_of name mail_objects replies).end ≡ waits
+        → (rest : Run) × (relay_of name mail_objects (replies ++ more) ≡ after_acts (relay_of name mail_objects replies).acts rest) }
+    ensures grows { (name : List ℕ) (mail_objects : List MailObject) (replies more : List Reply)
+        → (rest : List Act) × ((relay_of name mail_objects (replies ++ more)).acts ≡ (relay_of name mail_objects replies).acts ++ rest) }
 {}
 
 /// A client waits for the reply that it awaits: without one it does nothing.
@@ -87,29 +87,29 @@ pub fn a_client_waits_for_its_reply()
     ensures { (client : Client) → rest_of client [] ≡ record { acts = []; end = waits } }
 {}
 
-/// Letters are settled in order, each once and with an outcome for each recipient. No recipient is left where a run is finished, and only there.
-pub fn letters_are_settled_in_order()
-    ensures order { (name : List ℕ) (letters : List Letter) (replies : List Reply)
-        → (count : ℕ) × (count ≤ length letters) × (flat_map numbers_in (relay_of name letters replies).acts ≡ range_with_len 0 count) }
-    ensures all { (name : List ℕ) (letters : List Letter) (replies : List Reply) → (relay_of name letters replies).end ≡ finished
-        → flat_map numbers_in (relay_of name letters replies).acts ≡ range_with_len 0 (length letters) }
-    ensures whole { (name : List ℕ) (letters : List Letter) (replies : List Reply) (number : ℕ) (outcomes : List Outcome)
-        → Contains (relay_of name letters replies).acts (act.Settle number outcomes) → AreItsOutcomes letters number outcomes }
-    ensures none_left { (name : List ℕ) (letters : List Letter) (replies : List Reply) → (relay_of name letters replies).end ≡ finished
-        → left_count letters (relay_of name letters replies).acts ≡ 0 }
-    ensures most { (name : List ℕ) (letters : List Letter) (replies : List Reply)
-        → length (flat_map outcomes_in (relay_of name letters replies).acts) ≤ sum_by (λ (letter : Letter). length letter.recipients) letters }
-    // Of letters without recipients nobody is left from the beginning on.
-    ensures some_left { (name : List ℕ) (letters : List Letter) (replies : List Reply) → 0 < sum_by (λ (letter : Letter). length letter.recipients) letters
-        → left_count letters (relay_of name letters replies).acts ≡ 0 → (relay_of name letters replies).end ≡ finished }
+/// Mail objects are settled in order, each once and with an outcome for each recipient. No recipient is left where a run is finished, and only there.
+pub fn mail_objects_are_settled_in_order()
+    ensures order { (name : List ℕ) (mail_objects : List MailObject) (replies : List Reply)
+        → (count : ℕ) × (count ≤ length mail_objects) × (flat_map numbers_in (relay_of name mail_objects replies).acts ≡ range_with_len 0 count) }
+    ensures all { (name : List ℕ) (mail_objects : List MailObject) (replies : List Reply) → (relay_of name mail_objects replies).end ≡ finished
+        → flat_map numbers_in (relay_of name mail_objects replies).acts ≡ range_with_len 0 (length mail_objects) }
+    ensures whole { (name : List ℕ) (mail_objects : List MailObject) (replies : List Reply) (number : ℕ) (outcomes : List Outcome)
+        → Contains (relay_of name mail_objects replies).acts (act.Settle number outcomes) → AreItsOutcomes mail_objects number outcomes }
+    ensures none_left { (name : List ℕ) (mail_objects : List MailObject) (replies : List Reply) → (relay_of name mail_objects replies).end ≡ finished
+        → left_count mail_objects (relay_of name mail_objects replies).acts ≡ 0 }
+    ensures most { (name : List ℕ) (mail_objects : List MailObject) (replies : List Reply)
+        → length (flat_map outcomes_in (relay_of name mail_objects replies).acts) ≤ sum_by (λ (mail_object : MailObject). length mail_object.recipients) mail_objects }
+    // Of mail objects without recipients nobody is left from the beginning on.
+    ensures some_left { (name : List ℕ) (mail_objects : List MailObject) (replies : List Reply) → 0 < sum_by (λ (mail_object : MailObject). length mail_object.recipients) mail_objects
+        → left_count mail_objects (relay_of name mail_objects replies).acts ≡ 0 → (relay_of name mail_objects replies).end ≡ finished }
 {}
 
 /// A message goes out only where the plan says so, by what the reply to EHLO offers.
 pub fn messages_go_by_plan()
-    ensures sent { (name : List ℕ) (letters : List Letter) (replies : List Reply) (number : ℕ) → Contains (relay_of name letters replies).acts (act.SayData number)
-        → IsSentToSome (offer_in replies) letters number }
-    ensures header { (name : List ℕ) (letters : List Letter) (replies : List Reply) (number : ℕ) (letter : Letter) → Contains (relay_of name letters replies).acts (act.SayData number)
-        → slice_get letters number ≡ Some letter → letter.demands.header ≡ true → (offer_in replies).smtputf8 ≡ true }
+    ensures sent { (name : List ℕ) (mail_objects : List MailObject) (replies : List Reply) (number : ℕ) → Contains (relay_of name mail_objects replies).acts (act.SayData number)
+        → IsSentToSome (offer_in replies) mail_objects number }
+    ensures header { (name : List ℕ) (mail_objects : List MailObject) (replies : List Reply) (number : ℕ) (mail_object : MailObject) → Contains (relay_of name mail_objects replies).acts (act.SayData number)
+        → slice_get mail_objects number ≡ Some mail_object → mail_object.demands.header ≡ true → (offer_in replies).smtputf8 ≡ true }
 {}
 
 /// A reply has at most 100 lines, and a line 2,048 octets.

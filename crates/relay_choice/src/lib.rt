@@ -4,7 +4,7 @@
 mod client;
 mod data;
 pub mod laws;
-mod letters;
+mod mail_objects;
 mod making;
 mod offers;
 mod outcomes;
@@ -18,8 +18,10 @@ mod steps;
 
 pub use client::Turn;
 pub use data::push_data;
-pub use letters::{Act, Acts, Letter, Letters, Outcome, Outcomes, Recipient, Recipients};
-pub use making::letter_of;
+pub use mail_objects::{
+    Act, Acts, MailObject, MailObjects, Outcome, Outcomes, Recipient, Recipients,
+};
+pub use making::mail_object_of;
 pub use offers::{is_completed, is_intermediate, is_permanent, offer_of};
 pub use plans::{Demands, Form, Offer, Plan, choose, form_of, needs};
 pub use reader::ReplyReader;

@@ -1,10 +1,10 @@
-//! Letters, made of what a queue keeps.
+//! Mail objects, made of what a queue keeps.
 ghost use Rattle.std.specs.Prelude.{◌≡◌, IfOk, IfSome, map};
 ghost use Rattle.std.specs.List.{All};
 ghost use Rattle.mime_tree.specs.Tree.{HasTree};
-ghost use Rattle.relay_choice.specs.Letters.{HasTextDomain, IsAddressed, letter_of as letter_at_addresses, path_form as path_form_of, recipient_at as recipient_at_address};
+ghost use Rattle.relay_choice.specs.MailObjects.{HasTextDomain, IsAddressed, mail_object_of as mail_object_at_addresses, path_form as path_form_of, recipient_at as recipient_at_address};
 
-use crate::letters::{Letter, Recipient, Recipients};
+use crate::mail_objects::{MailObject, Recipient, Recipients};
 use crate::plans::{Form, form_of, needs};
 use address_grammar::Address;
 use mail_wire::{Items, Memory};
@@ -43,23 +43,23 @@ fn path_form(alloc: Global, path: &Option<Address>) -> Result<Form, Memory>
     }
 }
 
-/// The letter of a queued message with this tree, from a path to recipients at these addresses.
-pub fn letter_of(
+/// The mail object of a queued message with this tree, from a path to recipients at these addresses.
+pub fn mail_object_of(
     alloc: Global,
     path: Option<Address>,
     addresses: Items<Address>,
     octets: &[u8],
     tree: &Tree,
-) -> Result<Letter, Memory>
+) -> Result<MailObject, Memory>
     requires tree { HasTree octets.now tree.now.entities }
     requires path { IfSome path HasTextDomain }
     requires addresses { All HasTextDomain addresses }
-    ensures letter { IfOk result (λ letter. letter ≡ letter_at_addresses path addresses octets.now tree.now.entities) }
+    ensures mail_object { IfOk result (λ mail_object. mail_object ≡ mail_object_at_addresses path addresses octets.now tree.now.entities) }
     ensures addressed { IfOk result IsAddressed }
 {
     let form = path_form(alloc, &path)?;
     let recipients = recipients_at(alloc, addresses)?;
-    Ok(Letter {
+    Ok(MailObject {
         path,
         demands: needs(form, octets, tree),
         recipients,

@@ -1,6 +1,6 @@
 //! What a reply means, and what a server offers.
 ghost use Rattle.std.specs.Prelude.{◌≡◌, drop, position};
-ghost use Rattle.mail_wire.specs.Octets.{is_black, is_white};
+ghost use Rattle.mail_wire.specs.Octets.{is_nonwhite, is_white};
 ghost use Rattle.relay_choice.specs.Offers.{is_completed as is_completed_code, is_intermediate as is_intermediate_code, is_permanent as is_permanent_code, keyword_of, offers, offer_of as offer_of_reply};
 
 use crate::plans::Offer;
@@ -34,8 +34,8 @@ fn find_white(text: &[u8]) -> Option<usize>
     text.iter().position(|octet| is_white(*octet))
 }
 
-fn find_black(text: &[u8]) -> Option<usize>
-    ensures { result ≡ position is_black text.now }
+fn find_nonwhite(text: &[u8]) -> Option<usize>
+    ensures { result ≡ position is_nonwhite text.now }
 {
     text.iter().position(|octet| !is_white(*octet))
 }
@@ -44,7 +44,7 @@ fn find_black(text: &[u8]) -> Option<usize>
 fn keyword_of(text: &[u8]) -> &[u8]
     ensures { result.now ≡ keyword_of text.now }
 {
-    let (_, text) = text.split_at(find_black(text).unwrap_or(text.len()));
+    let (_, text) = text.split_at(find_nonwhite(text).unwrap_or(text.len()));
     let (word, _) = text.split_at(find_white(text).unwrap_or(text.len()));
     word
 }
@@ -59,7 +59,7 @@ fn offers(keyword: &[u8], texts: &[Octets]) -> bool
 }
 
 // All texts but the first.
-fn behind_first(texts: &[Octets]) -> &[Octets]
+fn after_first(texts: &[Octets]) -> &[Octets]
     ensures { result.now ≡ drop 1 texts.now }
 {
     match texts {
@@ -72,7 +72,7 @@ fn behind_first(texts: &[Octets]) -> &[Octets]
 pub fn offer_of(reply: &Reply) -> Offer
     ensures { result ≡ offer_of_reply reply.now }
 {
-    let texts = behind_first(reply.lines.as_slice());
+    let texts = after_first(reply.lines.as_slice());
     let eight = offers(b"8bitmime", texts);
     Offer {
         smtputf8: eight && offers(b"smtputf8", texts),

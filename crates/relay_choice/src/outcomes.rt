@@ -1,30 +1,30 @@
-//! What comes of a letter's recipients.
+//! What comes of a mail object's recipients.
 ghost use Rattle.std.specs.Prelude.{◌≡◌, ◌<◌, IfOk, IfSome, length, map};
-ghost use Rattle.relay_choice.specs.declared.letters.Recipient.{Recipient as RecipientValue};
+ghost use Rattle.relay_choice.specs.declared.mail_objects.Recipient.{Recipient as RecipientValue};
 ghost use Rattle.relay_choice.specs.Relay.{is_answer as is_answer_code, is_some_accepted as is_some_accepted_of, merged, outcome_by as outcome_by_code, plan_of as plan_of_recipient, sent_to};
 ghost use Rattle.relay_choice.specs.private.Asking.{AsksNext, detail_of as detail_of_plan};
 
-use crate::letters::{Letter, Outcome, Outcomes, Recipient};
+use crate::mail_objects::{MailObject, Outcome, Outcomes, Recipient};
 use crate::offers::{is_completed, is_permanent};
 use crate::plans::{Offer, Plan, choose, is_sent};
 use mail_wire::{Items, Memory};
 use std::alloc::Global;
 
-fn plan_of(offer: Offer, letter: &Letter, recipient: &Recipient) -> Plan
-    ensures { result ≡ plan_of_recipient offer letter.now recipient.now }
+fn plan_of(offer: Offer, mail_object: &MailObject, recipient: &Recipient) -> Plan
+    ensures { result ≡ plan_of_recipient offer mail_object.now recipient.now }
 {
-    choose(&letter.demands, recipient.form, offer)
+    choose(&mail_object.demands, recipient.form, offer)
 }
 
-/// The place of the first recipient, from this place on, to whom the letter is sent.
-pub fn next_sent(letter: &Letter, offer: Offer, from: usize) -> Option<usize>
-    ensures next { AsksNext offer letter.now from result }
-    ensures bound { IfSome result (λ place. place < length letter.now.recipients) }
+/// The place of the first recipient, from this place on, to whom the mail object is sent.
+pub fn next_sent(mail_object: &MailObject, offer: Offer, from: usize) -> Option<usize>
+    ensures next { AsksNext offer mail_object.now from result }
+    ensures bound { IfSome result (λ place. place < length mail_object.now.recipients) }
 {
-    let recipients = letter.recipients.as_slice();
+    let recipients = mail_object.recipients.as_slice();
     let mut place = from;
     while place < recipients.len() {
-        if is_sent(plan_of(offer, letter, &recipients[place])) {
+        if is_sent(plan_of(offer, mail_object, &recipients[place])) {
             return Some(place);
         }
         place += 1;
@@ -46,7 +46,7 @@ pub fn is_some_accepted(answers: &[u16]) -> bool
     answers.iter().any(|answer| !is_permanent(*answer))
 }
 
-// What comes of a recipient with this answer, where a reply with this code refuses the letter, if one does.
+// What comes of a recipient with this answer, where a reply with this code refuses the mail object, if one does.
 fn outcome_by(code: Option<u16>, answer: u16) -> Outcome
     ensures { result ≡ outcome_by_code code answer }
 {
@@ -76,21 +76,21 @@ fn detail_of(plan: Plan) -> u8
     }
 }
 
-/// What comes of all recipients of a letter, where those to whom it is sent have these answers, and a reply with this code refuses it, if
+/// What comes of all recipients of a mail object, where those to whom it is sent have these answers, and a reply with this code refuses it, if
 /// one does.
 pub fn outcomes_of(
     alloc: Global,
     offer: Offer,
-    letter: &Letter,
+    mail_object: &MailObject,
     answers: &[u16],
     code: Option<u16>,
 ) -> Result<Outcomes, Memory>
-    ensures { IfOk result (λ outcomes. outcomes ≡ merged (map (plan_of_recipient offer letter.now) letter.now.recipients) (map (outcome_by_code code) answers.now)) }
+    ensures { IfOk result (λ outcomes. outcomes ≡ merged (map (plan_of_recipient offer mail_object.now) mail_object.now.recipients) (map (outcome_by_code code) answers.now)) }
 {
     let mut outcomes = Items::new(alloc);
     let mut rest = answers;
-    for recipient in letter.recipients.as_slice() {
-        let plan = plan_of(offer, letter, recipient);
+    for recipient in mail_object.recipients.as_slice() {
+        let plan = plan_of(offer, mail_object, recipient);
         if !is_sent(plan) {
             let detail = detail_of(plan);
             outcomes.push(Outcome::Refused { detail, code: None })?;
@@ -102,18 +102,18 @@ pub fn outcomes_of(
     Ok(outcomes)
 }
 
-/// Answers of this code for all to whom the letter is sent.
+/// Answers of this code for all to whom the mail object is sent.
 pub fn same_answers(
     alloc: Global,
     offer: Offer,
-    letter: &Letter,
+    mail_object: &MailObject,
     code: u16,
 ) -> Result<Items<u16>, Memory>
-    ensures { IfOk result (λ answers. answers ≡ map (λ (recipient : RecipientValue). code) (sent_to offer letter.now)) }
+    ensures { IfOk result (λ answers. answers ≡ map (λ (recipient : RecipientValue). code) (sent_to offer mail_object.now)) }
 {
     let mut answers = Items::new(alloc);
-    for recipient in letter.recipients.as_slice() {
-        if is_sent(plan_of(offer, letter, recipient)) {
+    for recipient in mail_object.recipients.as_slice() {
+        if is_sent(plan_of(offer, mail_object, recipient)) {
             answers.push(code)?;
         }
     }

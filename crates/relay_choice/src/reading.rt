@@ -37,10 +37,10 @@ impl ReplyReader {
         let mut used = 0;
         while used < piece.len() {
             let octet = piece[used];
-            let came = step_by(octets.as_slice(), place, octet);
+            let advance = step_by(octets.as_slice(), place, octet);
             octets.push(octet)?;
             used += 1;
-            match came {
+            match advance {
                 Step::Within(next) => place = next,
                 Step::Whole => return Ok(Taken::Decided { octets, used }),
                 Step::NotReply => return Ok(Taken::Decided { octets, used }),

@@ -81,9 +81,9 @@ pub fn read_reply(alloc: Global, octets: &[u8]) -> Result<ReplyRead, Memory>
     let mut place = BEGINNING;
     let mut used = 0;
     while used < octets.len() {
-        let (before, behind) = octets.split_at(used);
+        let (before, following) = octets.split_at(used);
         used += 1;
-        match step_by(before, place, behind[0]) {
+        match step_by(before, place, following[0]) {
             Step::Within(next) => place = next,
             Step::Whole => {
                 let reply = reply_of(alloc, &octets[..used])?;

@@ -2,12 +2,12 @@
 ghost use Rattle.std.specs.Prelude.{◌≡◌, ◌++◌, Some, IfOk, OnOk, IsUtf8, codes, not, ◌&&◌, unwrap_or};
 ghost use Rattle.std.specs.List.{list_any};
 ghost use Rattle.address_grammar.specs.declared.Address.{Address as AddressValue};
-ghost use Rattle.relay_choice.specs.declared.letters.Recipient.{Recipient as RecipientValue};
-ghost use Rattle.relay_choice.specs.Letters.{HasTextDomain, IsAddressed};
+ghost use Rattle.relay_choice.specs.declared.mail_objects.Recipient.{Recipient as RecipientValue};
+ghost use Rattle.relay_choice.specs.MailObjects.{HasTextDomain, IsAddressed};
 ghost use Rattle.relay_choice.specs.Relay.{sent_to};
 ghost use Rattle.relay_choice.specs.Said.{is_ascii_form as is_ascii_form_of, said_domain, said_address, said_path, eight_word, smtputf8_word, ehlo_line as ehlo_line_of, needs_smtputf8, mail_line as mail_line_of, rcpt_line as rcpt_line_of};
 
-use crate::letters::{Letter, Recipient};
+use crate::mail_objects::{MailObject, Recipient};
 use crate::plans::{Form, Offer};
 use address_grammar::{Address, push_address};
 use mail_wire::{Memory, Octets, is_ascii};
@@ -77,13 +77,13 @@ fn is_some_not_ascii(recipients: &[Recipient]) -> bool
         .any(|recipient| !is_ascii_form(recipient.form))
 }
 
-// Whether the letter asks for SMTPUTF8, where it is sent to all its recipients.
-fn needs_smtputf8(letter: &Letter) -> bool
-    ensures { result ≡ needs_smtputf8 letter.now.demands letter.now.recipients }
+// Whether the mail object asks for SMTPUTF8, where it is sent to all its recipients.
+fn needs_smtputf8(mail_object: &MailObject) -> bool
+    ensures { result ≡ needs_smtputf8 mail_object.now.demands mail_object.now.recipients }
 {
-    letter.demands.header
-        || !is_ascii_form(letter.demands.path)
-        || is_some_not_ascii(letter.recipients.as_slice())
+    mail_object.demands.header
+        || !is_ascii_form(mail_object.demands.path)
+        || is_some_not_ascii(mail_object.recipients.as_slice())
 }
 
 // MAIL, up to its path.
@@ -99,12 +99,12 @@ fn mail_front(alloc: Global, offer: Offer, path: &Option<Address>) -> Result<Oct
     Ok(line)
 }
 
-// Whether SMTPUTF8 is asked for: where it is offered, the letter is sent to all its recipients.
+// Whether SMTPUTF8 is asked for: where it is offered, the mail object is sent to all its recipients.
 #[tactic(auto, using(crate::proofs::TextLemmas::asked_of_all))]
-fn asks_smtputf8(offer: Offer, letter: &Letter) -> bool
-    ensures { result ≡ (offer.smtputf8 && needs_smtputf8 letter.now.demands (sent_to offer letter.now)) }
+fn asks_smtputf8(offer: Offer, mail_object: &MailObject) -> bool
+    ensures { result ≡ (offer.smtputf8 && needs_smtputf8 mail_object.now.demands (sent_to offer mail_object.now)) }
 {
-    offer.smtputf8 && needs_smtputf8(letter)
+    offer.smtputf8 && needs_smtputf8(mail_object)
 }
 
 // Puts the parameter BODY last, where it is asked for.
@@ -127,14 +127,14 @@ fn push_smtputf8(line: &mut Octets, asked: bool) -> Result<(), Memory>
     Ok(())
 }
 
-/// MAIL for a letter that is sent to one recipient or more.
-pub fn mail_line(alloc: Global, offer: Offer, letter: &Letter) -> Result<Octets, Memory>
-    requires { IsAddressed letter.now }
-    ensures { IfOk result (λ line. line ≡ mail_line_of offer letter.now (sent_to offer letter.now)) }
+/// MAIL for a mail object that is sent to one recipient or more.
+pub fn mail_line(alloc: Global, offer: Offer, mail_object: &MailObject) -> Result<Octets, Memory>
+    requires { IsAddressed mail_object.now }
+    ensures { IfOk result (λ line. line ≡ mail_line_of offer mail_object.now (sent_to offer mail_object.now)) }
 {
-    let mut line = mail_front(alloc, offer, &letter.path)?;
-    push_eight(&mut line, letter.demands.eight && offer.eight)?;
-    push_smtputf8(&mut line, asks_smtputf8(offer, letter))?;
+    let mut line = mail_front(alloc, offer, &mail_object.path)?;
+    push_eight(&mut line, mail_object.demands.eight && offer.eight)?;
+    push_smtputf8(&mut line, asks_smtputf8(offer, mail_object))?;
     line.push_slice(b"\r\n")?;
     Ok(line)
 }

@@ -1,20 +1,20 @@
 //! What a client keeps.
 ghost use Rattle.std.specs.List.{All};
-ghost use Rattle.relay_choice.specs.Letters.{IsAddressed};
-ghost use Rattle.relay_choice.specs.Within.{HasItsLetter};
+ghost use Rattle.relay_choice.specs.MailObjects.{IsAddressed};
+ghost use Rattle.relay_choice.specs.Within.{HasItsMailObject};
 
-use crate::letters::Letters;
+use crate::mail_objects::MailObjects;
 use crate::plans::Offer;
 use mail_wire::{Items, Octets};
 use std::alloc::Global;
 
 // What the next reply answers:
 //
-//   Greeting -> Ehlo -> Mail -> Rcpt .. Rcpt -> Data -> End -> the next letter's Mail, or QUIT
+//   Greeting -> Ehlo -> Mail -> Rcpt .. Rcpt -> Data -> End -> the next mail object's Mail, or QUIT
 //                         |             |         |
-//                         +-> Reset <---+         +-> the next letter's Mail, or QUIT
+//                         +-> Reset <---+         +-> the next mail object's Mail, or QUIT
 //                               |
-//                               +-> the next letter's Mail, or QUIT
+//                               +-> the next mail object's Mail, or QUIT
 #[derive(Clone, Copy, Debug, PartialEq, Eq)]
 pub enum Awaited {
     Greeting,
@@ -33,13 +33,13 @@ pub enum Awaited {
 pub struct Client {
     pub alloc: Global,
     pub name: Octets,
-    pub letters: Letters,
-    // The number of the letter that it is at.
+    pub mail_objects: MailObjects,
+    // The number of the mail object that it is at.
     pub at: usize,
     pub offer: Offer,
     pub awaited: Awaited,
     // The codes of the answers to RCPT, or of the one to MAIL for each recipient, where that refused them.
     pub answers: Items<u16>,
-    ghost within: { HasItsLetter awaited at letters },
-    ghost addressed: { All IsAddressed letters },
+    ghost within: { HasItsMailObject awaited at mail_objects },
+    ghost addressed: { All IsAddressed mail_objects },
 }

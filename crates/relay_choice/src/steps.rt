@@ -1,6 +1,6 @@
 //! A reply octet by octet.
 ghost use Rattle.std.specs.Prelude.{◌≡◌, ◌↔◌, ◌≤◌, ◌<◌, ◌-◌, ◌==◌, [], IsTrue, length, drop, slice_index, if◌then◌else◌};
-ghost use Rattle.relay_choice.specs.declared.steps.Step.TheVariants as came;
+ghost use Rattle.relay_choice.specs.declared.steps.Step.TheVariants as advance;
 ghost use Rattle.relay_choice.specs.private.Places.{IsPlaceIn, IsStepIn, IsReplyFront, StepsTo, code_fits, sign_fits, text_fits, EndsReplyLine};
 
 use crate::replies::{REPLY_LINE_MAX, REPLY_LINES};
@@ -66,7 +66,7 @@ fn ends_line(line: &[u8], octet: u8) -> bool
 }
 
 fn within_if(fits: bool, place: Place) -> Step
-    ensures { result ≡ (if fits then came.Within place else came.NotReply) }
+    ensures { result ≡ (if fits then advance.Within place else advance.NotReply) }
 {
     if fits {
         Step::Within(place)

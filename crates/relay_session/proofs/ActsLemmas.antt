@@ -11,17 +11,17 @@ use Rattle.mail_store.specs.declared.queue.Queued.{Queued}
 use Rattle.mail_wire.specs.declared.outside.Fault.{Fault}
 use Rattle.mail_wire.specs.declared.outside.Fault.TheVariants as fault
 use Rattle.relay_choice.specs.Relay.{outcomes_in, sent_count}
-use Rattle.relay_choice.specs.declared.letters.Act.{Act as ClientAct}
-use Rattle.relay_choice.specs.declared.letters.Act.TheVariants as act
+use Rattle.relay_choice.specs.declared.mail_objects.Act.{Act as ClientAct}
+use Rattle.relay_choice.specs.declared.mail_objects.Act.TheVariants as act
 use Rattle.session_core.specs.Acts.{Act}
 use Rattle.session_core.specs.Around.{Around}
 use Rattle.session_core.specs.Keeps.{Keeps}
 use Rattle.session_core.specs.Moments.{IsTold, Moment}
 use Rattle.session_core.proofs.DoingLemmas.{Does-then, DoesAll-nil}
 use Rattle.session_core.proofs.KeepsLemmas.{Keeps-nil, Keeps-then}
-use Rattle.session_core.proofs.MeaningLemmas.{meanings_given}
+use Rattle.session_core.proofs.MeaningLemmas.{oracles_given}
 use Rattle.relay_session.specs.Carrying.{CarriesActs}
-use Rattle.relay_session.specs.Letters.{messages_of}
+use Rattle.relay_session.specs.MailObjects.{messages_of}
 use Rattle.relay_session.specs.declared.ends.Tally.{Tally}
 use Rattle.relay_session.specs.private.Acting.{ActsBroken, ActsBy, ActsDone, AreKnown, AreOpenFrom, CanCount, KeepsQueue, SaysInPart, SettleFrom, settled_count, tallied}
 use Rattle.relay_session.proofs.CarryLemmas.{Carries-count, Carries-onward, Carries-over}
@@ -129,10 +129,10 @@ ActsBy-then path_of a b c queue front back old mid new keeps same (xs, m, one, m
 between_acts : (front first others rest : List ClientAct) → front ++ ((first ++ others) ++ rest) ≡ (front ++ first) ++ (others ++ rest)
 between_acts front first others rest = ap (λ (l : List ClientAct). front ++ l) (append_assoc first others rest) ∙ sym (append_assoc front first (others ++ rest))
 
-broken_behind : (path_of : List ℕ → Option (Option Address)) (a b c : Around) (queue : List Queued) (front back rest : List ClientAct) (xs : List (Act (List ℕ))) (m : ℕ) (met : Fault)
+broken_after : (path_of : List ℕ → Option (Option Address)) (a b c : Around) (queue : List Queued) (front back rest : List ClientAct) (xs : List (Act (List ℕ))) (m : ℕ) (met : Fault)
     → Keeps a b None → messages_of b.desk.store.kept queue ≡ messages_of a.desk.store.kept queue
     → ActsDone path_of a b queue front xs m None → ActsBroken path_of b c queue back met → ActsBroken path_of a c queue (front ++ (back ++ rest)) met
-broken_behind path_of a b c queue front back rest xs m met keeps same one two = record {
+broken_after path_of a b c queue front back rest xs m met keeps same one two = record {
   first = front ++ two.first;
   others = two.others ++ rest;
   all_are = ap (λ (l : List ClientAct). front ++ (l ++ rest)) two.all_are ∙ between_acts front two.first two.others rest;
@@ -141,10 +141,10 @@ broken_behind path_of a b c queue front back rest xs m met keeps same one two = 
   done = ActsDone-then path_of a b c queue front two.first xs two.acts m two.count (Some met) keeps same one two.done;
 }
 
-in_part_behind : (path_of : List ℕ → Option (Option Address)) (a b c : Around) (queue : List Queued) (front back rest : List ClientAct) (old mid new : Tally) (xs : List (Act (List ℕ))) (m : ℕ)
+in_part_after : (path_of : List ℕ → Option (Option Address)) (a b c : Around) (queue : List Queued) (front back rest : List ClientAct) (old mid new : Tally) (xs : List (Act (List ℕ))) (m : ℕ)
     → Keeps a b None → messages_of b.desk.store.kept queue ≡ messages_of a.desk.store.kept queue
     → ActsDone path_of a b queue front xs m None → mid ≡ tallied old front m → SaysInPart path_of b c queue back mid new → SaysInPart path_of a c queue (front ++ (back ++ rest)) old new
-in_part_behind path_of a b c queue front back rest old mid new xs m keeps same one mid_is two = record {
+in_part_after path_of a b c queue front back rest old mid new xs m keeps same one mid_is two = record {
   between = two.between;
   front = front ++ two.front;
   one = two.one;
@@ -164,11 +164,11 @@ pub ActsBy-between : (path_of : List ℕ → Option (Option Address)) (a b c : A
     → Keeps a b None → messages_of b.desk.store.kept queue ≡ messages_of a.desk.store.kept queue
     → ActsBy path_of a b queue front old mid None → ActsBy path_of b c queue back mid new (Some met) → ActsBy path_of a c queue (front ++ (back ++ rest)) old new (Some met)
 ActsBy-between path_of a b c queue front back rest old mid new fault.Wire keeps same (xs, m, one, mid_is) two =
-    in_part_behind path_of a b c queue front back rest old mid new xs m keeps same one mid_is two
+    in_part_after path_of a b c queue front back rest old mid new xs m keeps same one mid_is two
 ActsBy-between path_of a b c queue front back rest old mid new fault.Keeper keeps same (xs, m, one, mid_is) two =
-    broken_behind path_of a b c queue front back rest xs m fault.Keeper keeps same one two
+    broken_after path_of a b c queue front back rest xs m fault.Keeper keeps same one two
 ActsBy-between path_of a b c queue front back rest old mid new fault.Memory keeps same (xs, m, one, mid_is) two =
-    broken_behind path_of a b c queue front back rest xs m fault.Memory keeps same one two
+    broken_after path_of a b c queue front back rest xs m fault.Memory keeps same one two
 
 -- ---- acts in order
 
@@ -210,8 +210,8 @@ order_next a b queue acts at one old mid stands done (place, are_open, settle) =
 pub room_next : (a b : Around) (queue : List Queued) (acts : List ClientAct) (at : ℕ) (one : ClientAct) (old mid : Tally) → StandsAt acts at one → DoneUpTo a b queue (take at acts) old mid
     → CanCount old acts → CanCount mid (one ∷ [])
 room_next a b queue acts at one old mid stands done can =
-    let path_of = meanings_given.0.path_of in
-    let by = done.acts path_of meanings_given.1.paths in
+    let path_of = oracles_given.0.path_of in
+    let by = done.acts path_of oracles_given.1.paths in
     let front = take at acts in
     let rest = drop (at + 1) acts in
     let whole : CanCount old (front ++ (one ∷ rest)) = subst (CanCount old) (sym (parted acts at one stands)) can in

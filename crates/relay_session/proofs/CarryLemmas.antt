@@ -7,13 +7,13 @@ use Rattle.mail_store.specs.Following.{records_of}
 use Rattle.mail_store.specs.StoreState.{StoreState, with_records}
 use Rattle.mail_store.specs.declared.queue.Queued.{Queued}
 use Rattle.mail_store.proofs.FollowLemmas.{records_of-append, with_records-append}
-use Rattle.relay_choice.specs.declared.letters.Act.{Act as ClientAct}
-use Rattle.relay_choice.specs.declared.letters.Act.TheVariants as act
-use Rattle.relay_choice.specs.declared.letters.Outcome.{Outcome}
+use Rattle.relay_choice.specs.declared.mail_objects.Act.{Act as ClientAct}
+use Rattle.relay_choice.specs.declared.mail_objects.Act.TheVariants as act
+use Rattle.relay_choice.specs.declared.mail_objects.Outcome.{Outcome}
 use Rattle.session_core.specs.Acts.{Act, changes, changes_in}
 use Rattle.session_core.specs.Moments.{Moment}
 use Rattle.relay_session.specs.Carrying.{CarriesActs}
-use Rattle.relay_session.specs.Letters.{entry_octets}
+use Rattle.relay_session.specs.MailObjects.{entry_octets}
 use Rattle.relay_session.specs.Reporting.{Reports, nobody, told_once, unsigned}
 use Rattle.relay_session.specs.private.Acting.{settled_count}
 
@@ -54,9 +54,9 @@ changes_in-map [] others = refl
 changes_in-map (records ∷ made) others = ap (λ (l : List (List Record)). records ∷ l) (changes_in-map made others)
 
 -- the store behind the changes of an entry and what follows them
-store_behind : (store : StoreState) (acts : List (Act (List ℕ))) (made : List (List Record)) (others : List (Act (List ℕ))) → acts ≡ map changes made ++ others
+store_after : (store : StoreState) (acts : List (Act (List ℕ))) (made : List (List Record)) (others : List (Act (List ℕ))) → acts ≡ map changes made ++ others
     → with_records store (records_of (changes_in acts)) ≡ with_records (with_records store (records_of made)) (records_of (changes_in others))
-store_behind store acts made others is =
+store_after store acts made others is =
     ap (λ (l : List (Act (List ℕ))). with_records store (records_of (changes_in l))) is ∙ ap (λ (l : List (List Record)). with_records store (records_of l)) (changes_in-map made others)
     ∙ ap (with_records store) (records_of-append made (changes_in others)) ∙ sym (with_records-append store (records_of made) (records_of (changes_in others)))
 
@@ -91,31 +91,31 @@ Carries-onward path_of store queue messages told [] acts count (none, no_count) 
       (Carries-over path_of (with_records store (records_of (changes_in acts))) store queue messages messages later more others further
       (ap (λ (l : List (Act (List ℕ))). with_records store (records_of (changes_in l))) none) refl carries);
 }
-Carries-onward path_of store queue messages told (act.Say octets ∷ rest) acts count (behind, is, below) =
-    let on = Carries-onward path_of store queue messages told rest behind count below in
+Carries-onward path_of store queue messages told (act.Say octets ∷ rest) acts count (following, is, below) =
+    let on = Carries-onward path_of store queue messages told rest following count below in
     record {
       used = on.used;
       unused = on.unused;
       told_are = on.told_are;
       onward = λ later more others further carries. (
-        behind ++ others,
+        following ++ others,
         ap (λ (l : List (Act (List ℕ))). l ++ others) is,
         on.onward later more others further
-            (Carries-over path_of (with_records store (records_of (changes_in acts))) (with_records store (records_of (changes_in behind))) queue messages messages later more others further
+            (Carries-over path_of (with_records store (records_of (changes_in acts))) (with_records store (records_of (changes_in following))) queue messages messages later more others further
             (ap (λ (l : List (Act (List ℕ))). with_records store (records_of (changes_in l))) is) refl carries),
       );
     }
-Carries-onward path_of store queue messages told (act.SayData number ∷ rest) acts count (behind, is, below) =
-    let on = Carries-onward path_of store queue messages told rest behind count below in
+Carries-onward path_of store queue messages told (act.SayData number ∷ rest) acts count (following, is, below) =
+    let on = Carries-onward path_of store queue messages told rest following count below in
     record {
       used = on.used;
       unused = on.unused;
       told_are = on.told_are;
       onward = λ later more others further carries. (
-        behind ++ others,
+        following ++ others,
         ap (λ (l : List (Act (List ℕ))). l ++ others) is,
         on.onward later more others further
-            (Carries-over path_of (with_records store (records_of (changes_in acts))) (with_records store (records_of (changes_in behind))) queue messages messages later more others further
+            (Carries-over path_of (with_records store (records_of (changes_in acts))) (with_records store (records_of (changes_in following))) queue messages messages later more others further
             (ap (λ (l : List (Act (List ℕ))). with_records store (records_of (changes_in l))) is) refl carries),
       );
     }
@@ -145,7 +145,7 @@ Carries-onward path_of store queue messages told (act.Settle number outcomes ∷
         },
         on.onward later more others further
             (Carries-over path_of (with_records store (records_of (changes_in acts))) (with_records (with_records store (records_of one.made)) (records_of (changes_in one.others))) queue messages messages later more others further
-            (store_behind store acts one.made one.others one.acts_are) refl carries),
+            (store_after store acts one.made one.others one.acts_are) refl carries),
       );
     }
 
@@ -153,8 +153,8 @@ Carries-onward path_of store queue messages told (act.Settle number outcomes ∷
 pub Carries-count : (path_of : List ℕ → Option (Option Address)) (store : StoreState) (queue : List Queued) (messages : List (List ℕ)) (told : List Moment) (first : List ClientAct) (acts : List (Act (List ℕ))) (count : ℕ)
     → CarriesActs path_of store queue messages told first acts count → count ≤ settled_count first
 Carries-count path_of store queue messages told [] acts count (none, no_count) = omega (arith, no_count)
-Carries-count path_of store queue messages told (act.Say octets ∷ rest) acts count (behind, is, below) = Carries-count path_of store queue messages told rest behind count below
-Carries-count path_of store queue messages told (act.SayData number ∷ rest) acts count (behind, is, below) = Carries-count path_of store queue messages told rest behind count below
+Carries-count path_of store queue messages told (act.Say octets ∷ rest) acts count (following, is, below) = Carries-count path_of store queue messages told rest following count below
+Carries-count path_of store queue messages told (act.SayData number ∷ rest) acts count (following, is, below) = Carries-count path_of store queue messages told rest following count below
 Carries-count path_of store queue messages told (act.Settle number outcomes ∷ rest) acts count (one, below) =
     let few = Carries-count path_of (with_records store (records_of one.made)) queue messages one.later rest one.others one.further below in
     let own = Reports-one path_of store one.queued (entry_octets store.kept one.queued.entry) outcomes told one.later one.settled.reported one.own one.settled.reports in

@@ -13,16 +13,16 @@ use Rattle.mail_store.specs.Changing.{IsDeliverable}
 use Rattle.mail_store.specs.StoreState.{StoreState}
 use Rattle.mail_store.specs.declared.queue.Queued.{Queued}
 use Rattle.mail_store.proofs.FollowLemmas.{Follows-nil}
-use Rattle.relay_choice.specs.declared.letters.Outcome.{Outcome}
+use Rattle.relay_choice.specs.declared.mail_objects.Outcome.{Outcome}
 use Rattle.session_core.specs.Around.{Around}
 use Rattle.session_core.specs.Doing.{Makes}
 use Rattle.session_core.specs.Keeps.{fault_of}
 use Rattle.session_core.specs.Moments.{IsMoment, IsTold, Moment, moment_of}
-use Rattle.session_core.specs.declared.outside.Stamp.{Stamp}
+use Rattle.session_core.specs.declared.outside.Timestamp.{Timestamp}
 use Rattle.session_core.proofs.StoredLemmas.{stored-nothing}
 use Rattle.utf8_reports.specs.Reports.{IsReportOn}
 use Rattle.utf8_reports.specs.declared.failure.FailedRecipient.{FailedRecipient}
-use Rattle.relay_session.specs.Letters.{entry_octets}
+use Rattle.relay_session.specs.MailObjects.{entry_octets}
 use Rattle.relay_session.specs.Reporting.{delivery_to, destination_of, failed_of, is_report_kept, nobody, report_changes, told_once, unsigned}
 use Rattle.relay_session.specs.declared.reporting.Destination.{Destination}
 use Rattle.relay_session.specs.declared.reporting.Destination.TheVariants.{Account, Nowhere, Queue}
@@ -62,17 +62,17 @@ deliverable_made store destination path report date (Ok delivery) is there store
 deliverable_made store destination path report date (Err met) is there stored dated = tt
 
 -- it is the report of these failures at a moment
-pub reported_as : {E : Type 0} (kept : Kept) (queued : Queued) (path : Address) (failed : List FailedRecipient) (stamp : Stamp) (destination : Destination) (text : List ℕ)
-    (result : Result (Option Delivery) E) → IsMoment stamp.seconds (moment_of stamp)
-    → IsReportOn (record { path = path; name = name_of kept; failed = failed; seconds = stamp.seconds }) (entry_octets kept queued.entry) text
-    → WithPaths (λ path_of. destination ≡ destination_of path_of kept path) → IfOk result (λ delivery. delivery ≡ delivery_to destination path text stamp.internal)
-    → IfOk result (λ delivery. WithPaths (λ path_of. IsReported path_of kept queued path failed (moment_of stamp) delivery))
-reported_as kept queued path failed stamp destination text (Ok delivery) moment report goes is = λ path_of reads. record {
+pub reported_as : {E : Type 0} (kept : Kept) (queued : Queued) (path : Address) (failed : List FailedRecipient) (timestamp : Timestamp) (destination : Destination) (text : List ℕ)
+    (result : Result (Option Delivery) E) → IsMoment timestamp.seconds (moment_of timestamp)
+    → IsReportOn (record { path = path; name = name_of kept; failed = failed; seconds = timestamp.seconds }) (entry_octets kept queued.entry) text
+    → WithPaths (λ path_of. destination ≡ destination_of path_of kept path) → IfOk result (λ delivery. delivery ≡ delivery_to destination path text timestamp.internal)
+    → IfOk result (λ delivery. WithPaths (λ path_of. IsReported path_of kept queued path failed (moment_of timestamp) delivery))
+reported_as kept queued path failed timestamp destination text (Ok delivery) moment report goes is = λ path_of reads. record {
   text = text;
-  report = record { seconds = stamp.seconds; is = moment; report_is = report };
-  delivery_is = subst (λ (d : Destination). delivery ≡ delivery_to d path text stamp.internal) (goes path_of reads) is;
+  report = record { seconds = timestamp.seconds; is = moment; report_is = report };
+  delivery_is = subst (λ (d : Destination). delivery ≡ delivery_to d path text timestamp.internal) (goes path_of reads) is;
 }
-reported_as kept queued path failed stamp destination text (Err met) moment report goes is = tt
+reported_as kept queued path failed timestamp destination text (Err met) moment report goes is = tt
 
 -- ---- what a report comes to
 

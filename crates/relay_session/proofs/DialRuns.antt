@@ -5,16 +5,16 @@ use Rattle.address_grammar.specs.declared.Address.{Address}
 use Rattle.mail_store.specs.Queue.{IsQueue, told_count}
 use Rattle.mail_store.specs.declared.queue.Queued.{Queued}
 use Rattle.mail_wire.specs.Causes.{Rose}
-use Rattle.mail_wire.specs.DialTelling.{AsksAtMost, DialTelling, IsDialled, with_host}
-use Rattle.mail_wire.specs.KeeperTelling.{KeeperTelling}
+use Rattle.mail_wire.specs.DialState.{AsksAtMost, DialState, IsDialled, with_host}
+use Rattle.mail_wire.specs.KeeperState.{KeeperState}
 use Rattle.mail_wire.specs.Keeping.{HasKeeperCause}
-use Rattle.mail_wire.specs.Telling.{Telling}
+use Rattle.mail_wire.specs.WireState.{WireState}
 use Rattle.mail_wire.specs.declared.outside.Fault.{Fault}
 use Rattle.mail_wire.specs.declared.outside.Fault.TheVariants as fault
 use Rattle.session_core.specs.Around.{Around, Loans}
 use Rattle.session_core.specs.Keeps.{Keeps, answer_of, fault_of}
 use Rattle.session_core.specs.declared.desk.Desk.{Desk}
-use Rattle.session_core.proofs.MeaningLemmas.{meanings_given}
+use Rattle.session_core.proofs.MeaningLemmas.{oracles_given}
 use Rattle.relay_session.specs.Dialling.{AroundDial, HasDialCause, RelaysQueue, StaysHome, connected, nobody_waits, over_wire, unbegun as unbegun_queue, unreached}
 use Rattle.relay_session.specs.Relaying.{AnswersRelay, EndsRun, HasLeftCause, Relays, RelaysBy, begun, idle, unbegun}
 use Rattle.relay_session.specs.declared.ends.LeftCause.{LeftCause}
@@ -61,27 +61,27 @@ none_some : (why : LeftCause) → (let none : Option LeftCause = None in none) �
 none_some why is = cc
 
 -- the dial failed
-pub unreached_cause : (before now : DialTelling) (left : ℕ) → Rose before.faults now.faults → HasDialCause before now (record { sent = 0; reported = 0; left = left; cause = Some cause.Dial })
+pub unreached_cause : (before now : DialState) (left : ℕ) → Rose before.faults now.faults → HasDialCause before now (record { sent = 0; reported = 0; left = left; cause = Some cause.Dial })
 unreached_cause before now left rose = record { dial = λ is. rose; wire = λ sure is. dial_wire is }
 
-pub idle_cause : (before now : DialTelling) → HasDialCause before now (record { sent = 0; reported = 0; left = 0; cause = None })
+pub idle_cause : (before now : DialState) → HasDialCause before now (record { sent = 0; reported = 0; left = 0; cause = None })
 idle_cause before now = record { dial = λ is. absurd (none_some cause.Dial is); wire = λ sure is. none_some cause.Wire is }
 
 -- ---- over a connection
 
 -- what a relay over a wire is lent, and its desk
-pub record IsLent (lent : Around) (wire : Telling) (keeper : KeeperTelling) (clock : Option ℕ) (desk : Desk) : Type 0 where
+pub record IsLent (lent : Around) (wire : WireState) (keeper : KeeperState) (clock : Option ℕ) (desk : Desk) : Type 0 where
   pub wire_is : lent.wire ≡ wire
   pub keeper_is : lent.keeper ≡ keeper
   pub clock_is : lent.clock ≡ clock
   pub desk_is : lent.desk ≡ desk
 
-lent_is : (lent : Around) (wire : Telling) (keeper : KeeperTelling) (clock : Option ℕ) (desk : Desk) (loans : Loans) → IsLent lent wire keeper clock desk → lent.loans ≡ loans
+lent_is : (lent : Around) (wire : WireState) (keeper : KeeperState) (clock : Option ℕ) (desk : Desk) (loans : Loans) → IsLent lent wire keeper clock desk → lent.loans ≡ loans
     → lent ≡ record { wire = wire; keeper = keeper; clock = clock; desk = desk; loans = loans }
 lent_is lent wire keeper clock desk loans is same = rw (← is.wire_is, ← is.keeper_is, ← is.clock_is, ← is.desk_is, ← same) refl
 
 -- what was relayed is said of what was lent
-pub relays_lent : (start done : Around) (old new : Telling) (had has : KeeperTelling) (first last : Option ℕ) (desk after : Desk) (result : Result RelayEnd Fault)
+pub relays_lent : (start done : Around) (old new : WireState) (had has : KeeperState) (first last : Option ℕ) (desk after : Desk) (result : Result RelayEnd Fault)
     → IsLent start old had first desk → IsLent done new has last after → done.loans ≡ start.loans → Relays start done result
     → (loans : Loans) × Relays (record { wire = old; keeper = had; clock = first; desk = desk; loans = loans }) (record { wire = new; keeper = has; clock = last; desk = after; loans = loans }) result
 relays_lent start done old new had has first last desk after result begins ends same relays =
@@ -93,7 +93,7 @@ relays_lent start done old new had has first last desk after result begins ends 
     )
 
 -- it was relayed over a connection that a dial made, and the dial was handed it back
-pub queue_connected : (host : List ℕ) (before now : AroundDial) (opened closed : Telling) (queue : List Queued) (result : Result RelayEnd Fault)
+pub queue_connected : (host : List ℕ) (before now : AroundDial) (opened closed : WireState) (queue : List Queued) (result : Result RelayEnd Fault)
     → IsQueue before.desk.store.kept.entries queue → queue ≢ [] → now.dial.asked ≡ with_host before.dial.asked host → IsDialled before.dial opened
     → (loans : Loans) × Relays (over_wire before opened loans) (over_wire now closed loans) result → now.dial.transcript ≡ closed.transcript → RelaysQueue host before now result
 queue_connected host before now opened closed queue result told some asked dialled relays handed_back path_of reads =
@@ -123,21 +123,21 @@ dialled_by path_of before now result end told (unbegun is same) why = ok_err end
 dialled_by path_of before now result end told (idle none same is) why =
     none_some cause.Dial (sym (ap (λ (e : RelayEnd). e.cause) (same_end end (record { sent = 0; reported = 0; left = 0; cause = None }) (sym told ∙ is))) ∙ why)
 dialled_by path_of before now result end told (begun bag some relays) why =
-    let answers = subst (λ (r : Result RelayEnd Fault). AnswersRelay path_of before now bag relays.entries relays.replies relays.behind r) told relays.answers in
-    subst (λ (why : Option LeftCause). EndsRun path_of before now bag relays.entries relays.replies relays.behind end why) why answers
+    let answers = subst (λ (r : Result RelayEnd Fault). AnswersRelay path_of before now bag relays.entries relays.replies relays.following r) told relays.answers in
+    subst (λ (why : Option LeftCause). EndsRun path_of before now bag relays.entries relays.replies relays.following end why) why answers
 
 -- the dial is no cause behind a connection
 never_dial : (before now : Around) (end : RelayEnd) → Relays before now (Ok end) → end.cause ≡ Some cause.Dial → ⊥
-never_dial before now end relays is = dialled_by meanings_given.0.path_of before now (Ok end) end refl (relays meanings_given.0.path_of meanings_given.1.paths) is
+never_dial before now end relays is = dialled_by oracles_given.0.path_of before now (Ok end) end refl (relays oracles_given.0.path_of oracles_given.1.paths) is
 
 -- why somebody is left, where a connection was made
-pub connected_cause : (dial last : DialTelling) (opened : Telling) (before now : Around) (result : Result RelayEnd Fault) → IsDialled dial opened → Relays before now result
+pub connected_cause : (dial last : DialState) (opened : WireState) (before now : Around) (result : Result RelayEnd Fault) → IsDialled dial opened → Relays before now result
     → IfOk result (λ end. IsTrue opened.never_fails → end.cause ≢ Some cause.Wire) → IfOk result (HasDialCause dial last)
 connected_cause dial last opened before now (Err met) dialled relays why = tt
 connected_cause dial last opened before now (Ok end) dialled relays why = record { dial = λ is. absurd (never_dial before now end relays is); wire = λ sure. why (dialled.sure sure) }
 
 -- a wire that never fails isn't told to have failed
-pub wire_sure : (start done : Around) (old : Telling) (result : Result RelayEnd Fault) → start.wire ≡ old → IfOk result (IsWireCause start done) → IfOk result (λ end. IsTrue old.never_fails → end.cause ≢ Some cause.Wire)
+pub wire_sure : (start done : Around) (old : WireState) (result : Result RelayEnd Fault) → start.wire ≡ old → IfOk result (IsWireCause start done) → IfOk result (λ end. IsTrue old.never_fails → end.cause ≢ Some cause.Wire)
 wire_sure start done old (Err met) same why = tt
 wire_sure start done old (Ok end) same why = λ sure is. (why is).1 (rw same sure)
 
@@ -145,17 +145,17 @@ wired_by : (path_of : List ℕ → Option (Option Address)) (before now : Around
 wired_by path_of before now result (unbegun is same) failed = memory_wire (sym is ∙ failed)
 wired_by path_of before now result (idle none same is) failed = ok_err (record { sent = 0; reported = 0; left = 0; cause = None }) fault.Wire (sym is ∙ failed)
 wired_by path_of before now result (begun bag some relays) failed =
-    subst (λ (r : Result RelayEnd Fault). AnswersRelay path_of before now bag relays.entries relays.replies relays.behind r) failed relays.answers
+    subst (λ (r : Result RelayEnd Fault). AnswersRelay path_of before now bag relays.entries relays.replies relays.following r) failed relays.answers
 
 -- a wire that fails is no fault of the answer
 pub no_wire_fault : (before now : Around) (result : Result RelayEnd Fault) → Relays before now result → result ≡ Err fault.Wire → ⊥
-no_wire_fault before now result relays failed = wired_by meanings_given.0.path_of before now result (relays meanings_given.0.path_of meanings_given.1.paths) failed
+no_wire_fault before now result relays failed = wired_by oracles_given.0.path_of before now result (relays oracles_given.0.path_of oracles_given.1.paths) failed
 
 met_told : (result : Result RelayEnd Fault) (met : Fault) → result ≡ Err met → answer_of (fault_of result) ≡ Err met
 met_told result met is = rw is refl
 
 -- the keeper's cause of the answer, over what was lent
-pub connected_keeper : (start done : Around) (old new : KeeperTelling) (result : Result RelayEnd Fault) → start.keeper ≡ old → done.keeper ≡ new → Keeps start done (fault_of result) → HasKeeperCause old new result fault.Keeper
+pub connected_keeper : (start done : Around) (old new : KeeperState) (result : Result RelayEnd Fault) → start.keeper ≡ old → done.keeper ≡ new → Keeps start done (fault_of result) → HasKeeperCause old new result fault.Keeper
 connected_keeper start done old new result first last keeps =
     let kept : HasKeeperCause old new (answer_of (fault_of result)) fault.Keeper = rw (← first, ← last) keeps.keeper in
     record {
@@ -165,5 +165,5 @@ connected_keeper start done old new result first last keeps =
     }
 
 -- a keeper that wasn't used
-pub unused_keeper : (keeper : KeeperTelling) (result : Result RelayEnd Fault) → (result ≡ Err fault.Keeper → ⊥) → HasKeeperCause keeper keeper result fault.Keeper
+pub unused_keeper : (keeper : KeeperState) (result : Result RelayEnd Fault) → (result ≡ Err fault.Keeper → ⊥) → HasKeeperCause keeper keeper result fault.Keeper
 unused_keeper keeper result fine = record { later = omega arith; rose = λ failed. absurd (fine failed); sure = λ never. (never, fine) }

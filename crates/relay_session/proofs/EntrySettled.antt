@@ -11,14 +11,14 @@ use Rattle.mail_store.specs.StoreState.{StoreState}
 use Rattle.mail_store.specs.declared.queue.Queued.{Queued}
 use Rattle.mail_wire.specs.declared.outside.Fault.{Fault}
 use Rattle.mail_wire.specs.declared.outside.Fault.TheVariants as fault
-use Rattle.relay_choice.specs.declared.letters.Outcome.{Outcome}
+use Rattle.relay_choice.specs.declared.mail_objects.Outcome.{Outcome}
 use Rattle.session_core.specs.Acts.{Act, changes}
 use Rattle.session_core.specs.Around.{Around}
 use Rattle.session_core.specs.Keeps.{fault_of}
 use Rattle.session_core.proofs.DoingLemmas.{Does-then, DoesFirst-before}
-use Rattle.session_core.proofs.MeaningLemmas.{meanings_given}
+use Rattle.session_core.proofs.MeaningLemmas.{oracles_given}
 use Rattle.relay_session.specs.Carrying.{taken_off}
-use Rattle.relay_session.specs.Letters.{entry_octets}
+use Rattle.relay_session.specs.MailObjects.{entry_octets}
 use Rattle.relay_session.specs.private.Acting.{DoesActs, IsKnownEntry, IsOpenIn, MadeReport, MadeSettled, MakesReport, Settles, counted}
 use Rattle.relay_session.specs.declared.ends.Tally.{Tally}
 use Rattle.relay_session.proofs.QueueChanges.{open_reported, stands_reported}
@@ -59,15 +59,15 @@ module _ (path_of : List ℕ → Option (Option Address)) (before mid : Around) 
       }
 
 -- whatever function reads paths: there is one
-pub known_behind : (before mid : Around) (queued : Queued) (outcomes : List Outcome) (kept : Bool) → WithPaths (λ path_of. MakesReport path_of before mid queued outcomes (Ok kept))
+pub known_after : (before mid : Around) (queued : Queued) (outcomes : List Outcome) (kept : Bool) → WithPaths (λ path_of. MakesReport path_of before mid queued outcomes (Ok kept))
     → IsKnownEntry before.desk.store.kept queued → IsKnownEntry mid.desk.store.kept queued
-known_behind before mid queued outcomes kept report known =
-    known_by meanings_given.0.path_of before mid queued outcomes (report_count kept) (report meanings_given.0.path_of meanings_given.1.paths) known
+known_after before mid queued outcomes kept report known =
+    known_by oracles_given.0.path_of before mid queued outcomes (report_count kept) (report oracles_given.0.path_of oracles_given.1.paths) known
 
-pub open_behind_report : (before mid : Around) (queued : Queued) (outcomes : List Outcome) (kept : Bool) → WithPaths (λ path_of. MakesReport path_of before mid queued outcomes (Ok kept))
+pub open_after_report : (before mid : Around) (queued : Queued) (outcomes : List Outcome) (kept : Bool) → WithPaths (λ path_of. MakesReport path_of before mid queued outcomes (Ok kept))
     → IsOpenIn before.desk.store.kept queued → IsOpenIn mid.desk.store.kept queued
-open_behind_report before mid queued outcomes kept report still =
-    open_by meanings_given.0.path_of before mid queued outcomes (report_count kept) (report meanings_given.0.path_of meanings_given.1.paths) still
+open_after_report before mid queued outcomes kept report still =
+    open_by oracles_given.0.path_of before mid queued outcomes (report_count kept) (report oracles_given.0.path_of oracles_given.1.paths) still
 
 -- ---- what is answered
 

@@ -12,7 +12,7 @@ use Rattle.relay_choice.specs.declared.replies.Reply.{Reply}
 use Rattle.session_core.specs.Around.{Around}
 use Rattle.session_core.specs.Keeps.{Keeps}
 use Rattle.session_core.proofs.KeepsLemmas.{Keeps-nil, Keeps-then}
-use Rattle.relay_session.specs.Letters.{Mailbag}
+use Rattle.relay_session.specs.MailObjects.{Mailbag}
 use Rattle.relay_session.specs.Relaying.{DoesRun, RelaysTo}
 use Rattle.relay_session.specs.Streams.{AreReplies}
 use Rattle.relay_session.specs.declared.running.Run.{Run}
@@ -42,7 +42,7 @@ work_read before now bag run reader pending left work begun same = record {
     clock = work.clock;
     faults = work.faults;
     few = work.few;
-    few_letters = work.few_letters;
+    few_mail_objects = work.few_mail_objects;
     known = work.known;
     unsettled = work.unsettled;
     waiting = work.waiting;

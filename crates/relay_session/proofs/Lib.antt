@@ -3,7 +3,7 @@ pub mod CarryLemmas
 pub mod TallyLemmas
 pub mod ActsLemmas
 pub mod OneAct
-pub mod LetterAddresses
+pub mod MailObjectAddresses
 pub mod StatusCodes
 pub mod ReportedFailures
 pub mod DeliveredReports

@@ -2,11 +2,11 @@
 use Rattle.std.proofs.Common.{◌≡◌, ℕ, ◌+◌, ◌-◌, ◌*◌, ◌<◌, ◌≤◌, List, [], ◌∷◌, ◌++◌, length, drop, refl, ap, ◌∙◌, arith}
 use Rattle.std.proofs.lemmas.List.{length-append, length-drop}
 use Rattle.relay_choice.specs.Pieces.{HasBegunReply}
-use Rattle.relay_choice.specs.Relay.{sent_behind, sent_to}
+use Rattle.relay_choice.specs.Relay.{sent_after, sent_to}
 use Rattle.relay_choice.specs.Replies.{AreFurtherLines, IsBegun, IsReply}
-use Rattle.relay_choice.specs.Standing.{ClientState, first_left, letter_left, replies_by, replies_left, standing_of}
-use Rattle.relay_choice.specs.Within.{HasItsLetter}
-use Rattle.relay_choice.specs.declared.letters.Letter.{Letter}
+use Rattle.relay_choice.specs.Standing.{ClientState, first_left, mail_object_left, replies_by, replies_left, standing_of}
+use Rattle.relay_choice.specs.Within.{HasItsMailObject}
+use Rattle.relay_choice.specs.declared.mail_objects.MailObject.{MailObject}
 use Rattle.relay_choice.specs.declared.reader.ReplyReader.{ReplyReader}
 use Rattle.relay_choice.specs.declared.replies.Reply.{Reply}
 use Rattle.relay_choice.specs.declared.replies.TheConstants.{REPLY_LINES, REPLY_LINE_MAX}
@@ -44,23 +44,23 @@ begun_few octets (x, more, (reply, is)) =
 
 -- ---- a client that awaits a reply
 
-first_some : (count : Letter → ℕ) → ((letter : Letter) → 0 < count letter) → (letters : List Letter) → 0 < length letters → 0 < first_left count letters
+first_some : (count : MailObject → ℕ) → ((mail_object : MailObject) → 0 < count mail_object) → (mail_objects : List MailObject) → 0 < length mail_objects → 0 < first_left count mail_objects
 first_some count some [] at = absurd (omega (arith, at))
-first_some count some (letter ∷ letters) at = let here = some letter in omega (arith, here)
+first_some count some (mail_object ∷ mail_objects) at = let here = some mail_object in omega (arith, here)
 
-letter_some : (client : ClientState) (count : Letter → ℕ) → client.at < length client.letters → ((letter : Letter) → 0 < count letter) → 0 < letter_left client count
-letter_some client count at some =
-    let left = length-drop client.at client.letters in
-    first_some count some (drop client.at client.letters) (omega (arith, left, at))
+mail_object_some : (client : ClientState) (count : MailObject → ℕ) → client.at < length client.mail_objects → ((mail_object : MailObject) → 0 < count mail_object) → 0 < mail_object_left client count
+mail_object_some client count at some =
+    let left = length-drop client.at client.mail_objects in
+    first_some count some (drop client.at client.mail_objects) (omega (arith, left, at))
 
-some_by : (awaited : Awaited) (client : ClientState) → HasItsLetter awaited client.at client.letters → 0 < replies_by awaited client
+some_by : (awaited : Awaited) (client : ClientState) → HasItsMailObject awaited client.at client.mail_objects → 0 < replies_by awaited client
 some_by awaited.Greeting client within = omega arith
 some_by awaited.Ehlo client within = omega arith
-some_by awaited.Mail client within = letter_some client (λ letter. length (sent_to client.offer letter) + 3) (within refl) (λ letter. omega arith)
-some_by (awaited.Rcpt behind) client within = letter_some client (λ letter. length (sent_behind client.offer letter behind) + 3) (within refl) (λ letter. omega arith)
-some_by awaited.Data client within = letter_some client (λ letter. 2) (within refl) (λ letter. omega arith)
-some_by awaited.End client within = letter_some client (λ letter. 1) (within refl) (λ letter. omega arith)
-some_by awaited.Reset client within = letter_some client (λ letter. 1) (within refl) (λ letter. omega arith)
+some_by awaited.Mail client within = mail_object_some client (λ mail_object. length (sent_to client.offer mail_object) + 3) (within refl) (λ mail_object. omega arith)
+some_by (awaited.Rcpt following) client within = mail_object_some client (λ mail_object. length (sent_after client.offer mail_object following) + 3) (within refl) (λ mail_object. omega arith)
+some_by awaited.Data client within = mail_object_some client (λ mail_object. 2) (within refl) (λ mail_object. omega arith)
+some_by awaited.End client within = mail_object_some client (λ mail_object. 1) (within refl) (λ mail_object. omega arith)
+some_by awaited.Reset client within = mail_object_some client (λ mail_object. 1) (within refl) (λ mail_object. omega arith)
 
 -- it takes one more
 pub some_replies : (client : Client) → 0 < replies_left (standing_of client)

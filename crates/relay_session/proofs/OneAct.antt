@@ -13,9 +13,9 @@ use Rattle.mail_store.specs.declared.queue.Queued.{Queued}
 use Rattle.mail_wire.specs.declared.outside.Fault.{Fault}
 use Rattle.mail_wire.specs.declared.outside.Fault.TheVariants as fault
 use Rattle.relay_choice.specs.Said.{data_text}
-use Rattle.relay_choice.specs.declared.letters.Act.{Act as ClientAct}
-use Rattle.relay_choice.specs.declared.letters.Act.TheVariants as act
-use Rattle.relay_choice.specs.declared.letters.Outcome.{Outcome}
+use Rattle.relay_choice.specs.declared.mail_objects.Act.{Act as ClientAct}
+use Rattle.relay_choice.specs.declared.mail_objects.Act.TheVariants as act
+use Rattle.relay_choice.specs.declared.mail_objects.Outcome.{Outcome}
 use Rattle.session_core.specs.Acts.{Act, changes, changes_in, gives}
 use Rattle.session_core.specs.Around.{Around}
 use Rattle.session_core.specs.Doing.{Replies}
@@ -23,12 +23,12 @@ use Rattle.session_core.specs.Keeps.{fault_of}
 use Rattle.session_core.specs.Moments.{IsTold}
 use Rattle.session_core.proofs.DoingLemmas.{Does-replies}
 use Rattle.relay_session.specs.Carrying.{CarriesActs, said_octets}
-use Rattle.relay_session.specs.Letters.{entry_octets, messages_of}
+use Rattle.relay_session.specs.MailObjects.{entry_octets, messages_of}
 use Rattle.relay_session.specs.declared.ends.Tally.{Tally}
 use Rattle.relay_session.specs.private.Acting.{ActsBroken, ActsBy, ActsDone, AreKnown, AreOpenFrom, DoesActs, IsActIn, IsOpenIn, KeepsQueue, MadeSettled, SettleFrom, Settles, sent_among, settled_count, tallied}
 use Rattle.relay_session.proofs.ActsLemmas.{ActsDone-nil, open_at}
 use Rattle.relay_session.proofs.CarryLemmas.{changes_in-map}
-use Rattle.relay_session.proofs.QueueChanges.{open_behind, stands_settled}
+use Rattle.relay_session.proofs.QueueChanges.{open_after, stands_settled}
 use Rattle.relay_session.proofs.QueueFacts.{AreKnown-on, messages_of-on}
 use Rattle.relay_session.proofs.TallyLemmas.{same_tally, tallied-nothing}
 
@@ -185,7 +185,7 @@ settles_kept path_of a b queue number queued outcomes old new known there (count
       unsettled = λ place are_open settle.
           let at : number ≡ place = settle.0 in
           subst (λ (kept : Kept). AreOpenFrom kept queue (place + 1)) (sym after)
-          (open_behind path_of a.desk.store queue place queued outcomes made.told [] made.made count known (rw at at there) made.settled are_open);
+          (open_after path_of a.desk.store queue place queued outcomes made.told [] made.made count known (rw at at there) made.settled are_open);
     }
 
 -- the entries behind it are open as before

@@ -17,7 +17,7 @@ use Rattle.mail_store.specs.declared.queue.Queued.{Queued}
 use Rattle.mail_store.specs.declared.queue.Unsettled.{Unsettled}
 use Rattle.mail_store.proofs.FollowLemmas.{records_of-append}
 use Rattle.mail_wire.proofs.AllLemmas.{all-append}
-use Rattle.relay_choice.specs.declared.letters.Outcome.{Outcome}
+use Rattle.relay_choice.specs.declared.mail_objects.Outcome.{Outcome}
 use Rattle.session_core.specs.Changes.{unless_refused}
 use Rattle.session_core.specs.Moments.{Moment}
 use Rattle.relay_session.specs.Carrying.{IsSettled, taken_off}
@@ -133,14 +133,14 @@ one_fewer P (x ∷ xs) zero holds = holds.1
 one_fewer P (x ∷ xs) (suc place) holds = one_fewer P xs place holds
 
 -- the entries behind it are open as before
-pub open_behind : (path_of : List ℕ → Option (Option Address)) (store : StoreState) (queue : List Queued) (place : ℕ) (queued : Queued) (outcomes : List Outcome) (told later : List Moment)
+pub open_after : (path_of : List ℕ → Option (Option Address)) (store : StoreState) (queue : List Queued) (place : ℕ) (queued : Queued) (outcomes : List Outcome) (told later : List Moment)
     (made : List (List Record)) (count : ℕ) → AreKnown store.kept queue → slice_get queue place ≡ Some queued → IsSettled path_of store queued outcomes told later made count
     → AreOpenFrom store.kept queue place → AreOpenFrom (after_all store.kept (records_of made)) queue (place + 1)
-open_behind path_of store queue place queued outcomes told later made count known there settled still =
+open_after path_of store queue place queued outcomes told later made count known there settled still =
     let new = after_all store.kept (records_of made) in
     let next : suc place ≡ place + 1 = omega arith in
     let above = above_place (λ (one : Queued). one.entry) queue place queued known.rising there in
-    let behind = one_fewer (IsOpenIn store.kept) queue place (recursion_from_All (IsOpenIn store.kept) (drop place queue) still) in
+    let following = one_fewer (IsOpenIn store.kept) queue place (recursion_from_All (IsOpenIn store.kept) (drop place queue) still) in
     subst (λ (n : ℕ). All (IsOpenIn new) (drop n queue)) next
     (All-from_recursion (IsOpenIn new) (drop (suc place) queue)
-    (open_above store.kept new queued.entry (λ other over was. open_settled path_of store queued outcomes told later made count other settled (λ same. omega (arith, same, over)) was) (drop (suc place) queue) above behind))
+    (open_above store.kept new queued.entry (λ other over was. open_settled path_of store queued outcomes told later made count other settled (λ same. omega (arith, same, over)) was) (drop (suc place) queue) above following))

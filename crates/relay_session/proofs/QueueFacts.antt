@@ -19,7 +19,7 @@ use Rattle.mail_store.specs.Queue.{HasPaths, IsQueue, IsQueuedAt, IsUnsettledAt,
 use Rattle.mail_store.specs.declared.queue.Queued.{Queued}
 use Rattle.mail_store.specs.declared.queue.Unsettled.{Unsettled}
 use Rattle.mail_store.proofs.QueueLemmas.{told_paths}
-use Rattle.relay_session.specs.Letters.{entry_octets, messages_of}
+use Rattle.relay_session.specs.MailObjects.{entry_octets, messages_of}
 use Rattle.relay_session.specs.private.Acting.{AreKnown, AreOpenFrom, IsKnownEntry, IsOpenIn}
 use Rattle.relay_session.proofs.RisingPlaces.{places_increase, places_pass}
 

@@ -6,10 +6,10 @@ use Rattle.address_grammar.specs.declared.Address.{Address}
 use Rattle.mail_store.specs.declared.queue.Queued.{Queued}
 use Rattle.mail_wire.specs.declared.outside.Fault.{Fault}
 use Rattle.mail_wire.specs.declared.outside.Fault.TheVariants as fault
-use Rattle.relay_choice.specs.Relay.{behind_acts, finished}
+use Rattle.relay_choice.specs.Relay.{after_acts, finished}
 use Rattle.relay_choice.specs.Replies.{IsDecided, IsNoFront, IsReply, IsReplyRead}
 use Rattle.relay_choice.specs.Standing.{TakesLeave as LeavesLast, rest_of}
-use Rattle.relay_choice.specs.declared.letters.Act.{Act as ClientAct}
+use Rattle.relay_choice.specs.declared.mail_objects.Act.{Act as ClientAct}
 use Rattle.relay_choice.specs.declared.replies.Reply.{Reply}
 use Rattle.relay_choice.specs.declared.replies.ReplyRead.{ReplyRead}
 use Rattle.relay_choice.specs.declared.replies.ReplyRead.TheVariants as read
@@ -17,7 +17,7 @@ use Rattle.relay_choice.specs.declared.states.Client.{Client}
 use Rattle.relay_choice.proofs.ReplyReads.{decided_once, read_once}
 use Rattle.session_core.specs.Around.{Around}
 use Rattle.session_core.specs.Keeps.{Keeps}
-use Rattle.relay_session.specs.Letters.{Mailbag}
+use Rattle.relay_session.specs.MailObjects.{Mailbag}
 use Rattle.relay_session.specs.Relaying.{RelaysTo}
 use Rattle.relay_session.specs.declared.ends.LeftCause.TheVariants as cause
 use Rattle.relay_session.specs.declared.ends.Tally.{Tally}
@@ -30,7 +30,7 @@ use Rattle.relay_session.proofs.RunFinishes.{FinishesBy, all_ends, finishes_by, 
 use Rattle.relay_session.proofs.RunPieces.{end_of}
 use Rattle.relay_session.proofs.RunSteps.{acts_so_far, codes_more, counts_so, goes_by, goes_on, running_on}
 use Rattle.relay_session.proofs.SameReplies.{same_whole}
-use Rattle.session_core.proofs.MeaningLemmas.{meanings_given}
+use Rattle.session_core.proofs.MeaningLemmas.{oracles_given}
 use Rattle.journal_records.specs.Addresses.{WithPaths}
 
 -- ---- what the octets are
@@ -83,7 +83,7 @@ abbrev pub IsOfSome : (now : Around) → List Queued → Run → (octets : List 
 IsOfSome now queue run octets = (before : Around) × (bag : Mailbag before.desk.store.kept) × (rest : List ℕ) × (bag.queue ≡ queue) × IsAtWork before now bag run (octets ++ rest)
 
 pub going_done : (now : Around) (queue : List Queued) (run : Run) (octets : List ℕ) (reply : Reply) (next : Client) (acts : List ClientAct) → IsOfSome now queue run octets → IsReply octets reply
-    → ((left : List Reply) → rest_of run.client (reply ∷ left) ≡ behind_acts acts (rest_of next left)) → CanBeDone now queue run.tally acts
+    → ((left : List Reply) → rest_of run.client (reply ∷ left) ≡ after_acts acts (rest_of next left)) → CanBeDone now queue run.tally acts
 going_done now queue run octets reply next acts (before, bag, rest, same, work) is comes =
     let by = goes_by before now bag run (octets ++ rest) work next reply acts comes in
     due_done before now bag queue run (octets ++ rest) work reply acts same (record { codes = codes_more before now bag run (octets ++ rest) octets work reply is; run_acts = by.run_acts })
@@ -104,31 +104,31 @@ kept_queue : (a b : Around) (queue other : List Queued) (acts : List ClientAct) 
 kept_queue a b queue other acts same keeps = subst (λ (l : List Queued). KeepsQueue a b l acts) (sym same) keeps
 
 -- the client and the tally behind a reply
-abbrev pub run_behind : Run → Client → Tally → Run
-run_behind run client tally = record { client = client; reader = run.reader; tally = tally }
+abbrev pub run_after : Run → Client → Tally → Run
+run_after run client tally = record { client = client; reader = run.reader; tally = tally }
 
 -- a reply was read by a reader that is anew, and the acts that it leads to were done
 pub record DoneBy (a b : Around) (queue : List Queued) (run : Run) (octets : List ℕ) (reply : Reply) (next : Client) (acts : List ClientAct) (new : Tally) : Type 0 where
   pub anew : run.reader.octets ≡ []
   pub is : IsReply octets reply
-  pub comes : (left : List Reply) → rest_of run.client (reply ∷ left) ≡ behind_acts acts (rest_of next left)
+  pub comes : (left : List Reply) → rest_of run.client (reply ∷ left) ≡ after_acts acts (rest_of next left)
   pub done : WithPaths (λ path_of. ActsBy path_of a b queue acts run.tally new None)
   pub stays : KeepsQueue a b queue acts
   pub keeps : Keeps a b None
 
-pub runs_behind : (a b : Around) (queue : List Queued) (run : Run) (octets : List ℕ) (reply : Reply) (next : Client) (acts : List ClientAct) (new : Tally) → DoneBy a b queue run octets reply next acts new
+pub runs_after : (a b : Around) (queue : List Queued) (run : Run) (octets : List ℕ) (reply : Reply) (next : Client) (acts : List ClientAct) (new : Tally) → DoneBy a b queue run octets reply next acts new
     → WithPaths (λ path_of. (before : Around) (bag : Mailbag before.desk.store.kept) (rest : List ℕ) → bag.queue ≡ queue → IsRunning path_of before a bag run (octets ++ rest)
-    → IsRunning path_of before b bag (run_behind run next new) rest)
-runs_behind a b queue run octets reply next acts new done path_of reads before bag rest same running =
+    → IsRunning path_of before b bag (run_after run next new) rest)
+runs_after a b queue run octets reply next acts new done path_of reads before bag rest same running =
     let by = of_queue path_of a b queue bag.queue acts run.tally new None same (done.done path_of reads) in
-    running_on path_of before a b bag run (run_behind run next new) octets rest reply acts by.0 by.1 running refl done.anew done.is done.comes by.2 by.3 (kept_queue a b queue bag.queue acts same done.stays) done.keeps
+    running_on path_of before a b bag run (run_after run next new) octets rest reply acts by.0 by.1 running refl done.anew done.is done.comes by.2 by.3 (kept_queue a b queue bag.queue acts same done.stays) done.keeps
 
-pub works_behind : (a b : Around) (queue : List Queued) (run : Run) (octets : List ℕ) (reply : Reply) (next : Client) (acts : List ClientAct) (new : Tally) → DoneBy a b queue run octets reply next acts new
-    → (before : Around) (bag : Mailbag before.desk.store.kept) (rest : List ℕ) → bag.queue ≡ queue → IsAtWork before a bag run (octets ++ rest) → IsAtWork before b bag (run_behind run next new) rest
-works_behind a b queue run octets reply next acts new done before bag rest same work =
-    let path_of = meanings_given.0.path_of in
-    let by = of_queue path_of a b queue bag.queue acts run.tally new None same (done.done path_of meanings_given.1.paths) in
-    (goes_on path_of before a b bag run (run_behind run next new) octets rest reply acts by.0 by.1 work refl done.anew done.is done.comes by.2 by.3 (kept_queue a b queue bag.queue acts same done.stays) done.keeps).work
+pub works_after : (a b : Around) (queue : List Queued) (run : Run) (octets : List ℕ) (reply : Reply) (next : Client) (acts : List ClientAct) (new : Tally) → DoneBy a b queue run octets reply next acts new
+    → (before : Around) (bag : Mailbag before.desk.store.kept) (rest : List ℕ) → bag.queue ≡ queue → IsAtWork before a bag run (octets ++ rest) → IsAtWork before b bag (run_after run next new) rest
+works_after a b queue run octets reply next acts new done before bag rest same work =
+    let path_of = oracles_given.0.path_of in
+    let by = of_queue path_of a b queue bag.queue acts run.tally new None same (done.done path_of oracles_given.1.paths) in
+    (goes_on path_of before a b bag run (run_after run next new) octets rest reply acts by.0 by.1 work refl done.anew done.is done.comes by.2 by.3 (kept_queue a b queue bag.queue acts same done.stays) done.keeps).work
 
 -- ---- the run ends
 
@@ -139,12 +139,12 @@ pub record FailsBy (a b : Around) (queue : List Queued) (run : Run) (octets : Li
   pub done : WithPaths (λ path_of. ActsBy path_of a b queue acts run.tally new (Some met))
 
 reply_comes : (before a : Around) (bag : Mailbag before.desk.store.kept) (run : Run) (octets rest : List ℕ) (reply : Reply) (next : Client) (acts : List ClientAct) (work : IsAtWork before a bag run (octets ++ rest))
-    → run.reader.octets ≡ [] → IsReply octets reply → ((left : List Reply) → rest_of run.client (reply ∷ left) ≡ behind_acts acts (rest_of next left)) → ReplyComes before a bag run octets rest work reply acts
+    → run.reader.octets ≡ [] → IsReply octets reply → ((left : List Reply) → rest_of run.client (reply ∷ left) ≡ after_acts acts (rest_of next left)) → ReplyComes before a bag run octets rest work reply acts
 reply_comes before a bag run octets rest reply next acts work anew is comes =
     record { anew = anew; is = is; run_acts = (goes_by before a bag run (octets ++ rest) work next reply acts comes).run_acts }
 
 pub going_wire : (a b : Around) (queue : List Queued) (run : Run) (octets : List ℕ) (reply : Reply) (next : Client) (acts : List ClientAct) (new : Tally) → FailsBy a b queue run octets reply acts new fault.Wire
-    → ((left : List Reply) → rest_of run.client (reply ∷ left) ≡ behind_acts acts (rest_of next left))
+    → ((left : List Reply) → rest_of run.client (reply ∷ left) ≡ after_acts acts (rest_of next left))
     → WithPaths (λ path_of. (before : Around) (bag : Mailbag before.desk.store.kept) (rest : List ℕ) → bag.queue ≡ queue → IsRunning path_of before a bag run (octets ++ rest)
     → RelaysTo path_of before b bag (Ok (end_of new (Some cause.Wire))))
 going_wire a b queue run octets reply next acts new fails comes path_of reads before bag rest same running =
@@ -160,7 +160,7 @@ broken_by path_of before a b bag run octets rest reply acts new fault.Keeper run
 broken_by path_of before a b bag run octets rest reply acts new fault.Memory running comes fine by = breaks_run path_of before a b bag run octets rest reply acts fault.Memory running comes fine by
 
 pub going_fault : (a b : Around) (queue : List Queued) (run : Run) (octets : List ℕ) (reply : Reply) (next : Client) (acts : List ClientAct) (new : Tally) (met : Fault) → FailsBy a b queue run octets reply acts new met
-    → ((left : List Reply) → rest_of run.client (reply ∷ left) ≡ behind_acts acts (rest_of next left)) → (met ≡ fault.Wire → ⊥)
+    → ((left : List Reply) → rest_of run.client (reply ∷ left) ≡ after_acts acts (rest_of next left)) → (met ≡ fault.Wire → ⊥)
     → WithPaths (λ path_of. (before : Around) (bag : Mailbag before.desk.store.kept) (rest : List ℕ) → bag.queue ≡ queue → IsRunning path_of before a bag run (octets ++ rest) → RelaysTo path_of before b bag (Err met))
 going_fault a b queue run octets reply next acts new met fails comes fine path_of reads before bag rest same running =
     broken_by path_of before a b bag run octets rest reply acts new met running (reply_comes before a bag run octets rest reply next acts running.work fails.anew fails.is comes) fine

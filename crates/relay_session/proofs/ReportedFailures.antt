@@ -9,8 +9,8 @@ use Rattle.ace_domains.proofs.HostNameLemmas.{host_name_own}
 use Rattle.address_grammar.specs.declared.Address.{Address}
 use Rattle.address_grammar.specs.Paths.{ComesInPath}
 use Rattle.mail_store.specs.declared.queue.Unsettled.{Unsettled}
-use Rattle.relay_choice.specs.declared.letters.Outcome.{Outcome}
-use Rattle.relay_choice.specs.declared.letters.Outcome.TheVariants as outcome
+use Rattle.relay_choice.specs.declared.mail_objects.Outcome.{Outcome}
+use Rattle.relay_choice.specs.declared.mail_objects.Outcome.TheVariants as outcome
 use Rattle.session_core.specs.Desks.{IsStoreName}
 use Rattle.utf8_reports.specs.Destinations.{IsReporter}
 use Rattle.utf8_reports.specs.Recipients.{IsFailed, IsReplyCode}

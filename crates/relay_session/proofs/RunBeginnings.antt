@@ -20,17 +20,17 @@ use Rattle.mail_wire.proofs.Moving.{Moves-nil}
 use Rattle.relay_choice.specs.Pieces.{HasBegunReply}
 use Rattle.relay_choice.specs.Relay.{relay_of}
 use Rattle.relay_choice.specs.Standing.{rest_of}
-use Rattle.relay_choice.specs.declared.letters.Letter.{Letter}
+use Rattle.relay_choice.specs.declared.mail_objects.MailObject.{MailObject}
 use Rattle.relay_choice.specs.declared.replies.Reply.{Reply}
 use Rattle.session_core.specs.Around.{Around}
 use Rattle.session_core.specs.Moments.{IsTold}
-use Rattle.relay_session.specs.Letters.{IsLetterAt, Mailbag}
+use Rattle.relay_session.specs.MailObjects.{IsMailObjectAt, Mailbag}
 use Rattle.relay_session.specs.Relaying.{Relays, RelaysTo, SpeaksInTurn, begun}
 use Rattle.relay_session.specs.Streams.{AreReplies}
 use Rattle.relay_session.specs.declared.ends.RelayEnd.{RelayEnd}
 use Rattle.relay_session.specs.declared.running.Run.{Run}
 use Rattle.relay_session.specs.private.Running.{IsAtWork, IsRunning}
-use Rattle.relay_session.proofs.ClientActs.{letters_open}
+use Rattle.relay_session.proofs.ClientActs.{mail_objects_open}
 use Rattle.relay_session.proofs.QueueFacts.{are_known, are_open}
 use Rattle.relay_session.proofs.RisingPlaces.{places_pass}
 
@@ -88,26 +88,26 @@ none_taken : (octets : List ℕ) → octets ≡ [] → AreReplies [] [] (octets 
 none_taken octets none = record { texts = []; are = tt; whole = rw none refl }
 
 -- What a run begins with.
-pub record Begins (before : Around) (queue : List Queued) (letters : List Letter) (run : Run) : Type 0 where
+pub record Begins (before : Around) (queue : List Queued) (mail_objects : List MailObject) (run : Run) : Type 0 where
   pub told : IsQueue before.desk.store.kept.entries queue
-  pub all : AllZip (IsLetterAt before.desk.store.kept) queue letters
+  pub all : AllZip (IsMailObjectAt before.desk.store.kept) queue mail_objects
   pub few : told_count queue ≤ THINGS_MAX
   pub octets : run.reader.octets ≡ []
   pub begun : HasBegunReply run.reader
-  pub client : (left : List Reply) → rest_of run.client left ≡ relay_of (name_of before.desk.store.kept) letters left
+  pub client : (left : List Reply) → rest_of run.client left ≡ relay_of (name_of before.desk.store.kept) mail_objects left
   pub sent : run.tally.sent ≡ 0
   pub reported : run.tally.reported ≡ 0
   pub left : run.tally.left ≡ told_count queue
 
-abbrev bag_of : (before : Around) (queue : List Queued) (letters : List Letter) (run : Run) → Begins before queue letters run → Mailbag before.desk.store.kept
-bag_of before queue letters run begins = record { queue = queue; is_queue = begins.told; letters = letters; are_letters = begins.all }
+abbrev bag_of : (before : Around) (queue : List Queued) (mail_objects : List MailObject) (run : Run) → Begins before queue mail_objects run → Mailbag before.desk.store.kept
+bag_of before queue mail_objects run begins = record { queue = queue; is_queue = begins.told; mail_objects = mail_objects; are_mail_objects = begins.all }
 
-abbrev work_first : (before : Around) (queue : List Queued) (letters : List Letter) (run : Run) → (begins : Begins before queue letters run)
-    → IsAtWork before before (bag_of before queue letters run begins) run []
-work_first before queue letters run begins = record {
+abbrev work_first : (before : Around) (queue : List Queued) (mail_objects : List MailObject) (run : Run) → (begins : Begins before queue mail_objects run)
+    → IsAtWork before before (bag_of before queue mail_objects run begins) run []
+work_first before queue mail_objects run begins = record {
   entries = [];
   moves = Moves-nil before.wire;
-  in_turn = in_turn_first before (bag_of before queue letters run begins);
+  in_turn = in_turn_first before (bag_of before queue mail_objects run begins);
   faults = omega arith;
   replies = [];
   are = none_taken run.reader.octets begins.octets;
@@ -117,9 +117,9 @@ work_first before queue letters run begins = record {
   name = refl;
   clock = refl;
   few = begins.few;
-  few_letters =
+  few_mail_objects =
       let short = queue_short before.desk.store.kept queue begins.told in
-      let same = AllZip-long (IsLetterAt before.desk.store.kept) queue letters begins.all in
+      let same = AllZip-long (IsMailObjectAt before.desk.store.kept) queue mail_objects begins.all in
       let few = begins.few in
       omega (arith, short, same, few);
   known = are_known before.desk.store.kept queue begins.told;
@@ -128,21 +128,21 @@ work_first before queue letters run begins = record {
   goes = λ left. sym (begins.client left);
   sent = begins.sent;
   left =
-      let all = letters_open before.desk.store.kept queue letters begins.all in
+      let all = mail_objects_open before.desk.store.kept queue mail_objects begins.all in
       let is = begins.left in
       omega (arith, all, is);
   reported = let none = begins.reported in omega (arith, none);
 }
 
 -- the run is at work
-pub at_work : (before : Around) (queue : List Queued) (letters : List Letter) (run : Run) → Begins before queue letters run
+pub at_work : (before : Around) (queue : List Queued) (mail_objects : List MailObject) (run : Run) → Begins before queue mail_objects run
     → (around : Around) × (bag : Mailbag around.desk.store.kept) × (bag.queue ≡ queue) × IsAtWork around before bag run []
-at_work before queue letters run begins = (before, bag_of before queue letters run begins, refl, work_first before queue letters run begins)
+at_work before queue mail_objects run begins = (before, bag_of before queue mail_objects run begins, refl, work_first before queue mail_objects run begins)
 
-running_first : (path_of : List ℕ → Option (Option Address)) (before : Around) (queue : List Queued) (letters : List Letter) (run : Run) → (begins : Begins before queue letters run)
-    → IsRunning path_of before before (bag_of before queue letters run begins) run []
-running_first path_of before queue letters run begins = record {
-  work = work_first before queue letters run begins;
+running_first : (path_of : List ℕ → Option (Option Address)) (before : Around) (queue : List Queued) (mail_objects : List MailObject) (run : Run) → (begins : Begins before queue mail_objects run)
+    → IsRunning path_of before before (bag_of before queue mail_objects run begins) run []
+running_first path_of before queue mail_objects run begins = record {
+  work = work_first before queue mail_objects run begins;
   does = record {
     acts = [];
     count = 0;
@@ -153,9 +153,9 @@ running_first path_of before queue letters run begins = record {
 }
 
 -- what it comes to is what the relay does
-pub relays_begun : (before now : Around) (queue : List Queued) (letters : List Letter) (run : Run) (result : Result RelayEnd Fault) → Begins before queue letters run → queue ≢ []
+pub relays_begun : (before now : Around) (queue : List Queued) (mail_objects : List MailObject) (run : Run) (result : Result RelayEnd Fault) → Begins before queue mail_objects run → queue ≢ []
     → WithPaths (λ path_of. (around : Around) (bag : Mailbag around.desk.store.kept) → bag.queue ≡ queue → IsRunning path_of around before bag run [] → RelaysTo path_of around now bag result)
     → Relays before now result
-relays_begun before now queue letters run result begins some relays path_of reads =
-    let bag = bag_of before queue letters run begins in
-    begun bag some (relays path_of reads before bag refl (running_first path_of before queue letters run begins))
+relays_begun before now queue mail_objects run result begins some relays path_of reads =
+    let bag = bag_of before queue mail_objects run begins in
+    begun bag some (relays path_of reads before bag refl (running_first path_of before queue mail_objects run begins))

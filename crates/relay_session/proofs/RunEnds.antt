@@ -7,20 +7,20 @@ use Rattle.journal_records.specs.declared.records.Record.{Record}
 use Rattle.mail_store.specs.Following.{Follows, records_of}
 use Rattle.mail_store.specs.StoreState.{StoreState, with_records}
 use Rattle.mail_store.specs.declared.queue.Queued.{Queued}
-use Rattle.mail_wire.specs.KeeperTelling.{KeeperTelling}
+use Rattle.mail_wire.specs.KeeperState.{KeeperState}
 use Rattle.mail_wire.specs.Moves.{Gives, GivesPrefix}
 use Rattle.mail_wire.specs.Transcript.{given_of, taken_of}
 use Rattle.mail_wire.specs.declared.outside.Entry.{Entry}
 use Rattle.mail_wire.specs.declared.outside.Fault.{Fault}
 use Rattle.mail_wire.specs.declared.outside.Fault.TheVariants as fault
 use Rattle.mail_wire.proofs.Moving.{Gives-trans}
-use Rattle.relay_choice.specs.Relay.{Run as ClientRun, behind_acts, is_sent_outcome, left_count, outcomes_in, sent_count, stopped, waits}
+use Rattle.relay_choice.specs.Relay.{Run as ClientRun, after_acts, is_sent_outcome, left_count, outcomes_in, sent_count, stopped, waits}
 use Rattle.relay_choice.specs.Replies.{IsNoFront, IsReply}
 use Rattle.relay_choice.specs.Standing.{IsSettle, rest_of}
-use Rattle.relay_choice.specs.declared.letters.Act.{Act as ClientAct}
-use Rattle.relay_choice.specs.declared.letters.Act.TheVariants as act
-use Rattle.relay_choice.specs.declared.letters.Letter.{Letter}
-use Rattle.relay_choice.specs.declared.letters.Outcome.{Outcome}
+use Rattle.relay_choice.specs.declared.mail_objects.Act.{Act as ClientAct}
+use Rattle.relay_choice.specs.declared.mail_objects.Act.TheVariants as act
+use Rattle.relay_choice.specs.declared.mail_objects.MailObject.{MailObject}
+use Rattle.relay_choice.specs.declared.mail_objects.Outcome.{Outcome}
 use Rattle.relay_choice.specs.declared.replies.Reply.{Reply}
 use Rattle.session_core.specs.Acts.{Act, changes, changes_in, gives}
 use Rattle.session_core.specs.Around.{Around}
@@ -28,7 +28,7 @@ use Rattle.session_core.specs.Done.{IsDone, given_by}
 use Rattle.session_core.specs.Moments.{IsTold}
 use Rattle.session_core.specs.declared.desk.Desk.{Desk}
 use Rattle.relay_session.specs.Carrying.{CarriesActs}
-use Rattle.relay_session.specs.Letters.{Mailbag, messages_of}
+use Rattle.relay_session.specs.MailObjects.{Mailbag, messages_of}
 use Rattle.relay_session.specs.Relaying.{BreaksRunOff, Carried, HasNumbers, Done, RelaysTo, by_no_reply, by_reply, run_of}
 use Rattle.relay_session.specs.Streams.{AreReplies}
 use Rattle.relay_session.specs.declared.ends.LeftCause.{LeftCause}
@@ -39,7 +39,7 @@ use Rattle.relay_session.specs.private.Acting.{ActsBroken, SaysInPart, tallied}
 use Rattle.relay_session.specs.private.Running.{IsAtWork, IsRunning}
 use Rattle.relay_session.proofs.ActsLemmas.{first_all}
 use Rattle.relay_session.proofs.CarryLemmas.{Carries-onward, Carries-over}
-use Rattle.relay_session.proofs.RunPieces.{end_of, stopped_behind}
+use Rattle.relay_session.proofs.RunPieces.{end_of, stopped_after}
 use Rattle.relay_session.proofs.RunSteps.{AreReplies-reply, CarriesOn, Entered, acts_so_far, carried_more, carries_on, done_more, entered_more}
 use Rattle.relay_session.proofs.TallyLemmas.{left_count-append, outcomes_in-append, same_tally, sent_count-append, tallied-is}
 
@@ -51,9 +51,9 @@ pub record ReplyComes (before now : Around) (bag : Mailbag before.desk.store.kep
   pub is : IsReply octets reply
   pub run_acts : acts_so_far before bag (work.replies ++ reply ∷ []) ≡ acts_so_far before bag work.replies ++ acts
 
-pub behind_replies : (before now : Around) (bag : Mailbag before.desk.store.kept) (run : Run) (octets rest : List ℕ) (work : IsAtWork before now bag run (octets ++ rest)) (reply : Reply) (acts : List ClientAct)
+pub after_replies : (before now : Around) (bag : Mailbag before.desk.store.kept) (run : Run) (octets rest : List ℕ) (work : IsAtWork before now bag run (octets ++ rest)) (reply : Reply) (acts : List ClientAct)
     → ReplyComes before now bag run octets rest work reply acts → AreReplies (taken_of work.entries) (work.replies ++ reply ∷ []) (run.reader.octets ++ rest)
-behind_replies before now bag run octets rest work reply acts comes =
+after_replies before now bag run octets rest work reply acts comes =
     AreReplies-reply (taken_of work.entries) octets run.reader.octets rest work.replies reply comes.anew comes.is work.are
 
 -- ---- want of memory before any act
@@ -67,21 +67,21 @@ memory_ends path_of before a bag run pending running =
       moves = work.moves;
       in_turn = work.in_turn;
       replies = work.replies;
-      behind = run.reader.octets ++ pending;
+      following = run.reader.octets ++ pending;
       are = work.are;
       answers = record {
         first = acts_so_far before bag work.replies;
         acts = running.does.acts;
         count = running.does.count;
         carried = running.does.carried;
-        done = stopped_behind before.desk.store a.desk.store before.keeper.octets a.keeper.octets running.does.acts (given_of work.entries) running.does.done;
+        done = stopped_after before.desk.store a.desk.store before.keeper.octets a.keeper.octets running.does.acts (given_of work.entries) running.does.done;
       };
     }
 
 -- ---- octets that stop the run
 
 counts_same : (before now : Around) (bag : Mailbag before.desk.store.kept) (run : Run) (pending : List ℕ) (work : IsAtWork before now bag run pending) (why : Option LeftCause) (count : ℕ) → run.tally.reported ≡ count
-    → HasNumbers bag.letters (acts_so_far before bag work.replies) count (end_of run.tally why)
+    → HasNumbers bag.mail_objects (acts_so_far before bag work.replies) count (end_of run.tally why)
 counts_same before now bag run pending work why count reported = record { sent = work.sent; reported = reported; left = work.left }
 
 pub ends_by_no_reply : (path_of : List ℕ → Option (Option Address)) (before a : Around) (bag : Mailbag before.desk.store.kept) (run : Run) (octets rest : List ℕ) → IsRunning path_of before a bag run (octets ++ rest)
@@ -93,7 +93,7 @@ ends_by_no_reply path_of before a bag run octets rest running anew none =
       moves = work.moves;
       in_turn = work.in_turn;
       replies = work.replies;
-      behind = run.reader.octets ++ (octets ++ rest);
+      following = run.reader.octets ++ (octets ++ rest);
       are = work.are;
       answers = record {
         stops = by_no_reply rest work.waiting (ap (λ (l : List ℕ). l ++ (octets ++ rest)) anew) none;
@@ -110,7 +110,7 @@ ends_by_reply path_of before a bag run octets rest reply running anew is comes =
     let work = running.work in
     let front = acts_so_far before bag work.replies in
     let all = work.replies ++ reply ∷ [] in
-    let whole = work.goes (reply ∷ []) ∙ ap (λ (r : ClientRun). behind_acts front r) (comes []) in
+    let whole = work.goes (reply ∷ []) ∙ ap (λ (r : ClientRun). after_acts front r) (comes []) in
     let run_acts : acts_so_far before bag all ≡ front = ap (λ (r : ClientRun). r.acts) whole ∙ append-nil front in
     let does = running.does in
     let carried = does.carried in
@@ -129,7 +129,7 @@ ends_by_reply path_of before a bag run octets rest reply running anew is comes =
       moves = work.moves;
       in_turn = work.in_turn;
       replies = all;
-      behind = run.reader.octets ++ rest;
+      following = run.reader.octets ++ rest;
       are = AreReplies-reply (taken_of work.entries) octets run.reader.octets rest work.replies reply anew is work.are;
       answers = record {
         stops = by_reply reply work.replies refl is stands (ap (λ (r : ClientRun). r.end) whole);
@@ -139,7 +139,7 @@ ends_by_reply path_of before a bag run octets rest reply running anew is comes =
           carried = subst (λ (l : List ClientAct). Carried path_of before bag all l does.acts does.count) (sym run_acts) carried_on;
           done = does.done;
         };
-        counts = subst (λ (l : List ClientAct). HasNumbers bag.letters l does.count (end_of run.tally (Some (cause.Reply octets)))) (sym run_acts) counts;
+        counts = subst (λ (l : List ClientAct). HasNumbers bag.mail_objects l does.count (end_of run.tally (Some (cause.Reply octets)))) (sym run_acts) counts;
       };
     }
 
@@ -161,7 +161,7 @@ record BrokenOff (path_of : List ℕ → Option (Option Address)) (before a b : 
   done : IsDone (λ (octets : List ℕ). octets) a.desk.store b.desk.store a.keeper.octets b.keeper.octets (Some met) xs given
 
 -- the entries behind them, and what was broken off
-record BreaksBehind (path_of : List ℕ → Option (Option Address)) (before b : Around) (bag : Mailbag before.desk.store.kept) (replies : List Reply) (taken : List ℕ) (first : List ClientAct) (count : ℕ) (met : Fault) : Type 0 where
+record BreaksAfter (path_of : List ℕ → Option (Option Address)) (before b : Around) (bag : Mailbag before.desk.store.kept) (replies : List Reply) (taken : List ℕ) (first : List ClientAct) (count : ℕ) (met : Fault) : Type 0 where
   entries : List Entry
   given : List ℕ
   entered : Entered before b bag entries given taken
@@ -169,10 +169,10 @@ record BreaksBehind (path_of : List ℕ → Option (Option Address)) (before b :
   carried : Carried path_of before bag replies first acts count
   done : Done before b (Some met) acts (given_of entries)
 
-breaks_behind : (path_of : List ℕ → Option (Option Address)) (before a b : Around) (bag : Mailbag before.desk.store.kept) (run : Run) (octets rest : List ℕ) (reply : Reply) (acts : List ClientAct) (met : Fault)
+breaks_after : (path_of : List ℕ → Option (Option Address)) (before a b : Around) (bag : Mailbag before.desk.store.kept) (run : Run) (octets rest : List ℕ) (reply : Reply) (acts : List ClientAct) (met : Fault)
     (running : IsRunning path_of before a bag run (octets ++ rest)) → ReplyComes before a bag run octets rest running.work reply acts → (broken : BrokenOff path_of before a b bag acts met)
-    → BreaksBehind path_of before b bag (running.work.replies ++ reply ∷ []) (taken_of running.work.entries) (acts_so_far before bag running.work.replies ++ broken.first) (running.does.count + broken.count) met
-breaks_behind path_of before a b bag run octets rest reply acts met running comes broken =
+    → BreaksAfter path_of before b bag (running.work.replies ++ reply ∷ []) (taken_of running.work.entries) (acts_so_far before bag running.work.replies ++ broken.first) (running.does.count + broken.count) met
+breaks_after path_of before a b bag run octets rest reply acts met running comes broken =
     let work = running.work in
     let does = running.does in
     let front = acts_so_far before bag work.replies in
@@ -208,12 +208,12 @@ breaks_answer : (path_of : List ℕ → Option (Option Address)) (before a b : A
     → (entries : List Entry) × Entered before b bag entries (given_of entries) (taken_of running.work.entries) × BreaksRunOff path_of before b bag (running.work.replies ++ reply ∷ []) (given_of entries) met
 breaks_answer path_of before a b bag run octets rest reply acts met running comes broken =
     let off = of_broken path_of before a b bag acts met broken in
-    let behind = breaks_behind path_of before a b bag run octets rest reply acts met running comes off in
-    let entered : Entered before b bag behind.entries (given_of behind.entries) (taken_of running.work.entries) =
-    record { moves = behind.entered.moves; in_turn = behind.entered.in_turn; given_is = refl; taken_is = behind.entered.taken_is } in (
-      behind.entries,
+    let following = breaks_after path_of before a b bag run octets rest reply acts met running comes off in
+    let entered : Entered before b bag following.entries (given_of following.entries) (taken_of running.work.entries) =
+    record { moves = following.entered.moves; in_turn = following.entered.in_turn; given_is = refl; taken_is = following.entered.taken_is } in (
+      following.entries,
       entered,
-      record { first = acts_so_far before bag running.work.replies ++ off.first; acts = behind.acts; count = running.does.count + off.count; carried = behind.carried; done = behind.done },
+      record { first = acts_so_far before bag running.work.replies ++ off.first; acts = following.acts; count = running.does.count + off.count; carried = following.carried; done = following.done },
     )
 
 -- the keeper failed, or there was no memory
@@ -228,8 +228,8 @@ breaks_run path_of before a b bag run octets rest reply acts fault.Keeper runnin
       moves = found.1.moves;
       in_turn = found.1.in_turn;
       replies = running.work.replies ++ reply ∷ [];
-      behind = run.reader.octets ++ rest;
-      are = rw found.1.taken_is (behind_replies before a bag run octets rest running.work reply acts comes);
+      following = run.reader.octets ++ rest;
+      are = rw found.1.taken_is (after_replies before a bag run octets rest running.work reply acts comes);
       answers = found.2;
     }
 breaks_run path_of before a b bag run octets rest reply acts fault.Memory running comes fine broken =
@@ -239,8 +239,8 @@ breaks_run path_of before a b bag run octets rest reply acts fault.Memory runnin
       moves = found.1.moves;
       in_turn = found.1.in_turn;
       replies = running.work.replies ++ reply ∷ [];
-      behind = run.reader.octets ++ rest;
-      are = rw found.1.taken_is (behind_replies before a bag run octets rest running.work reply acts comes);
+      following = run.reader.octets ++ rest;
+      are = rw found.1.taken_is (after_replies before a bag run octets rest running.work reply acts comes);
       answers = found.2;
     }
 
@@ -290,7 +290,7 @@ in_part path_of a b queue acts old new part =
         carries = subst (λ (n : ℕ). CarriesActs path_of a.desk.store queue messages (on.used ++ []) (part.front ++ part.one ∷ []) (part.acts ++ gives part.octets ∷ []) n) same more;
       };
       follows = subst (λ (d : Desk). Follows a.desk.store d.store a.keeper.octets b.keeper.octets (records_of (changes_in part.acts))) (sym leaves.desk)
-          (subst (λ (k : KeeperTelling). Follows a.desk.store part.between.desk.store a.keeper.octets k.octets (records_of (changes_in part.acts))) (sym leaves.keeper) done.does.follows);
+          (subst (λ (k : KeeperState). Follows a.desk.store part.between.desk.store a.keeper.octets k.octets (records_of (changes_in part.acts))) (sym leaves.keeper) done.does.follows);
     }
 
 part_off : (path_of : List ℕ → Option (Option Address)) (before a b : Around) (bag : Mailbag before.desk.store.kept) (acts : List ClientAct) (old new : Tally) (part : SaysInPart path_of a b bag.queue acts old new)
@@ -325,15 +325,15 @@ part_off path_of before a b bag acts old new part =
 
 -- ---- the numbers
 
-pub counts_by : (letters : List Letter) (front first all : List ClientAct) (old new : Tally) (m n : ℕ) (why : Option LeftCause) → old.sent ≡ sent_count front → old.left ≡ left_count letters front → old.reported ≡ m
-    → all ≡ front ++ first → new ≡ tallied old first n → HasNumbers letters all (m + n) (end_of new why)
-counts_by letters front first all old new m n why sent left reported is new_is =
+pub counts_by : (mail_objects : List MailObject) (front first all : List ClientAct) (old new : Tally) (m n : ℕ) (why : Option LeftCause) → old.sent ≡ sent_count front → old.left ≡ left_count mail_objects front → old.reported ≡ m
+    → all ≡ front ++ first → new ≡ tallied old first n → HasNumbers mail_objects all (m + n) (end_of new why)
+counts_by mail_objects front first all old new m n why sent left reported is new_is =
     let same = new_is ∙ tallied-is old first n in
     record {
       sent = ap (λ (t : Tally). t.sent) same ∙ ap (λ (k : ℕ). k + sent_count first) sent ∙ sym (sent_count-append front first) ∙ sym (ap (λ (l : List ClientAct). sent_count l) is);
       reported = ap (λ (t : Tally). t.reported) same ∙ ap (λ (k : ℕ). k + n) reported;
-      left = ap (λ (t : Tally). t.left) same ∙ ap (λ (k : ℕ). k - length (flat_map outcomes_in first)) left ∙ sym (left_count-append letters front first)
-          ∙ sym (ap (λ (l : List ClientAct). left_count letters l) is);
+      left = ap (λ (t : Tally). t.left) same ∙ ap (λ (k : ℕ). k - length (flat_map outcomes_in first)) left ∙ sym (left_count-append mail_objects front first)
+          ∙ sym (ap (λ (l : List ClientAct). left_count mail_objects l) is);
     }
 
 -- an act that settles nothing counts for nothing
@@ -355,26 +355,26 @@ part_tally path_of a b queue acts old new part =
 
 -- the wire failed
 pub wire_ends : (path_of : List ℕ → Option (Option Address)) (before a b : Around) (bag : Mailbag before.desk.store.kept) (run : Run) (octets rest : List ℕ) (reply : Reply) (acts : List ClientAct) (new : Tally)
-    (running : IsRunning path_of before a bag run (octets ++ rest)) → ReplyComes before a bag run octets rest running.work reply acts → (run_of before bag.letters (running.work.replies ++ reply ∷ [])).end ≡ waits
+    (running : IsRunning path_of before a bag run (octets ++ rest)) → ReplyComes before a bag run octets rest running.work reply acts → (run_of before bag.mail_objects (running.work.replies ++ reply ∷ [])).end ≡ waits
     → SaysInPart path_of a b bag.queue acts run.tally new → RelaysTo path_of before b bag (Ok (end_of new (Some cause.Wire)))
 wire_ends path_of before a b bag run octets rest reply acts new running comes waiting part =
     let work = running.work in
     let front = acts_so_far before bag work.replies in
     let found = part_off path_of before a b bag acts run.tally new part in
     let off = found.0 in
-    let behind = breaks_behind path_of before a b bag run octets rest reply acts fault.Wire running comes off in
+    let following = breaks_after path_of before a b bag run octets rest reply acts fault.Wire running comes off in
     let new_is : new ≡ tallied run.tally off.first off.count =
     part_tally path_of a b bag.queue acts run.tally new part ∙ ap (λ (l : List ClientAct). tallied run.tally l part.count) (sym found.1) ∙ ap (λ (n : ℕ). tallied run.tally off.first n) (sym found.2) in
     record {
-      entries = behind.entries;
-      moves = behind.entered.moves;
-      in_turn = behind.entered.in_turn;
+      entries = following.entries;
+      moves = following.entered.moves;
+      in_turn = following.entered.in_turn;
       replies = work.replies ++ reply ∷ [];
-      behind = run.reader.octets ++ rest;
-      are = rw behind.entered.taken_is (behind_replies before a bag run octets rest work reply acts comes);
+      following = run.reader.octets ++ rest;
+      are = rw following.entered.taken_is (after_replies before a bag run octets rest work reply acts comes);
       answers = record {
         goes_on = waiting;
-        breaks = record { first = front ++ off.first; acts = behind.acts; count = running.does.count + off.count; carried = behind.carried; done = behind.done };
-        counts = counts_by bag.letters front off.first (front ++ off.first) run.tally new running.does.count off.count (Some cause.Wire) work.sent work.left running.reported refl new_is;
+        breaks = record { first = front ++ off.first; acts = following.acts; count = running.does.count + off.count; carried = following.carried; done = following.done };
+        counts = counts_by bag.mail_objects front off.first (front ++ off.first) run.tally new running.does.count off.count (Some cause.Wire) work.sent work.left running.reported refl new_is;
       };
     }

@@ -12,11 +12,11 @@ use Rattle.mail_wire.specs.Moves.{GivesPrefix}
 use Rattle.mail_wire.specs.Transcript.{given_of}
 use Rattle.mail_wire.specs.declared.outside.Fault.TheVariants as fault
 use Rattle.mail_wire.proofs.Moving.{Gives-trans, Rose-earlier}
-use Rattle.relay_choice.specs.Relay.{Run as ClientRun, behind_acts, finished}
+use Rattle.relay_choice.specs.Relay.{Run as ClientRun, after_acts, finished}
 use Rattle.relay_choice.specs.Said.{quit_line}
 use Rattle.relay_choice.specs.Standing.{IsSettle, TakesLeave as LeavesLast, rest_of}
-use Rattle.relay_choice.specs.declared.letters.Act.{Act as ClientAct}
-use Rattle.relay_choice.specs.declared.letters.Act.TheVariants as act
+use Rattle.relay_choice.specs.declared.mail_objects.Act.{Act as ClientAct}
+use Rattle.relay_choice.specs.declared.mail_objects.Act.TheVariants as act
 use Rattle.relay_choice.specs.declared.replies.Reply.{Reply}
 use Rattle.session_core.specs.Acts.{Act, changes_in, gives}
 use Rattle.session_core.specs.Around.{Around}
@@ -24,7 +24,7 @@ use Rattle.session_core.specs.Done.{given_by}
 use Rattle.session_core.specs.Keeps.{Keeps}
 use Rattle.session_core.proofs.DoneLemmas.{given_by-append, records_in-append}
 use Rattle.relay_session.specs.Carrying.{CarriesActs}
-use Rattle.relay_session.specs.Letters.{Mailbag, messages_of}
+use Rattle.relay_session.specs.MailObjects.{Mailbag, messages_of}
 use Rattle.relay_session.specs.Relaying.{Carried, HasNumbers, RelaysTo, run_of}
 use Rattle.relay_session.specs.declared.ends.LeftCause.TheVariants as cause
 use Rattle.relay_session.specs.declared.ends.Tally.{Tally}
@@ -32,22 +32,22 @@ use Rattle.relay_session.specs.declared.running.Run.{Run}
 use Rattle.relay_session.specs.private.Acting.{ActsDone, SaysInPart, tallied}
 use Rattle.relay_session.specs.private.Running.{IsAtWork, IsRunning, IsWireCause}
 use Rattle.relay_session.proofs.ListEnds.{heads, tails}
-use Rattle.relay_session.proofs.RunEnds.{ReplyComes, behind_replies, counts_by, in_part, not_settle, part_tally}
+use Rattle.relay_session.proofs.RunEnds.{ReplyComes, after_replies, counts_by, in_part, not_settle, part_tally}
 use Rattle.relay_session.proofs.RunPieces.{end_of}
 use Rattle.relay_session.proofs.RunSteps.{acts_so_far, carried_more, does_more, entered_more}
 
 -- ---- QUIT is the last act
 
-none_behind : (front others : List ClientAct) (one : ClientAct) → front ++ one ∷ others ≡ [] → ⊥
-none_behind [] others one is = cc
-none_behind (x ∷ front) others one is = cc
+none_following : (front others : List ClientAct) (one : ClientAct) → front ++ one ∷ others ≡ [] → ⊥
+none_following [] others one is = cc
+none_following (x ∷ front) others one is = cc
 
 -- an act that settles nothing, where all but the last one do
 last_said : (front settles others : List ClientAct) (one last : ClientAct) → front ++ one ∷ others ≡ settles ++ last ∷ [] → All IsSettle settles → (IsSettle one → ⊥) → (one ≡ last) × (others ≡ [])
 last_said [] [] others one last is all not = (heads is, tails is)
 last_said [] (x ∷ settles) others one last is all not =
     absurd (not (subst IsSettle (sym (heads is)) (All-head IsSettle x settles all)))
-last_said (y ∷ front) [] others one last is all not = absurd (none_behind front others one (tails is))
+last_said (y ∷ front) [] others one last is all not = absurd (none_following front others one (tails is))
 last_said (y ∷ front) (x ∷ settles) others one last is all not =
     last_said front settles others one last (tails is) (All-tail IsSettle x settles all) not
 
@@ -63,13 +63,13 @@ said_is path_of store queue messages text octets (others, is, below) = same_give
 -- the run of the client is finished by this reply
 pub record FinishesBy (before now : Around) (bag : Mailbag before.desk.store.kept) (run : Run) (octets rest : List ℕ) (work : IsAtWork before now bag run (octets ++ rest)) (reply : Reply) (acts : List ClientAct) : Type 0 where
   pub comes : ReplyComes before now bag run octets rest work reply acts
-  pub finishes : (run_of before bag.letters (work.replies ++ reply ∷ [])).end ≡ finished
+  pub finishes : (run_of before bag.mail_objects (work.replies ++ reply ∷ [])).end ≡ finished
 
 pub finishes_by : (before now : Around) (bag : Mailbag before.desk.store.kept) (run : Run) (pending : List ℕ) (work : IsAtWork before now bag run pending) (reply : Reply) (acts : List ClientAct)
     → ((left : List Reply) → rest_of run.client (reply ∷ left) ≡ record { acts = acts; end = finished })
-    → (acts_so_far before bag (work.replies ++ reply ∷ []) ≡ acts_so_far before bag work.replies ++ acts) × ((run_of before bag.letters (work.replies ++ reply ∷ [])).end ≡ finished)
+    → (acts_so_far before bag (work.replies ++ reply ∷ []) ≡ acts_so_far before bag work.replies ++ acts) × ((run_of before bag.mail_objects (work.replies ++ reply ∷ [])).end ≡ finished)
 finishes_by before now bag run pending work reply acts comes =
-    let whole = work.goes (reply ∷ []) ∙ ap (λ (r : ClientRun). behind_acts (acts_so_far before bag work.replies) r) (comes []) in
+    let whole = work.goes (reply ∷ []) ∙ ap (λ (r : ClientRun). after_acts (acts_so_far before bag work.replies) r) (comes []) in
     (ap (λ (r : ClientRun). r.acts) whole, ap (λ (r : ClientRun). r.end) whole)
 
 pub all_ends : (path_of : List ℕ → Option (Option Address)) (before a b : Around) (bag : Mailbag before.desk.store.kept) (run : Run) (octets rest : List ℕ) (reply : Reply) (acts : List ClientAct) (new : Tally)
@@ -82,14 +82,14 @@ all_ends path_of before a b bag run octets rest reply acts new xs count running 
     let given = given_of work.entries ++ given_by (λ (octets : List ℕ). octets) xs in
     let entered = entered_more before a b bag work.entries (given_by (λ (octets : List ℕ). octets) xs) work.moves work.in_turn done.does.gives in
     let does = does_more path_of before a b bag work.replies all acts xs count (given_of work.entries) running.does work.messages work.clock done by.comes.run_acts in
-    let counts = counts_by bag.letters front acts (acts_so_far before bag all) run.tally new running.does.count count None work.sent work.left running.reported by.comes.run_acts new_is in
+    let counts = counts_by bag.mail_objects front acts (acts_so_far before bag all) run.tally new running.does.count count None work.sent work.left running.reported by.comes.run_acts new_is in
     record {
       entries = work.entries ++ done.does.gives.entries;
       moves = entered.moves;
       in_turn = entered.in_turn;
       replies = all;
-      behind = run.reader.octets ++ rest;
-      are = rw entered.taken_is (behind_replies before a bag run octets rest work reply acts by.comes);
+      following = run.reader.octets ++ rest;
+      are = rw entered.taken_is (after_replies before a bag run octets rest work reply acts by.comes);
       answers = record {
         finishes = by.finishes;
         leaves = record {
@@ -103,7 +103,7 @@ all_ends path_of before a b bag run octets rest reply acts new xs count running 
           arrives = inl refl;
           follows = does.0.done.1;
         };
-        counts = subst (λ (n : ℕ). HasNumbers bag.letters (acts_so_far before bag all) n (end_of new None)) (sym does.1) counts;
+        counts = subst (λ (n : ℕ). HasNumbers bag.mail_objects (acts_so_far before bag all) n (end_of new None)) (sym does.1) counts;
       };
     }
 
@@ -159,8 +159,8 @@ part_ends path_of before a b bag run octets rest reply acts new running by leave
       moves = entered.moves;
       in_turn = entered.in_turn;
       replies = all;
-      behind = run.reader.octets ++ rest;
-      are = rw entered.taken_is (behind_replies before a bag run octets rest work reply acts by.comes);
+      following = run.reader.octets ++ rest;
+      are = rw entered.taken_is (after_replies before a bag run octets rest work reply acts by.comes);
       answers = record {
         finishes = by.finishes;
         leaves = record {
@@ -179,7 +179,7 @@ part_ends path_of before a b bag run octets rest reply acts new running by leave
           follows = subst (λ (l : List Record). Follows before.desk.store b.desk.store before.keeper.octets b.keeper.octets l) (sym made)
               (Follows-more before.desk.store a.desk.store b.desk.store before.keeper.octets a.keeper.octets b.keeper.octets first second does.done.1 off.follows);
         };
-        counts = counts_by bag.letters front (part.front ++ part.one ∷ []) (acts_so_far before bag all) run.tally new does.count part.count None work.sent work.left running.reported parted new_is;
+        counts = counts_by bag.mail_objects front (part.front ++ part.one ∷ []) (acts_so_far before bag all) run.tally new does.count part.count None work.sent work.left running.reported parted new_is;
       };
     }
 

@@ -21,7 +21,7 @@ use Rattle.session_core.specs.Done.{IsDone, StopsIn, given_by}
 use Rattle.session_core.specs.Keeps.{Keeps, answer_of}
 use Rattle.session_core.specs.declared.desk.Desk.{Desk}
 use Rattle.session_core.proofs.KeepsLemmas.{Keeps-nil, Keeps-then, keeper_fine}
-use Rattle.relay_session.specs.Letters.{Mailbag, messages_of}
+use Rattle.relay_session.specs.MailObjects.{Mailbag, messages_of}
 use Rattle.relay_session.specs.Relaying.{Done, IsAnswered, RelaysTo, SpeaksInTurn, by_end, run_of}
 use Rattle.relay_session.specs.Streams.{AreReplies}
 use Rattle.relay_session.specs.declared.ends.LeftCause.{LeftCause}
@@ -58,18 +58,18 @@ SpeaksInTurn-take before bag xs piece turns answered front octets rest h =
       | inr found ↦ turns front octets found.0 found.1
     ]
 
-AreReplies-piece : (octets piece : List ℕ) (replies : List Reply) (behind : List ℕ) → AreReplies octets replies behind → AreReplies (octets ++ piece) replies (behind ++ piece)
-AreReplies-piece octets piece replies behind are = record {
+AreReplies-piece : (octets piece : List ℕ) (replies : List Reply) (following : List ℕ) → AreReplies octets replies following → AreReplies (octets ++ piece) replies (following ++ piece)
+AreReplies-piece octets piece replies following are = record {
   texts = are.texts;
   are = are.are;
-  whole = ap (λ (l : List ℕ). l ++ piece) are.whole ∙ append_assoc (concat are.texts) behind piece;
+  whole = ap (λ (l : List ℕ). l ++ piece) are.whole ∙ append_assoc (concat are.texts) following piece;
 }
 
 -- what was taken is answered before the next take
 work_answered : (before a : Around) (bag : Mailbag before.desk.store.kept) (run : Run) (work : IsAtWork before a bag run []) → IsAnswered before bag (taken_of work.entries) (given_of work.entries)
 work_answered before a bag run work = record {
   replies = work.replies;
-  behind = run.reader.octets;
+  following = run.reader.octets;
   are = subst (λ (l : List ℕ). AreReplies (taken_of work.entries) work.replies l) (append-nil run.reader.octets) work.are;
   undecided = inr work.begun.begun;
   waits_for_more = work.waiting;
@@ -103,9 +103,9 @@ work_taken before a b bag run n into piece leaves keeps work = record {
   name = ap (λ (desk : Desk). name_of desk.store.kept) leaves.desk ∙ work.name;
   clock = keeps.clock ∙ work.clock;
   few = work.few;
-  few_letters = work.few_letters;
+  few_mail_objects = work.few_mail_objects;
   known = subst (λ (desk : Desk). AreKnown desk.store.kept bag.queue) (sym leaves.desk) work.known;
-  unsettled = subst (λ (desk : Desk). AreOpenFrom desk.store.kept bag.queue (settled_count (run_of before bag.letters work.replies).acts)) (sym leaves.desk) work.unsettled;
+  unsettled = subst (λ (desk : Desk). AreOpenFrom desk.store.kept bag.queue (settled_count (run_of before bag.mail_objects work.replies).acts)) (sym leaves.desk) work.unsettled;
   waiting = work.waiting;
   goes = work.goes;
   sent = work.sent;
@@ -139,9 +139,9 @@ abbrev pub end_of : Tally → Option LeftCause → RelayEnd
 end_of tally cause = record { sent = tally.sent; reported = tally.reported; left = tally.left; cause = cause }
 
 -- all these acts were done, and nothing behind them
-pub stopped_behind : (old new : StoreState) (had has : Option (List ℕ)) (acts : List (Act (List ℕ))) (given : List ℕ) → IsDone (λ octets. octets) old new had has None acts given
+pub stopped_after : (old new : StoreState) (had has : Option (List ℕ)) (acts : List (Act (List ℕ))) (given : List ℕ) → IsDone (λ octets. octets) old new had has None acts given
     → StopsIn (λ octets. octets) old new had has acts given
-stopped_behind old new had has acts given done = record {
+stopped_after old new had has acts given done = record {
   done = acts;
   cut = [];
   left = [];
@@ -161,7 +161,7 @@ moved_nothing before a b entries moves none =
 stopped_left : (before a b : Around) (acts : List (Act (List ℕ))) (given : List ℕ) → LeavesDesk a b → Done before a None acts given
     → StopsIn (λ octets. octets) before.desk.store b.desk.store before.keeper.octets b.keeper.octets acts given
 stopped_left before a b acts given leaves done =
-    stopped_behind before.desk.store b.desk.store before.keeper.octets b.keeper.octets acts given (done_left before a b None acts given leaves done)
+    stopped_after before.desk.store b.desk.store before.keeper.octets b.keeper.octets acts given (done_left before a b None acts given leaves done)
 
 -- the wire failed
 wire_fails : (path_of : List ℕ → Option (Option Address)) (before a b : Around) (bag : Mailbag before.desk.store.kept) (run : Run) → TakesNothing a.wire b.wire → LeavesDesk a b
@@ -171,12 +171,12 @@ wire_fails path_of before a b bag run none leaves running = record {
   moves = moved_nothing before a b running.work.entries running.work.moves none;
   in_turn = running.work.in_turn;
   replies = running.work.replies;
-  behind = run.reader.octets ++ [];
+  following = run.reader.octets ++ [];
   are = running.work.are;
   answers = record {
     goes_on = running.work.waiting;
     breaks = record {
-      first = (run_of before bag.letters running.work.replies).acts;
+      first = (run_of before bag.mail_objects running.work.replies).acts;
       acts = running.does.acts;
       count = running.does.count;
       carried = running.does.carried;
@@ -194,10 +194,10 @@ memory_fails path_of before a b bag run none leaves running = record {
   moves = moved_nothing before a b running.work.entries running.work.moves none;
   in_turn = running.work.in_turn;
   replies = running.work.replies;
-  behind = run.reader.octets ++ [];
+  following = run.reader.octets ++ [];
   are = running.work.are;
   answers = record {
-    first = (run_of before bag.letters running.work.replies).acts;
+    first = (run_of before bag.mail_objects running.work.replies).acts;
     acts = running.does.acts;
     count = running.does.count;
     carried = running.does.carried;
@@ -213,7 +213,7 @@ end_comes path_of before b bag run pending nothing at_end running = record {
   moves = running.work.moves;
   in_turn = running.work.in_turn;
   replies = running.work.replies;
-  behind = run.reader.octets ++ pending;
+  following = run.reader.octets ++ pending;
   are = running.work.are;
   answers = record {
     stops = by_end running.work.waiting (ap (λ (l : List ℕ). run.reader.octets ++ l) nothing ∙ append-nil run.reader.octets) (inr running.work.begun.begun) at_end;
@@ -254,12 +254,12 @@ pub RunsOn-next : (start a b d : Around) (queue : List Queued) (first run next :
     → WithPaths (λ path_of. (before : Around) (bag : Mailbag before.desk.store.kept) → bag.queue ≡ queue → IsRunning path_of before b bag run (take n into) → IsRunning path_of before d bag next [])
     → ((before : Around) (bag : Mailbag before.desk.store.kept) → bag.queue ≡ queue → IsAtWork before b bag run (take n into) → IsAtWork before d bag next [])
     → RunsOn start a queue first run → RunsOn start d queue first next
-RunsOn-next start a b d queue first run next n into taken keeps came works runs =
+RunsOn-next start a b d queue first run next n into taken keeps advance works runs =
     let more = work_next start a b queue first run n into taken runs in
     record {
       work = (more.0, more.1, more.2, works more.0 more.1 more.2 more.3);
       stays = λ path_of reads before bag same running.
-          came path_of reads before bag same (running_taken path_of before a b bag run n into taken.takes taken.leaves taken.keeps (runs.stays path_of reads before bag same running));
+          advance path_of reads before bag same (running_taken path_of before a b bag run n into taken.takes taken.leaves taken.keeps (runs.stays path_of reads before bag same running));
       keeps = Keeps-then start b d None (Keeps-then start a b None runs.keeps taken.keeps) keeps;
     }
 
@@ -267,8 +267,8 @@ RunsOn-next start a b d queue first run next n into taken keeps came works runs 
 pub RunsOn-ends : (start a b d : Around) (queue : List Queued) (first run : Run) (n : ℕ) (into : List ℕ) (result : Result RelayEnd Fault) → TakesTo a b n into
     → WithPaths (λ path_of. (before : Around) (bag : Mailbag before.desk.store.kept) → bag.queue ≡ queue → IsRunning path_of before b bag run (take n into) → RelaysTo path_of before d bag result)
     → RunsOn start a queue first run → RelaysFrom start d queue first result
-RunsOn-ends start a b d queue first run n into result taken came runs path_of reads before bag same running =
-    came path_of reads before bag same (running_taken path_of before a b bag run n into taken.takes taken.leaves taken.keeps (runs.stays path_of reads before bag same running))
+RunsOn-ends start a b d queue first run n into result taken advance runs path_of reads before bag same running =
+    advance path_of reads before bag same (running_taken path_of before a b bag run n into taken.takes taken.leaves taken.keeps (runs.stays path_of reads before bag same running))
 
 pub RunsOn-wire : (start a b : Around) (queue : List Queued) (first run : Run) → TakesNothing a.wire b.wire → LeavesDesk a b → RunsOn start a queue first run
     → RelaysFrom start b queue first (Ok (end_of run.tally (Some cause.Wire)))

@@ -17,12 +17,12 @@ use Rattle.mail_wire.specs.declared.outside.Entry.{Entry}
 use Rattle.mail_wire.specs.declared.outside.Entry.TheVariants.{Given, Taken}
 use Rattle.mail_wire.specs.declared.outside.Fault.{Fault}
 use Rattle.mail_wire.proofs.Moving.{AreGiven-taken_of, Moves-trans, given_of-append, taken_of-append}
-use Rattle.relay_choice.specs.Relay.{Run as ClientRun, act_octets, behind_acts, left_count, outcomes_in, sent_count, sent_octets, waits}
+use Rattle.relay_choice.specs.Relay.{Run as ClientRun, act_octets, after_acts, left_count, outcomes_in, sent_count, sent_octets, waits}
 use Rattle.relay_choice.specs.Replies.{IsReply}
 use Rattle.relay_choice.specs.Settling.{HasCode}
 use Rattle.relay_choice.specs.Standing.{rest_of}
-use Rattle.relay_choice.specs.declared.letters.Act.{Act as ClientAct}
-use Rattle.relay_choice.specs.declared.letters.Act.TheVariants as act
+use Rattle.relay_choice.specs.declared.mail_objects.Act.{Act as ClientAct}
+use Rattle.relay_choice.specs.declared.mail_objects.Act.TheVariants as act
 use Rattle.relay_choice.specs.declared.replies.Reply.{Reply}
 use Rattle.relay_choice.specs.declared.states.Client.{Client}
 use Rattle.relay_choice.proofs.CodeLemmas.{reply_code}
@@ -35,7 +35,7 @@ use Rattle.session_core.specs.Keeps.{Keeps}
 use Rattle.session_core.specs.Moments.{IsTold, Moment}
 use Rattle.session_core.proofs.DoneLemmas.{IsDone-more, given_by-append, records_in-append}
 use Rattle.relay_session.specs.Carrying.{CarriesActs}
-use Rattle.relay_session.specs.Letters.{Mailbag, messages_of}
+use Rattle.relay_session.specs.MailObjects.{Mailbag, messages_of}
 use Rattle.relay_session.specs.Relaying.{Carried, DoesRun, Done, SpeaksInTurn, run_of}
 use Rattle.relay_session.specs.Streams.{AreReplies}
 use Rattle.relay_session.specs.declared.ends.Tally.{Tally}
@@ -58,11 +58,11 @@ changes_given (records ∷ made) others = changes_given made others
 pub Carries-given : (path_of : List ℕ → Option (Option Address)) (store : StoreState) (queue : List Queued) (messages : List (List ℕ)) (told : List Moment) (first : List ClientAct) (acts : List (Act (List ℕ))) (count : ℕ)
     → CarriesActs path_of store queue messages told first acts count → given_by (λ (octets : List ℕ). octets) acts ≡ sent_octets messages first
 Carries-given path_of store queue messages told [] acts count (none, no_count) = ap (λ (l : List (Act (List ℕ))). given_by (λ (octets : List ℕ). octets) l) none
-Carries-given path_of store queue messages told (act.Say octets ∷ rest) acts count (behind, is, below) =
-    ap (λ (l : List (Act (List ℕ))). given_by (λ (octets : List ℕ). octets) l) is ∙ ap (λ (l : List ℕ). octets ++ l) (Carries-given path_of store queue messages told rest behind count below)
-Carries-given path_of store queue messages told (act.SayData number ∷ rest) acts count (behind, is, below) =
+Carries-given path_of store queue messages told (act.Say octets ∷ rest) acts count (following, is, below) =
+    ap (λ (l : List (Act (List ℕ))). given_by (λ (octets : List ℕ). octets) l) is ∙ ap (λ (l : List ℕ). octets ++ l) (Carries-given path_of store queue messages told rest following count below)
+Carries-given path_of store queue messages told (act.SayData number ∷ rest) acts count (following, is, below) =
     ap (λ (l : List (Act (List ℕ))). given_by (λ (octets : List ℕ). octets) l) is
-    ∙ ap (λ (l : List ℕ). act_octets messages (act.SayData number) ++ l) (Carries-given path_of store queue messages told rest behind count below)
+    ∙ ap (λ (l : List ℕ). act_octets messages (act.SayData number) ++ l) (Carries-given path_of store queue messages told rest following count below)
 Carries-given path_of store queue messages told (act.Settle number outcomes ∷ rest) acts count (one, below) =
     ap (λ (l : List (Act (List ℕ))). given_by (λ (octets : List ℕ). octets) l) one.acts_are ∙ changes_given one.made one.others
     ∙ Carries-given path_of (with_records store (records_of one.made)) queue messages one.later rest one.others one.further below
@@ -118,32 +118,32 @@ AreReplies-reply taken octets reader rest replies reply anew is are = record {
 
 -- ---- the run of the client
 
-pub behind_twice : (xs ys : List ClientAct) (run : ClientRun) → behind_acts xs (behind_acts ys run) ≡ behind_acts (xs ++ ys) run
-behind_twice xs ys run = ap (λ (l : List ClientAct). (let one : ClientRun = record { acts = l; end = run.end } in one)) (sym (append_assoc xs ys run.acts))
+pub after_twice : (xs ys : List ClientAct) (run : ClientRun) → after_acts xs (after_acts ys run) ≡ after_acts (xs ++ ys) run
+after_twice xs ys run = ap (λ (l : List ClientAct). (let one : ClientRun = record { acts = l; end = run.end } in one)) (sym (append_assoc xs ys run.acts))
 
 -- what it does over the replies so far
 abbrev pub acts_so_far : (before : Around) (bag : Mailbag before.desk.store.kept) (replies : List Reply) → List ClientAct
-acts_so_far before bag replies = (run_of before bag.letters replies).acts
+acts_so_far before bag replies = (run_of before bag.mail_objects replies).acts
 
 -- A reply is taken, to which these acts are due, and then a further one is awaited.
 pub record GoesBy (before : Around) (bag : Mailbag before.desk.store.kept) (replies : List Reply) (next : Client) (reply : Reply) (acts : List ClientAct) : Type 0 where
   pub run_acts : acts_so_far before bag (replies ++ reply ∷ []) ≡ acts_so_far before bag replies ++ acts
-  pub waiting : (run_of before bag.letters (replies ++ reply ∷ [])).end ≡ waits
-  pub goes : (left : List Reply) → run_of before bag.letters ((replies ++ reply ∷ []) ++ left) ≡ behind_acts (acts_so_far before bag (replies ++ reply ∷ [])) (rest_of next left)
+  pub waiting : (run_of before bag.mail_objects (replies ++ reply ∷ [])).end ≡ waits
+  pub goes : (left : List Reply) → run_of before bag.mail_objects ((replies ++ reply ∷ []) ++ left) ≡ after_acts (acts_so_far before bag (replies ++ reply ∷ [])) (rest_of next left)
 
 pub goes_by : (before now : Around) (bag : Mailbag before.desk.store.kept) (run : Run) (pending : List ℕ) (work : IsAtWork before now bag run pending) (next : Client) (reply : Reply) (acts : List ClientAct)
-    → ((left : List Reply) → rest_of run.client (reply ∷ left) ≡ behind_acts acts (rest_of next left)) → GoesBy before bag work.replies next reply acts
+    → ((left : List Reply) → rest_of run.client (reply ∷ left) ≡ after_acts acts (rest_of next left)) → GoesBy before bag work.replies next reply acts
 goes_by before now bag run pending work next reply acts comes =
     let front = acts_so_far before bag work.replies in
     let all = work.replies ++ reply ∷ [] in
-    let whole = work.goes (reply ∷ []) ∙ ap (λ (r : ClientRun). behind_acts front r) (comes [] ∙ ap (λ (r : ClientRun). behind_acts acts r) (client_waits next)) in
+    let whole = work.goes (reply ∷ []) ∙ ap (λ (r : ClientRun). after_acts front r) (comes [] ∙ ap (λ (r : ClientRun). after_acts acts r) (client_waits next)) in
     let run_acts : acts_so_far before bag all ≡ front ++ acts = ap (λ (r : ClientRun). r.acts) whole ∙ ap (λ (l : List ClientAct). front ++ l) (append-nil acts) in
     record {
       run_acts = run_acts;
       waiting = ap (λ (r : ClientRun). r.end) whole;
       goes = λ left.
-          ap (λ (l : List Reply). run_of before bag.letters l) (append_assoc work.replies (reply ∷ []) left) ∙ work.goes (reply ∷ left) ∙ ap (λ (r : ClientRun). behind_acts front r) (comes left)
-          ∙ behind_twice front acts (rest_of next left) ∙ ap (λ (l : List ClientAct). behind_acts l (rest_of next left)) (sym run_acts);
+          ap (λ (l : List Reply). run_of before bag.mail_objects l) (append_assoc work.replies (reply ∷ []) left) ∙ work.goes (reply ∷ left) ∙ ap (λ (r : ClientRun). after_acts front r) (comes left)
+          ∙ after_twice front acts (rest_of next left) ∙ ap (λ (l : List ClientAct). after_acts l (rest_of next left)) (sym run_acts);
     }
 
 pub codes_more : (before now : Around) (bag : Mailbag before.desk.store.kept) (run : Run) (pending octets : List ℕ) (work : IsAtWork before now bag run pending) (reply : Reply) → IsReply octets reply
@@ -154,7 +154,7 @@ codes_more before now bag run pending octets work reply is =
 -- ---- what was counted
 
 pub counts_so : (before now : Around) (bag : Mailbag before.desk.store.kept) (run : Run) (pending : List ℕ) (work : IsAtWork before now bag run pending) → CountsSo before bag (acts_so_far before bag work.replies) run.tally
-counts_so before now bag run pending work = record { sent = work.sent; left = work.left; reported = work.reported; few = work.few; few_letters = work.few_letters }
+counts_so before now bag run pending work = record { sent = work.sent; left = work.left; reported = work.reported; few = work.few; few_mail_objects = work.few_mail_objects }
 
 pub counts_more : (before : Around) (bag : Mailbag before.desk.store.kept) (front acts all : List ClientAct) (old new : Tally) (count : ℕ) → CountsSo before bag front old → all ≡ front ++ acts → new ≡ tallied old acts count
     → count ≤ settled_count acts → CountsSo before bag all new
@@ -164,11 +164,11 @@ counts_more before bag front acts all old new count so is new_is few =
     let both = ap settled_count is ∙ settled_count-append front acts in
     record {
       sent = ap (λ (t : Tally). t.sent) same ∙ ap (λ (n : ℕ). n + sent_count acts) so.sent ∙ sym (sent_count-append front acts) ∙ sym (ap (λ (l : List ClientAct). sent_count l) is);
-      left = ap (λ (t : Tally). t.left) same ∙ ap (λ (n : ℕ). n - length (flat_map outcomes_in acts)) so.left ∙ sym (left_count-append bag.letters front acts)
-          ∙ sym (ap (λ (l : List ClientAct). left_count bag.letters l) is);
+      left = ap (λ (t : Tally). t.left) same ∙ ap (λ (n : ℕ). n - length (flat_map outcomes_in acts)) so.left ∙ sym (left_count-append bag.mail_objects front acts)
+          ∙ sym (ap (λ (l : List ClientAct). left_count bag.mail_objects l) is);
       reported = omega (arith, reported, so.reported, few, both);
       few = so.few;
-      few_letters = so.few_letters;
+      few_mail_objects = so.few_mail_objects;
     }
 
 -- ---- what was done
@@ -254,7 +254,7 @@ said_more path_of before a b bag front acts all xs count given done same is whol
 
 pub goes_on : (path_of : List ℕ → Option (Option Address)) (before a b : Around) (bag : Mailbag before.desk.store.kept) (run next : Run) (octets rest : List ℕ) (reply : Reply) (acts : List ClientAct)
     (xs : List (Act (List ℕ))) (count : ℕ) (work : IsAtWork before a bag run (octets ++ rest)) → next.reader ≡ run.reader → run.reader.octets ≡ [] → IsReply octets reply
-    → ((left : List Reply) → rest_of run.client (reply ∷ left) ≡ behind_acts acts (rest_of next.client left)) → ActsDone path_of a b bag.queue acts xs count None → next.tally ≡ tallied run.tally acts count
+    → ((left : List Reply) → rest_of run.client (reply ∷ left) ≡ after_acts acts (rest_of next.client left)) → ActsDone path_of a b bag.queue acts xs count None → next.tally ≡ tallied run.tally acts count
     → KeepsQueue a b bag.queue acts → Keeps a b None
     → GoesOn before b bag next rest (work.replies ++ reply ∷ []) (given_of work.entries ++ given_by (λ (octets : List ℕ). octets) xs)
 goes_on path_of before a b bag run next octets rest reply acts xs count work same anew is comes done tally stays keeps =
@@ -280,7 +280,7 @@ goes_on path_of before a b bag run next octets rest reply acts xs count work sam
         clock = keeps.clock ∙ work.clock;
         faults = omega (arith, work.faults, keeps.wire.later);
         few = work.few;
-        few_letters = work.few_letters;
+        few_mail_objects = work.few_mail_objects;
         known = stays.known;
         unsettled = open_at b.desk.store.kept bag.queue (settled_count front + settled_count acts) (settled_count (acts_so_far before bag all))
             (sym (ap settled_count by.run_acts ∙ settled_count-append front acts)) (stays.unsettled (settled_count front) work.unsettled (due_settle before bag work.replies reply acts due));
@@ -297,7 +297,7 @@ goes_on path_of before a b bag run next octets rest reply acts xs count work sam
 -- the same of a run of which all was done
 pub running_on : (path_of : List ℕ → Option (Option Address)) (before a b : Around) (bag : Mailbag before.desk.store.kept) (run next : Run) (octets rest : List ℕ) (reply : Reply) (acts : List ClientAct)
     (xs : List (Act (List ℕ))) (count : ℕ) → IsRunning path_of before a bag run (octets ++ rest) → next.reader ≡ run.reader → run.reader.octets ≡ [] → IsReply octets reply
-    → ((left : List Reply) → rest_of run.client (reply ∷ left) ≡ behind_acts acts (rest_of next.client left)) → ActsDone path_of a b bag.queue acts xs count None → next.tally ≡ tallied run.tally acts count
+    → ((left : List Reply) → rest_of run.client (reply ∷ left) ≡ after_acts acts (rest_of next.client left)) → ActsDone path_of a b bag.queue acts xs count None → next.tally ≡ tallied run.tally acts count
     → KeepsQueue a b bag.queue acts → Keeps a b None → IsRunning path_of before b bag next rest
 running_on path_of before a b bag run next octets rest reply acts xs count running same anew is comes done tally stays keeps =
     let work = running.work in

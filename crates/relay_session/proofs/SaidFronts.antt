@@ -11,16 +11,16 @@ use Rattle.mail_wire.specs.declared.outside.Fault.{Fault}
 use Rattle.mail_wire.specs.declared.outside.Fault.TheVariants as fault
 use Rattle.mail_wire.proofs.Moving.{Moves-nil}
 use Rattle.relay_choice.specs.Relay.{act_octets, sent_octets}
-use Rattle.relay_choice.specs.declared.letters.Act.{Act as ClientAct}
+use Rattle.relay_choice.specs.declared.mail_objects.Act.{Act as ClientAct}
 use Rattle.relay_choice.specs.declared.replies.Reply.{Reply}
 use Rattle.relay_choice.proofs.GoingOnLemmas.{relay_grows}
 use Rattle.session_core.specs.Acts.{Act, changes}
 use Rattle.session_core.specs.Around.{Around}
 use Rattle.session_core.specs.Done.{IsDone, StopsIn, given_by}
 use Rattle.session_core.proofs.DoneLemmas.{given_by-append}
-use Rattle.session_core.proofs.MeaningLemmas.{meanings_given}
+use Rattle.session_core.proofs.MeaningLemmas.{oracles_given}
 use Rattle.kept_mail.specs.Kept.{name_of}
-use Rattle.relay_session.specs.Letters.{Mailbag, messages_of}
+use Rattle.relay_session.specs.MailObjects.{Mailbag, messages_of}
 use Rattle.relay_session.specs.Relaying.{AnswersRelay, BreaksRunOff, Carried, EndsRun, Relays, RelaysBy, SaysFrontOf, begun, idle, run_of, unbegun}
 use Rattle.relay_session.specs.Streams.{AreAllReplies}
 use Rattle.relay_session.specs.declared.ends.LeftCause.{LeftCause}
@@ -63,7 +63,7 @@ done_front old new had has (Some fault.Memory) acts given stops = stops_front ol
 
 -- what was given is a front of what the client says to these replies
 abbrev Says : (before : Around) → Mailbag before.desk.store.kept → List Reply → (given : List ℕ) → Type 0
-Says before bag replies given = IsFrontOf given (sent_octets (messages_of before.desk.store.kept bag.queue) (run_of before bag.letters replies).acts)
+Says before bag replies given = IsFrontOf given (sent_octets (messages_of before.desk.store.kept bag.queue) (run_of before bag.mail_objects replies).acts)
 
 carried_says : (path_of : List ℕ → Option (Option Address)) (before : Around) (bag : Mailbag before.desk.store.kept) (replies : List Reply) (first : List ClientAct) (acts : List (Act (List ℕ))) (count : ℕ) (given : List ℕ)
     → Carried path_of before bag replies first acts count → IsFrontOf given (given_by plain acts) → Says before bag replies given
@@ -82,22 +82,22 @@ breaks_says path_of before now bag replies given met breaks =
     carried_says path_of before bag replies breaks.first breaks.acts breaks.count given breaks.carried
     (done_front before.desk.store now.desk.store before.keeper.octets now.keeper.octets (Some met) breaks.acts given breaks.done)
 
-ends_says : (path_of : List ℕ → Option (Option Address)) (before now : Around) (bag : Mailbag before.desk.store.kept) (entries : List Entry) (replies : List Reply) (behind : List ℕ) (end : RelayEnd) (why : Option LeftCause)
-    → EndsRun path_of before now bag entries replies behind end why → Says before bag replies (given_of entries)
-ends_says path_of before now bag entries replies behind end None ends =
-    carried_says path_of before bag replies (run_of before bag.letters replies).acts ends.leaves.acts ends.leaves.count (given_of entries) ends.leaves.carried (ends.leaves.missing, ends.leaves.given_is)
-ends_says path_of before now bag entries replies behind end (Some cause.Dial) ends = absurd ends
-ends_says path_of before now bag entries replies behind end (Some cause.Wire) ends = breaks_says path_of before now bag replies (given_of entries) fault.Wire ends.breaks
-ends_says path_of before now bag entries replies behind end (Some (cause.Reply octets)) ends =
-    carried_says path_of before bag replies (run_of before bag.letters replies).acts ends.does.acts ends.does.count (given_of entries) ends.does.carried
+ends_says : (path_of : List ℕ → Option (Option Address)) (before now : Around) (bag : Mailbag before.desk.store.kept) (entries : List Entry) (replies : List Reply) (following : List ℕ) (end : RelayEnd) (why : Option LeftCause)
+    → EndsRun path_of before now bag entries replies following end why → Says before bag replies (given_of entries)
+ends_says path_of before now bag entries replies following end None ends =
+    carried_says path_of before bag replies (run_of before bag.mail_objects replies).acts ends.leaves.acts ends.leaves.count (given_of entries) ends.leaves.carried (ends.leaves.missing, ends.leaves.given_is)
+ends_says path_of before now bag entries replies following end (Some cause.Dial) ends = absurd ends
+ends_says path_of before now bag entries replies following end (Some cause.Wire) ends = breaks_says path_of before now bag replies (given_of entries) fault.Wire ends.breaks
+ends_says path_of before now bag entries replies following end (Some (cause.Reply octets)) ends =
+    carried_says path_of before bag replies (run_of before bag.mail_objects replies).acts ends.does.acts ends.does.count (given_of entries) ends.does.carried
     (done_front before.desk.store now.desk.store before.keeper.octets now.keeper.octets None ends.does.acts (given_of entries) ends.does.done)
 
-answers_says : (path_of : List ℕ → Option (Option Address)) (before now : Around) (bag : Mailbag before.desk.store.kept) (entries : List Entry) (replies : List Reply) (behind : List ℕ) (result : Result RelayEnd Fault)
-    → AnswersRelay path_of before now bag entries replies behind result → Says before bag replies (given_of entries)
-answers_says path_of before now bag entries replies behind (Ok end) answers = ends_says path_of before now bag entries replies behind end end.cause answers
-answers_says path_of before now bag entries replies behind (Err fault.Wire) answers = absurd answers
-answers_says path_of before now bag entries replies behind (Err fault.Keeper) answers = breaks_says path_of before now bag replies (given_of entries) fault.Keeper answers
-answers_says path_of before now bag entries replies behind (Err fault.Memory) answers = breaks_says path_of before now bag replies (given_of entries) fault.Memory answers
+answers_says : (path_of : List ℕ → Option (Option Address)) (before now : Around) (bag : Mailbag before.desk.store.kept) (entries : List Entry) (replies : List Reply) (following : List ℕ) (result : Result RelayEnd Fault)
+    → AnswersRelay path_of before now bag entries replies following result → Says before bag replies (given_of entries)
+answers_says path_of before now bag entries replies following (Ok end) answers = ends_says path_of before now bag entries replies following end end.cause answers
+answers_says path_of before now bag entries replies following (Err fault.Wire) answers = absurd answers
+answers_says path_of before now bag entries replies following (Err fault.Keeper) answers = breaks_says path_of before now bag replies (given_of entries) fault.Keeper answers
+answers_says path_of before now bag entries replies following (Err fault.Memory) answers = breaks_says path_of before now bag replies (given_of entries) fault.Memory answers
 
 -- ---- over all that is sent
 
@@ -110,11 +110,11 @@ taken_front (Some xs) (Some ys) octets taken is consumes = (ys, sym (same_Some x
 says_on : (before : Around) (bag : Mailbag before.desk.store.kept) (replies all left : List Reply) (given : List ℕ) → all ≡ replies ++ left → Says before bag replies given → Says before bag all given
 says_on before bag replies all left given whole (missing, is) =
     let messages = messages_of before.desk.store.kept bag.queue in
-    let grown = relay_grows (name_of before.desk.store.kept) bag.letters replies left in
+    let grown = relay_grows (name_of before.desk.store.kept) bag.mail_objects replies left in
     let more = sent_octets messages grown.0 in (
       missing ++ more,
-      ap (λ (l : List Reply). sent_octets messages (run_of before bag.letters l).acts) whole ∙ ap (λ (l : List ClientAct). sent_octets messages l) grown.1
-          ∙ flat_map-append (act_octets messages) (run_of before bag.letters replies).acts grown.0 ∙ ap (λ (l : List ℕ). l ++ more) is ∙ append_assoc given missing more,
+      ap (λ (l : List Reply). sent_octets messages (run_of before bag.mail_objects l).acts) whole ∙ ap (λ (l : List ClientAct). sent_octets messages l) grown.1
+          ∙ flat_map-append (act_octets messages) (run_of before bag.mail_objects replies).acts grown.0 ∙ ap (λ (l : List ℕ). l ++ more) is ∙ append_assoc given missing more,
     )
 
 relays_front : (path_of : List ℕ → Option (Option Address)) (before now : Around) (result : Result RelayEnd Fault) (octets : List ℕ) (all : List Reply) → RelaysBy path_of before now result
@@ -123,12 +123,12 @@ relays_front path_of before now result octets all (unbegun is same) left every =
 relays_front path_of before now result octets all (idle none same is) left every = record { entries = []; moves = rw same (Moves-nil before.wire); says = inl refl }
 relays_front path_of before now result octets all (begun bag some relays) left every =
     let taken = taken_front before.wire.left now.wire.left octets (taken_of relays.entries) left relays.moves.left in
-    let found = replies_front octets (taken_of relays.entries) taken.0 relays.replies all relays.behind taken.1 relays.are every in
-    let says = says_on before bag relays.replies all found.0 (given_of relays.entries) found.1 (answers_says path_of before now bag relays.entries relays.replies relays.behind result relays.answers) in
+    let found = replies_front octets (taken_of relays.entries) taken.0 relays.replies all relays.following taken.1 relays.are every in
+    let says = says_on before bag relays.replies all found.0 (given_of relays.entries) found.1 (answers_says path_of before now bag relays.entries relays.replies relays.following result relays.answers) in
     record { entries = relays.entries; moves = relays.moves; says = inr (bag, says.0, says.1) }
 
 -- whatever function reads paths: there is one
 pub says_front : (before now : Around) (result : Result RelayEnd Fault) (octets : List ℕ) (replies : List Reply) → Relays before now result → before.wire.left ≡ Some octets → AreAllReplies octets replies
     → SaysFrontOf before now replies
 says_front before now result octets replies relays left every =
-    relays_front meanings_given.0.path_of before now result octets replies (relays meanings_given.0.path_of meanings_given.1.paths) left every
+    relays_front oracles_given.0.path_of before now result octets replies (relays oracles_given.0.path_of oracles_given.1.paths) left every

@@ -21,37 +21,37 @@ read_first text more octets reply whole is =
     (omega (arith, count), subst (λ (l : List ℕ). IsReply l reply) (sym (take_at text more (length text) refl)) is)
 
 -- the first reply of two divisions
-record SameFirst (text other behind rest : List ℕ) (reply one : Reply) : Type 0 where
+record SameFirst (text other following rest : List ℕ) (reply one : Reply) : Type 0 where
   replies : reply ≡ one
-  rests : behind ≡ rest
+  rests : following ≡ rest
 
-same_first : (text other behind rest : List ℕ) (reply one : Reply) → text ++ behind ≡ other ++ rest → IsReply text reply → IsReply other one → SameFirst text other behind rest reply one
-same_first text other behind rest reply one same is are =
-    let octets = text ++ behind in
-    let found = read_once octets (read.Whole reply (length text)) (read.Whole one (length other)) (read_first text behind octets reply refl is) (read_first other rest octets one same are) in
+same_first : (text other following rest : List ℕ) (reply one : Reply) → text ++ following ≡ other ++ rest → IsReply text reply → IsReply other one → SameFirst text other following rest reply one
+same_first text other following rest reply one same is are =
+    let octets = text ++ following in
+    let found = read_once octets (read.Whole reply (length text)) (read.Whole one (length other)) (read_first text following octets reply refl is) (read_first other rest octets one same are) in
     let long : length other ≡ length text = sym (same_used reply one (length text) (length other) found) in
     record {
       replies = same_whole reply one (length text) (length other) found;
-      rests = sym (drop_at text behind (length text) refl) ∙ ap (λ (l : List ℕ). drop (length text) l) same ∙ drop_at other rest (length text) long;
+      rests = sym (drop_at text following (length text) refl) ∙ ap (λ (l : List ℕ). drop (length text) l) same ∙ drop_at other rest (length text) long;
     }
 
 -- replies with octets behind them are the first of all
-front_of_all : (texts others : List (List ℕ)) (replies all : List Reply) (more behind : List ℕ) → AllZip IsReply texts replies → AllZip IsReply others all → concat texts ++ more ≡ concat others ++ behind
-    → ((text rest : List ℕ) (reply : Reply) → behind ≡ text ++ rest → IsReply text reply → ⊥) → (left : List Reply) × (all ≡ replies ++ left)
-front_of_all [] others [] all more behind are every same none = (all, refl)
-front_of_all [] others (reply ∷ replies) all more behind are every same none = absurd are
-front_of_all (text ∷ texts) others [] all more behind are every same none = absurd are
-front_of_all (text ∷ texts) [] (reply ∷ replies) [] more behind are every same none = absurd (none text (concat texts ++ more) reply (sym same ∙ append_assoc text (concat texts) more) are.0)
-front_of_all (text ∷ texts) [] (reply ∷ replies) (one ∷ all) more behind are every same none = absurd every
-front_of_all (text ∷ texts) (other ∷ others) (reply ∷ replies) [] more behind are every same none = absurd every
-front_of_all (text ∷ texts) (other ∷ others) (reply ∷ replies) (one ∷ all) more behind are every same none =
-    let first = same_first text other (concat texts ++ more) (concat others ++ behind) reply one (sym (append_assoc text (concat texts) more) ∙ same ∙ append_assoc other (concat others) behind) are.0 every.0 in
-    let found = front_of_all texts others replies all more behind are.1 every.1 first.rests none in
+front_of_all : (texts others : List (List ℕ)) (replies all : List Reply) (more following : List ℕ) → AllZip IsReply texts replies → AllZip IsReply others all → concat texts ++ more ≡ concat others ++ following
+    → ((text rest : List ℕ) (reply : Reply) → following ≡ text ++ rest → IsReply text reply → ⊥) → (left : List Reply) × (all ≡ replies ++ left)
+front_of_all [] others [] all more following are every same none = (all, refl)
+front_of_all [] others (reply ∷ replies) all more following are every same none = absurd are
+front_of_all (text ∷ texts) others [] all more following are every same none = absurd are
+front_of_all (text ∷ texts) [] (reply ∷ replies) [] more following are every same none = absurd (none text (concat texts ++ more) reply (sym same ∙ append_assoc text (concat texts) more) are.0)
+front_of_all (text ∷ texts) [] (reply ∷ replies) (one ∷ all) more following are every same none = absurd every
+front_of_all (text ∷ texts) (other ∷ others) (reply ∷ replies) [] more following are every same none = absurd every
+front_of_all (text ∷ texts) (other ∷ others) (reply ∷ replies) (one ∷ all) more following are every same none =
+    let first = same_first text other (concat texts ++ more) (concat others ++ following) reply one (sym (append_assoc text (concat texts) more) ∙ same ∙ append_assoc other (concat others) following) are.0 every.0 in
+    let found = front_of_all texts others replies all more following are.1 every.1 first.rests none in
     (found.0, ap (λ (l : List Reply). one ∷ l) found.1 ∙ ap (λ (r : Reply). r ∷ (replies ++ found.0)) (sym first.replies))
 
 -- the replies that were taken are the first of all that are sent
-pub replies_front : (octets taken rest : List ℕ) (replies all : List Reply) (behind : List ℕ) → octets ≡ taken ++ rest → AreReplies taken replies behind → AreAllReplies octets all
+pub replies_front : (octets taken rest : List ℕ) (replies all : List Reply) (following : List ℕ) → octets ≡ taken ++ rest → AreReplies taken replies following → AreAllReplies octets all
     → (left : List Reply) × (all ≡ replies ++ left)
-replies_front octets taken rest replies all behind whole are every =
-    front_of_all are.texts every.are.texts replies all (behind ++ rest) every.behind are.are every.are.are
-    (sym (append_assoc (concat are.texts) behind rest) ∙ ap (λ (l : List ℕ). l ++ rest) (sym are.whole) ∙ sym whole ∙ every.are.whole) every.none
+replies_front octets taken rest replies all following whole are every =
+    front_of_all are.texts every.are.texts replies all (following ++ rest) every.following are.are every.are.are
+    (sym (append_assoc (concat are.texts) following rest) ∙ ap (λ (l : List ℕ). l ++ rest) (sym are.whole) ∙ sym whole ∙ every.are.whole) every.none

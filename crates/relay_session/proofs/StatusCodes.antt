@@ -16,21 +16,21 @@ below_ten n = omega arith
 digit_octet : (digit : ℕ) → digit < 10 → is_digit (48 + digit) ≡ true
 digit_octet digit low = grind (arith, nat_tests)
 
-first_digit : (n : ℕ) (behind : List ℕ) → list_all is_digit behind ≡ true → IsDecimal (digit_glyph false (n % 10) ∷ behind)
-first_digit n behind are =
+first_digit : (n : ℕ) (following : List ℕ) → list_all is_digit following ≡ true → IsDecimal (digit_glyph false (n % 10) ∷ following)
+first_digit n following are =
     let low = below_ten n in
     let small : nat_lt (n % 10) 10 ≡ true = grind (arith, nat_tests) in
     record { some = omega arith; digits = rw (small, digit_octet (n % 10) low) are }
 
-onto_by : (places n : ℕ) (behind : List ℕ) → IsDecimal (digit_glyph false (n % 10) ∷ behind)
+onto_by : (places n : ℕ) (following : List ℕ) → IsDecimal (digit_glyph false (n % 10) ∷ following)
     → ((more : List ℕ) → IsDecimal more → IsDecimal (digits_onto places 10 false (n / 10) more)) → (last : Bool) → (n / 10 == 0) ≡ last
-    → IsDecimal (digits_onto (suc places) 10 false n behind)
-onto_by places n behind is others true last_is = rw last_is is
-onto_by places n behind is others false last_is = rw last_is (others (digit_glyph false (n % 10) ∷ behind) is)
+    → IsDecimal (digits_onto (suc places) 10 false n following)
+onto_by places n following is others true last_is = rw last_is is
+onto_by places n following is others false last_is = rw last_is (others (digit_glyph false (n % 10) ∷ following) is)
 
-onto : (places n : ℕ) (behind : List ℕ) → IsDecimal behind → IsDecimal (digits_onto places 10 false n behind)
-onto zero n behind is = is
-onto (suc places) n behind is = onto_by places n behind (first_digit n behind is.digits) (λ more m. onto places (n / 10) more m) (n / 10 == 0) refl
+onto : (places n : ℕ) (following : List ℕ) → IsDecimal following → IsDecimal (digits_onto places 10 false n following)
+onto zero n following is = is
+onto (suc places) n following is = onto_by places n following (first_digit n following is.digits) (λ more m. onto places (n / 10) more m) (n / 10 == 0) refl
 
 -- a number is written in digits, however large it is
 decimal_is : (n : ℕ) → IsDecimal (decimal n)

@@ -6,10 +6,10 @@ use Rattle.std.proofs.lemmas.List.Concat.{flat_map-append}
 use Rattle.std.proofs.lemmas.List.Elements.{filter-append}
 use Rattle.std.proofs.lemmas.List.Sums.{count_by-le-length, length-filter}
 use Rattle.relay_choice.specs.Relay.{is_sent_outcome, left_count, outcomes_in, sent_count}
-use Rattle.relay_choice.specs.declared.letters.Act.{Act}
-use Rattle.relay_choice.specs.declared.letters.Act.TheVariants as act
-use Rattle.relay_choice.specs.declared.letters.Letter.{Letter}
-use Rattle.relay_choice.specs.declared.letters.Outcome.{Outcome}
+use Rattle.relay_choice.specs.declared.mail_objects.Act.{Act}
+use Rattle.relay_choice.specs.declared.mail_objects.Act.TheVariants as act
+use Rattle.relay_choice.specs.declared.mail_objects.MailObject.{MailObject}
+use Rattle.relay_choice.specs.declared.mail_objects.Outcome.{Outcome}
 use Rattle.relay_session.specs.private.Acting.{counted, sent_among, settled_count, tallied}
 use Rattle.relay_session.specs.declared.ends.Tally.{Tally}
 
@@ -66,8 +66,8 @@ sent_count-few acts =
     let few = count_by-le-length is_sent_outcome (outcomes_of acts) in
     omega (arith, count, few)
 
-pub left_count-append : (letters : List Letter) (xs ys : List Act) → left_count letters (xs ++ ys) ≡ left_count letters xs - length (flat_map outcomes_in ys)
-left_count-append letters xs ys = let parts = outcomes_in-append xs ys in omega (arith, parts)
+pub left_count-append : (mail_objects : List MailObject) (xs ys : List Act) → left_count mail_objects (xs ++ ys) ≡ left_count mail_objects xs - length (flat_map outcomes_in ys)
+left_count-append mail_objects xs ys = let parts = outcomes_in-append xs ys in omega (arith, parts)
 
 pub settled_count-append : (xs ys : List Act) → settled_count (xs ++ ys) ≡ settled_count xs + settled_count ys
 settled_count-append [] ys = omega arith

@@ -9,12 +9,12 @@ use Rattle.mail_store.specs.StoreState.{StoreState, with_records}
 use Rattle.mail_store.specs.declared.queue.Queued.{Queued}
 use Rattle.mail_store.specs.declared.queue.Unsettled.{Unsettled}
 use Rattle.relay_choice.specs.Said.{data_text}
-use Rattle.relay_choice.specs.declared.letters.Act.{Act as ClientAct}
-use Rattle.relay_choice.specs.declared.letters.Act.TheVariants as act
-use Rattle.relay_choice.specs.declared.letters.Outcome.{Outcome}
+use Rattle.relay_choice.specs.declared.mail_objects.Act.{Act as ClientAct}
+use Rattle.relay_choice.specs.declared.mail_objects.Act.TheVariants as act
+use Rattle.relay_choice.specs.declared.mail_objects.Outcome.{Outcome}
 use Rattle.session_core.specs.Acts.{Act, changes, gives}
 use Rattle.session_core.specs.Moments.{Moment}
-use Rattle.relay_session.specs.Letters.{entry_octets}
+use Rattle.relay_session.specs.MailObjects.{entry_octets}
 use Rattle.relay_session.specs.Reporting.{Reports}
 
 -- ---- an entry that is done with

@@ -5,9 +5,9 @@ use Rattle.journal_records.specs.Addresses.{WithPaths}
 use Rattle.mail_store.specs.Queue.{IsQueue, open_numbers, told_count}
 use Rattle.mail_store.specs.declared.queue.Queued.{Queued}
 use Rattle.mail_wire.specs.Causes.{Rose}
-use Rattle.mail_wire.specs.DialTelling.{AsksAtMost, DialTelling, IsDialled, with_host}
-use Rattle.mail_wire.specs.KeeperTelling.{KeeperTelling}
-use Rattle.mail_wire.specs.Telling.{Telling}
+use Rattle.mail_wire.specs.DialState.{AsksAtMost, DialState, IsDialled, with_host}
+use Rattle.mail_wire.specs.KeeperState.{KeeperState}
+use Rattle.mail_wire.specs.WireState.{WireState}
 use Rattle.mail_wire.specs.declared.outside.Fault.{Fault}
 use Rattle.mail_wire.specs.declared.outside.Fault.TheVariants as fault
 use Rattle.session_core.specs.Around.{Around, Loans}
@@ -18,14 +18,14 @@ use Rattle.relay_session.specs.declared.ends.RelayEnd.{RelayEnd}
 
 -- the outside of a relay that isn't connected, as contracts see it
 pub record AroundDial : Type 0 where
-  pub dial : DialTelling
-  pub keeper : KeeperTelling
+  pub dial : DialState
+  pub keeper : KeeperState
   -- the reading of a clock that tells a fixed one
   pub clock : Option ℕ
   pub desk : Desk
 
 -- The outside of a relay with a wire to a server in the place of the dial.
-abbrev pub over_wire : AroundDial → Telling → Loans → Around
+abbrev pub over_wire : AroundDial → WireState → Loans → Around
 over_wire around wire loans = record { wire = wire; keeper = around.keeper; clock = around.clock; desk = around.desk; loans = loans }
 
 -- Nothing was sent, and the desk and the keeper are as before.
@@ -37,8 +37,8 @@ pub record StaysHome (before now : AroundDial) : Type 0 where
 -- The dial made a connection to the host, on which nothing went yet, and the queue was relayed over it. Then the dial was handed it back.
 pub record RelaysOverDialled (path_of : List ℕ → Option (Option Address)) (host : List ℕ) (before now : AroundDial) (result : Result RelayEnd Fault) : Type 0 where
   pub asked : now.dial.asked ≡ with_host before.dial.asked host
-  pub opened : Telling
-  pub closed : Telling
+  pub opened : WireState
+  pub closed : WireState
   pub loans : Loans
   pub dialled : IsDialled before.dial opened
   pub relays : RelaysBy path_of (over_wire before opened loans) (over_wire now closed loans) result
@@ -64,6 +64,6 @@ RelaysQueue host before now result = WithPaths (λ path_of. RelaysQueueBy path_o
 -- ---- why recipients are left
 
 -- The dial is told to have failed only where its count of faults rose, and the wire only where the dial didn't tell that it never fails.
-pub record HasDialCause (before now : DialTelling) (end : RelayEnd) : Type 0 where
+pub record HasDialCause (before now : DialState) (end : RelayEnd) : Type 0 where
   pub dial : end.cause ≡ Some cause.Dial → Rose before.faults now.faults
   pub wire : IsTrue before.server_never_fails → end.cause ≢ Some cause.Wire

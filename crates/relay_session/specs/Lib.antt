@@ -1,5 +1,5 @@
 -- The queue on its way to a next server.
-pub mod Letters
+pub mod MailObjects
 pub mod Reporting
 pub mod Carrying
 pub mod Streams

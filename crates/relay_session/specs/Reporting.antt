@@ -11,8 +11,8 @@ use Rattle.mail_store.specs.Changing.{delivery_refusal}
 use Rattle.mail_store.specs.StoreState.{StoreState}
 use Rattle.mail_store.specs.declared.queue.Queued.{Queued}
 use Rattle.mail_store.specs.declared.queue.Unsettled.{Unsettled}
-use Rattle.relay_choice.specs.declared.letters.Outcome.{Outcome}
-use Rattle.relay_choice.specs.declared.letters.Outcome.TheVariants as outcome
+use Rattle.relay_choice.specs.declared.mail_objects.Outcome.{Outcome}
+use Rattle.relay_choice.specs.declared.mail_objects.Outcome.TheVariants as outcome
 use Rattle.session_core.specs.Changes.{changes_of}
 use Rattle.session_core.specs.Moments.{IsMoment, Moment}
 use Rattle.utf8_reports.specs.Reports.{IsReportOn}

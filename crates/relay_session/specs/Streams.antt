@@ -5,10 +5,10 @@ use Rattle.relay_choice.specs.Replies.{IsBegun, IsReply}
 use Rattle.relay_choice.specs.declared.replies.Reply.{Reply}
 
 -- The octets are these replies, and what stands behind them.
-pub record AreReplies (octets : List ℕ) (replies : List Reply) (behind : List ℕ) : Type 0 where
+pub record AreReplies (octets : List ℕ) (replies : List Reply) (following : List ℕ) : Type 0 where
   pub texts : List (List ℕ)
   pub are : AllZip IsReply texts replies
-  pub whole : octets ≡ concat texts ++ behind
+  pub whole : octets ≡ concat texts ++ following
 
 -- nothing of a reply, or the front of one
 abbrev pub IsUndecided : List ℕ → Type 0
@@ -16,6 +16,6 @@ IsUndecided octets = (octets ≡ []) ⊎ IsBegun octets
 
 -- They are these replies, and what stands behind them begins with none.
 pub record AreAllReplies (octets : List ℕ) (replies : List Reply) : Type 0 where
-  pub behind : List ℕ
-  pub are : AreReplies octets replies behind
-  pub none : (text more : List ℕ) (reply : Reply) → behind ≡ text ++ more → IsReply text reply → ⊥
+  pub following : List ℕ
+  pub are : AreReplies octets replies following
+  pub none : (text more : List ℕ) (reply : Reply) → following ≡ text ++ more → IsReply text reply → ⊥

@@ -10,7 +10,7 @@ ghost use Rattle.relay_session.specs.Relaying.{HasLeftCause, Relays};
 ghost use Rattle.relay_session.specs.declared.ends.LeftCause.TheVariants as cause;
 
 use crate::ends::{LeftCause, RelayEnd, Tally};
-use crate::relaying::{open_count, relay_letters};
+use crate::relaying::{open_count, relay_mail_objects};
 use mail_store::Queued;
 use mail_wire::{Clock, Dial, Failed, Fault, Keeper, Memory, Wire};
 use session_core::{Desk, Outside};
@@ -30,14 +30,14 @@ fn relay_connected<W: Wire, J: Keeper, C: Clock>(
     requires some { queue.now ≢ [] }
     requires few { told_count queue.now ≤ THINGS_MAX }
     ensures relays { (loans : Loans) × Relays
-        (record { wire = W.tells wire.old; keeper = J.tells keeper.old; clock = C.tells clock.old; desk = desk; loans = loans })
-        (record { wire = W.tells wire.new; keeper = J.tells keeper.new; clock = C.tells clock.new; desk = result.0; loans = loans }) result.1 }
+        (record { wire = W.observed wire.old; keeper = J.observed keeper.old; clock = C.observed clock.old; desk = desk; loans = loans })
+        (record { wire = W.observed wire.new; keeper = J.observed keeper.new; clock = C.observed clock.new; desk = result.0; loans = loans }) result.1 }
     ensures left { IfOk result.1 HasLeftCause }
-    ensures cause { IfOk result.1 (λ end. IsTrue (W.tells wire.old).never_fails → end.cause ≢ Some cause.Wire) }
-    ensures keeper { HasKeeperCause (J.tells keeper.old) (J.tells keeper.new) result.1 Fault.Keeper }
+    ensures cause { IfOk result.1 (λ end. IsTrue (W.observed wire.old).never_fails → end.cause ≢ Some cause.Wire) }
+    ensures keeper { HasKeeperCause (J.observed keeper.old) (J.observed keeper.new) result.1 Fault.Keeper }
 {
     let mut outside = Outside::new(alloc, desk, wire, keeper, clock);
-    let end = relay_letters(queue, &mut outside);
+    let end = relay_mail_objects(queue, &mut outside);
     let (desk, wire, keeper, clock) = outside.into_parts();
     // Used once more: a loan that ends within the bundle tells nothing of what was lent.
     let _wire = &mut *wire;
@@ -60,12 +60,12 @@ pub fn relay_queue<L: Dial, J: Keeper, C: Clock>(
 ) -> (Desk, Result<RelayEnd, Fault>)
     requires { IsOpen desk }
     ensures relays { RelaysQueue host.now
-        (record { dial = L.tells dial.old; keeper = J.tells keeper.old; clock = C.tells clock.old; desk = desk })
-        (record { dial = L.tells dial.new; keeper = J.tells keeper.new; clock = C.tells clock.new; desk = result.0 }) result.1 }
+        (record { dial = L.observed dial.old; keeper = J.observed keeper.old; clock = C.observed clock.old; desk = desk })
+        (record { dial = L.observed dial.new; keeper = J.observed keeper.new; clock = C.observed clock.new; desk = result.0 }) result.1 }
     ensures left { IfOk result.1 HasLeftCause }
-    ensures later { (L.tells dial.old).faults ≤ (L.tells dial.new).faults }
-    ensures cause { IfOk result.1 (HasDialCause (L.tells dial.old) (L.tells dial.new)) }
-    ensures keeper { HasKeeperCause (J.tells keeper.old) (J.tells keeper.new) result.1 Fault.Keeper }
+    ensures later { (L.observed dial.old).faults ≤ (L.observed dial.new).faults }
+    ensures cause { IfOk result.1 (HasDialCause (L.observed dial.old) (L.observed dial.new)) }
+    ensures keeper { HasKeeperCause (J.observed keeper.old) (J.observed keeper.new) result.1 Fault.Keeper }
     ensures no_wire { ¬ (result.1 ≡ Err Fault.Wire) }
 {
     let queue = match desk.store.queue() {

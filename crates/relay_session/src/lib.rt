@@ -4,7 +4,7 @@
 mod dialling;
 mod ends;
 pub mod laws;
-mod letters;
+mod mail_objects;
 mod relaying;
 mod reporting;
 mod running;

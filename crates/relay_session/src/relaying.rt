@@ -6,13 +6,13 @@ ghost use Rattle.mail_store.specs.Queue.{IsQueue, told_count};
 ghost use Rattle.session_core.specs.Around.{Around};
 ghost use Rattle.session_core.specs.Desks.{IsOpen};
 ghost use Rattle.session_core.specs.Keeps.{Keeps, fault_of};
-ghost use Rattle.relay_session.specs.Letters.{Mailbag};
+ghost use Rattle.relay_session.specs.MailObjects.{Mailbag};
 ghost use Rattle.relay_session.specs.Relaying.{HasLeftCause, Relays, RelaysTo};
 ghost use Rattle.relay_session.specs.private.Running.{IsAtWork, IsRunning, IsWireCause};
 
 use crate::ends::{LeftCause, RelayEnd, Tally};
-use crate::letters::letters_of;
-use crate::running::{Came, Run, feed};
+use crate::mail_objects::mail_objects_of;
+use crate::running::{Advance, Run, feed};
 use mail_store::Queued;
 use mail_wire::{Clock, Fault, Keeper, Octets, PIECE, Wire};
 use relay_choice::{Client, ReplyReader};
@@ -58,14 +58,14 @@ fn run_to_end<W: Wire, J: Keeper, C: Clock>(
             return Ok(run.tally.end(Some(LeftCause::Reply(octets))));
         }
         match feed(run, &piece[..count], queue, outside)? {
-            Came::Goes(next) => run = next,
-            Came::Ends(end) => return Ok(end),
+            Advance::Goes(next) => run = next,
+            Advance::Ends(end) => return Ok(end),
         }
     }
 }
 
 /// Sends this queue, in which somebody waits, to the server at the other end of the wire.
-pub fn relay_letters<W: Wire, J: Keeper, C: Clock>(
+pub fn relay_mail_objects<W: Wire, J: Keeper, C: Clock>(
     queue: &[Queued],
     outside: &mut Outside<W, J, C>,
 ) -> Result<RelayEnd, Fault>
@@ -79,10 +79,10 @@ pub fn relay_letters<W: Wire, J: Keeper, C: Clock>(
     ensures keeps { Keeps outside.old outside.new (fault_of result) }
 {
     let alloc = outside.alloc();
-    let letters = letters_of(alloc, outside.store(), queue)?;
+    let mail_objects = mail_objects_of(alloc, outside.store(), queue)?;
     let name = Octets::from_slice(alloc, outside.store().name().as_bytes())?;
     let run = Run {
-        client: Client::new(alloc, name, letters),
+        client: Client::new(alloc, name, mail_objects),
         reader: ReplyReader::new(alloc),
         tally: Tally::before(open_count(queue)),
     };
@@ -97,7 +97,7 @@ pub fn relay_over<W: Wire, J: Keeper, C: Clock>(
 ) -> Result<RelayEnd, Fault>
     requires { IsOpen outside.old.desk }
     // What was given are the acts of the client over the replies that were taken, in their order and each at its time, and what these
-    // settle is reported and settled in the store and in the keeper. At Ok the numbers are those of what was done; every letter is
+    // settle is reported and settled in the store and in the keeper. At Ok the numbers are those of what was done; every mail object is
     // done with, or the cause says why the run stopped: the wire failed, or these octets came in a reply's place.
     ensures relays { Relays outside.old outside.new result }
     ensures left { IfOk result HasLeftCause }
@@ -108,5 +108,5 @@ pub fn relay_over<W: Wire, J: Keeper, C: Clock>(
     if queue.is_empty() {
         return Ok(Tally::before(0).end(None));
     }
-    relay_letters(queue.as_slice(), outside)
+    relay_mail_objects(queue.as_slice(), outside)
 }

@@ -14,12 +14,12 @@ ghost use Rattle.session_core.specs.Keeps.{Keeps, fault_of};
 ghost use Rattle.session_core.specs.Moments.{IsMoment, moment_of};
 ghost use Rattle.utf8_reports.specs.Recipients.{IsFailed};
 ghost use Rattle.utf8_reports.specs.Reports.{IsFailure, IsReportOn};
-ghost use Rattle.relay_session.specs.Letters.{entry_octets};
+ghost use Rattle.relay_session.specs.MailObjects.{entry_octets};
 ghost use Rattle.relay_session.specs.Reporting.{delivery_to, destination_of as destination_in, failed_by, failed_of as failed_among, is_report_kept, remote_destination as remote_destination_of, report_changes, status_text};
 ghost use Rattle.relay_session.specs.private.Acting.{IsDestinationIn, IsKnownEntry, MakesReport};
 ghost use Rattle.relay_session.specs.private.Reported.{IsReported};
 
-use crate::letters::{copy_of, tree_of};
+use crate::mail_objects::{copy_of, tree_of};
 use address_grammar::{Address, write_address};
 use itoa::Buffer;
 use journal_records::TEXT_MAX;
@@ -27,7 +27,7 @@ use kept_mail::Delivery;
 use mail_store::{Queued, Store};
 use mail_wire::{Clock, Fault, Items, Keeper, Memory, Octets, Wire};
 use relay_choice::Outcome;
-use session_core::{Delivered, Outside, Stamp};
+use session_core::{Delivered, Outside, Timestamp};
 use std::alloc::Global;
 use utf8_reports::{FailedRecipient, FailedRecipients, Failure, make_report};
 
@@ -180,22 +180,22 @@ fn reported(
     queued: &Queued,
     path: &Address,
     failed: FailedRecipients,
-    stamp: Stamp,
+    timestamp: Timestamp,
 ) -> Result<Option<Delivery>, Memory>
     requires known { IsKnownEntry store.now.kept queued.now }
     requires named { IsStoreName (name_of store.now.kept) }
     requires path { queued.now.path ≡ Some path.now }
     requires some { failed ≢ [] }
     requires failed { All IsFailed failed }
-    requires moment { IsMoment stamp.seconds (moment_of stamp) }
-    ensures reported { IfOk result (λ delivery. WithPaths (λ path_of. IsReported path_of store.now.kept queued.now path.now failed (moment_of stamp) delivery)) }
+    requires moment { IsMoment timestamp.seconds (moment_of timestamp) }
+    ensures reported { IfOk result (λ delivery. WithPaths (λ path_of. IsReported path_of store.now.kept queued.now path.now failed (moment_of timestamp) delivery)) }
     ensures deliverable { IfOk result (λ delivery. IfSome delivery (IsDeliverable store.now)) }
 {
-    let Stamp {
+    let Timestamp {
         seconds,
         date: _,
         internal,
-    } = stamp;
+    } = timestamp;
     let destination = destination_of(alloc, store, path)?;
     let report = report_of(alloc, store, queued, path, failed, seconds)?;
     delivery_of(alloc, destination, path, report, internal)
@@ -240,8 +240,8 @@ pub fn report<W: Wire, J: Keeper, C: Clock>(
     if failed.is_empty() {
         return Ok(false);
     }
-    let stamp = outside.now()?;
-    match reported(alloc, outside.store(), queued, path, failed, stamp)? {
+    let timestamp = outside.now()?;
+    match reported(alloc, outside.store(), queued, path, failed, timestamp)? {
         Some(delivery) => deliver(&delivery, outside),
         None => Ok(false),
     }

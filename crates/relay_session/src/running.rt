@@ -8,9 +8,9 @@ ghost use Rattle.session_core.specs.Around.{Around};
 ghost use Rattle.session_core.specs.Desks.{IsOpen};
 ghost use Rattle.session_core.specs.Doing.{Replies};
 ghost use Rattle.session_core.specs.Keeps.{Keeps, fault_of};
-ghost use Rattle.relay_session.specs.Letters.{Mailbag, entry_octets};
+ghost use Rattle.relay_session.specs.MailObjects.{Mailbag, entry_octets};
 ghost use Rattle.relay_session.specs.private.Acting.{ActsBy, AreKnown, AreOpenFrom, CanCount, IsActIn, KeepsQueue, SettleFrom};
-ghost use Rattle.relay_session.specs.private.Running.{CameTo, IsAtWork, IsRunning, IsWireCause, OnEnds, OnGoes, StaysShort};
+ghost use Rattle.relay_session.specs.private.Running.{AdvancesTo, IsAtWork, IsRunning, IsWireCause, OnEnds, OnGoes, StaysShort};
 
 use crate::ends::{LeftCause, RelayEnd, Tally};
 use crate::settling::settle;
@@ -29,7 +29,7 @@ pub struct Run {
 
 /// What came of octets.
 #[derive(Drop)]
-pub enum Came {
+pub enum Advance {
     /// A further reply is awaited, or more of one.
     Goes(Run),
     Ends(RelayEnd),
@@ -102,13 +102,13 @@ fn take_reply<W: Wire, J: Keeper, C: Clock>(
     octets: Octets,
     queue: &[Queued],
     outside: &mut Outside<W, J, C>,
-) -> Result<Came, Fault>
+) -> Result<Advance, Fault>
     requires opens { IsOpen outside.old.desk }
     requires decided { IsDecided octets }
     requires anew { run.reader.octets ≡ [] }
     requires work { (before : Around) × (bag : Mailbag before.desk.store.kept) × (rest : List ℕ) × (bag.queue ≡ queue.now) × IsAtWork before outside.old bag run (octets ++ rest) }
-    ensures came { WithPaths (λ path_of. (before : Around) (bag : Mailbag before.desk.store.kept) (rest : List ℕ) → bag.queue ≡ queue.now
-        → IsRunning path_of before outside.old bag run (octets ++ rest) → CameTo path_of before outside.new bag rest result) }
+    ensures advance { WithPaths (λ path_of. (before : Around) (bag : Mailbag before.desk.store.kept) (rest : List ℕ) → bag.queue ≡ queue.now
+        → IsRunning path_of before outside.old bag run (octets ++ rest) → AdvancesTo path_of before outside.new bag rest result) }
     ensures work { IfOk result (OnGoes (λ next. (before : Around) (bag : Mailbag before.desk.store.kept) (rest : List ℕ) → bag.queue ≡ queue.now
         → IsAtWork before outside.old bag run (octets ++ rest) → IsAtWork before outside.new bag next rest)) }
     ensures short { IfOk result (StaysShort run octets) }
@@ -122,24 +122,24 @@ fn take_reply<W: Wire, J: Keeper, C: Clock>(
         mut tally,
     } = run;
     let ReplyRead::Whole { reply, .. } = read_reply(alloc, octets.as_slice())? else {
-        return Ok(Came::Ends(tally.end(Some(LeftCause::Reply(octets)))));
+        return Ok(Advance::Ends(tally.end(Some(LeftCause::Reply(octets)))));
     };
     match client.take(&reply)? {
-        Turn::Stops => Ok(Came::Ends(tally.end(Some(LeftCause::Reply(octets))))),
+        Turn::Stops => Ok(Advance::Ends(tally.end(Some(LeftCause::Reply(octets))))),
         Turn::Goes { client, acts } => match do_acts(&acts, queue, &mut tally, outside) {
-            Ok(()) => Ok(Came::Goes(Run {
+            Ok(()) => Ok(Advance::Goes(Run {
                 client,
                 reader,
                 tally,
             })),
-            Err(Fault::Wire) => Ok(Came::Ends(tally.end(Some(LeftCause::Wire)))),
+            Err(Fault::Wire) => Ok(Advance::Ends(tally.end(Some(LeftCause::Wire)))),
             Err(Fault::Keeper) => Err(Fault::Keeper),
             Err(Fault::Memory) => Err(Fault::Memory),
         },
         Turn::Ends(acts) => match do_acts(&acts, queue, &mut tally, outside) {
-            Ok(()) => Ok(Came::Ends(tally.end(None))),
+            Ok(()) => Ok(Advance::Ends(tally.end(None))),
             // Of these acts QUIT alone gives octets, and it doesn't matter whether it arrives.
-            Err(Fault::Wire) => Ok(Came::Ends(tally.end(None))),
+            Err(Fault::Wire) => Ok(Advance::Ends(tally.end(None))),
             Err(Fault::Keeper) => Err(Fault::Keeper),
             Err(Fault::Memory) => Err(Fault::Memory),
         },
@@ -152,11 +152,11 @@ pub fn feed<W: Wire, J: Keeper, C: Clock>(
     piece: &[u8],
     queue: &[Queued],
     outside: &mut Outside<W, J, C>,
-) -> Result<Came, Fault>
+) -> Result<Advance, Fault>
     requires opens { IsOpen outside.old.desk }
     requires work { (before : Around) × (bag : Mailbag before.desk.store.kept) × (bag.queue ≡ queue.now) × IsAtWork before outside.old bag run piece.now }
-    ensures came { WithPaths (λ path_of. (before : Around) (bag : Mailbag before.desk.store.kept) → bag.queue ≡ queue.now
-        → IsRunning path_of before outside.old bag run piece.now → CameTo path_of before outside.new bag [] result) }
+    ensures advance { WithPaths (λ path_of. (before : Around) (bag : Mailbag before.desk.store.kept) → bag.queue ≡ queue.now
+        → IsRunning path_of before outside.old bag run piece.now → AdvancesTo path_of before outside.new bag [] result) }
     ensures work { IfOk result (OnGoes (λ next. (before : Around) (bag : Mailbag before.desk.store.kept) → bag.queue ≡ queue.now
         → IsAtWork before outside.old bag run piece.now → IsAtWork before outside.new bag next [])) }
     ensures short { IfOk result (StaysShort run piece.now) }
@@ -173,7 +173,7 @@ pub fn feed<W: Wire, J: Keeper, C: Clock>(
         } = run;
         match reader.take(rest)? {
             Taken::Begun(reader) => {
-                return Ok(Came::Goes(Run {
+                return Ok(Advance::Goes(Run {
                     client,
                     reader,
                     tally,
@@ -187,12 +187,12 @@ pub fn feed<W: Wire, J: Keeper, C: Clock>(
                     tally,
                 };
                 match take_reply(begun, octets, queue, outside)? {
-                    Came::Goes(next) => run = next,
-                    Came::Ends(end) => return Ok(Came::Ends(end)),
+                    Advance::Goes(next) => run = next,
+                    Advance::Ends(end) => return Ok(Advance::Ends(end)),
                 }
                 rest = &rest[used..];
             }
         }
     }
-    Ok(Came::Goes(run))
+    Ok(Advance::Goes(run))
 }

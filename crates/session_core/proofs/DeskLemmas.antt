@@ -2,7 +2,7 @@
 use Rattle.std.proofs.Common.{◌≡◌, ℕ, cond, Bool, true, false, List, [], ◌∷◌, map, Option, None, Some, Result, Ok, Err, refl, sym, ap, ◌∙◌, subst, append-nil}
 use Rattle.std.specs.Prelude.{codes, slice_index_or}
 use Rattle.std.proofs.lemmas.List.Elements.{All-push}
-use Rattle.mail_wire.specs.KeeperTelling.{KeeperTelling}
+use Rattle.mail_wire.specs.KeeperState.{KeeperState}
 use Rattle.mail_wire.specs.Keeping.{HasKeeperCause}
 use Rattle.mail_wire.specs.declared.outside.Fault.{Fault}
 use Rattle.mail_wire.specs.declared.outside.Fault.TheVariants as fault
@@ -122,10 +122,10 @@ append_name store folder flags date octets = unless_name store (records.Message 
 
 -- ---- what a change leaves
 
-abbrev pub with_store : Around → StoreState → KeeperTelling → Around
+abbrev pub with_store : Around → StoreState → KeeperState → Around
 with_store a store keeper = record a { desk = record a.desk { store = store }; keeper = keeper }
 
-changed_keeps : (a : Around) (store : StoreState) (keeper : KeeperTelling) (met : Option Fault) (made : List (List Record)) → KeepsName a.desk.store made
+changed_keeps : (a : Around) (store : StoreState) (keeper : KeeperState) (met : Option Fault) (made : List (List Record)) → KeepsName a.desk.store made
     → IsChanged a.desk.store store a.keeper.octets keeper.octets met made → HasKeeperCause a.keeper keeper (answer_of met) fault.Keeper → ¬ (met ≡ Some fault.Wire) → Keeps a (with_store a store keeper) met
 changed_keeps a store keeper None made named changed cause wire = record {
   wire = HasWireCause-fine a.wire a.wire (answer_of None) fault.Wire (GoesOn-nil a.wire) (λ bad. cc);
@@ -174,7 +174,7 @@ as_some : (met other : Fault) → Some met ≡ Some other → met ≡ other
 as_some met other h = cc
 
 -- the same by a call's answer
-answered : {T : Type 0} (a : Around) (store : StoreState) (keeper : KeeperTelling) (result : Result T Fault) (made : List (List Record)) → KeepsName a.desk.store made
+answered : {T : Type 0} (a : Around) (store : StoreState) (keeper : KeeperState) (result : Result T Fault) (made : List (List Record)) → KeepsName a.desk.store made
     → IsChanged a.desk.store store a.keeper.octets keeper.octets (fault_of result) made → HasKeeperCause a.keeper keeper result fault.Keeper → ¬ (result ≡ Err fault.Wire) → Keeps a (with_store a store keeper) (fault_of result)
 answered a store keeper (Ok x) made named changed cause wire =
     changed_keeps a store keeper None made named changed (record { later = cause.later; rose = λ bad. absurd cc; sure = λ sure. ((cause.sure sure).0, λ bad. cc) }) (λ bad. cc)
@@ -185,32 +185,32 @@ answered a store keeper (Err met) made named changed cause wire =
       sure = λ sure. ((cause.sure sure).0, λ is. (cause.sure sure).1 (rw (met_is (Unit {0}) met fault.Keeper (Err met) refl is) refl));
     }) (λ is. wire (rw (as_some met fault.Wire is) refl))
 
-pub deliver_keeps : {T : Type 0} (a : Around) (store : StoreState) (keeper : KeeperTelling) (result : Result T Fault) (delivery : Delivery)
+pub deliver_keeps : {T : Type 0} (a : Around) (store : StoreState) (keeper : KeeperState) (result : Result T Fault) (delivery : Delivery)
     → IsChanged a.desk.store store a.keeper.octets keeper.octets (fault_of result) (changes_of a.desk.store delivery) → HasKeeperCause a.keeper keeper result fault.Keeper → ¬ (result ≡ Err fault.Wire)
     → Keeps a (with_store a store keeper) (fault_of result)
 deliver_keeps a store keeper result delivery = answered a store keeper result (changes_of a.desk.store delivery) (delivery_name a.desk.store delivery)
 
-pub expunge_keeps : {T : Type 0} (a : Around) (store : StoreState) (keeper : KeeperTelling) (result : Result T Fault) (ids : List ℕ)
+pub expunge_keeps : {T : Type 0} (a : Around) (store : StoreState) (keeper : KeeperState) (result : Result T Fault) (ids : List ℕ)
     → IsChanged a.desk.store store a.keeper.octets keeper.octets (fault_of result) (calls_of (expunged ids)) → HasKeeperCause a.keeper keeper result fault.Keeper → ¬ (result ≡ Err fault.Wire)
     → Keeps a (with_store a store keeper) (fault_of result)
 expunge_keeps a store keeper result ids = answered a store keeper result (calls_of (expunged ids)) (expunged_name a.desk.store ids)
 
-pub flags_keeps : {T : Type 0} (a : Around) (store : StoreState) (keeper : KeeperTelling) (result : Result T Fault) (id flags : ℕ)
+pub flags_keeps : {T : Type 0} (a : Around) (store : StoreState) (keeper : KeeperState) (result : Result T Fault) (id flags : ℕ)
     → IsChanged a.desk.store store a.keeper.octets keeper.octets (fault_of result) ((records.Flags id flags ∷ []) ∷ []) → HasKeeperCause a.keeper keeper result fault.Keeper → ¬ (result ≡ Err fault.Wire)
     → Keeps a (with_store a store keeper) (fault_of result)
 flags_keeps a store keeper result id flags = answered a store keeper result ((records.Flags id flags ∷ []) ∷ []) (flags_name a.desk.store id flags)
 
-pub settle_keeps : {T : Type 0} (a : Around) (store : StoreState) (keeper : KeeperTelling) (result : Result T Fault) (entry index : ℕ)
+pub settle_keeps : {T : Type 0} (a : Around) (store : StoreState) (keeper : KeeperState) (result : Result T Fault) (entry index : ℕ)
     → IsChanged a.desk.store store a.keeper.octets keeper.octets (fault_of result) ((records.Settle entry index ∷ []) ∷ []) → HasKeeperCause a.keeper keeper result fault.Keeper → ¬ (result ≡ Err fault.Wire)
     → Keeps a (with_store a store keeper) (fault_of result)
 settle_keeps a store keeper result entry index = answered a store keeper result ((records.Settle entry index ∷ []) ∷ []) (settle_name a.desk.store entry index)
 
-pub folder_keeps : {T : Type 0} (a : Around) (store : StoreState) (keeper : KeeperTelling) (result : Result T Fault) (account : ℕ) (name : List ℕ)
+pub folder_keeps : {T : Type 0} (a : Around) (store : StoreState) (keeper : KeeperState) (result : Result T Fault) (account : ℕ) (name : List ℕ)
     → IsChanged a.desk.store store a.keeper.octets keeper.octets (fault_of result) (folder_changes a.desk.store account name) → HasKeeperCause a.keeper keeper result fault.Keeper → ¬ (result ≡ Err fault.Wire)
     → Keeps a (with_store a store keeper) (fault_of result)
 folder_keeps a store keeper result account name = answered a store keeper result (folder_changes a.desk.store account name) (folder_name a.desk.store account name)
 
-pub append_keeps : {T : Type 0} (a : Around) (store : StoreState) (keeper : KeeperTelling) (result : Result T Fault) (folder flags : ℕ) (date octets : List ℕ)
+pub append_keeps : {T : Type 0} (a : Around) (store : StoreState) (keeper : KeeperState) (result : Result T Fault) (folder flags : ℕ) (date octets : List ℕ)
     → IsChanged a.desk.store store a.keeper.octets keeper.octets (fault_of result) (append_changes a.desk.store folder flags date octets) → HasKeeperCause a.keeper keeper result fault.Keeper → ¬ (result ≡ Err fault.Wire)
     → Keeps a (with_store a store keeper) (fault_of result)
 append_keeps a store keeper result folder flags date octets = answered a store keeper result (append_changes a.desk.store folder flags date octets) (append_name a.desk.store folder flags date octets)

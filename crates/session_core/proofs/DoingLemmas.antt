@@ -5,7 +5,7 @@ use Rattle.std.specs.List.{flat_map}
 use Rattle.mail_wire.specs.declared.outside.Fault.{Fault}
 use Rattle.mail_wire.specs.declared.outside.Fault.TheVariants as fault
 use Rattle.mail_wire.specs.Moves.{GivesOrFails}
-use Rattle.mail_wire.specs.Telling.{Telling}
+use Rattle.mail_wire.specs.WireState.{WireState}
 use Rattle.mail_wire.proofs.Moving.{Gives-nil, Gives-trans, GivesPrefix-nil}
 use Rattle.session_core.specs.Acts.{Act, gives as gives_part, acts_of, asked_in, changes_in}
 use Rattle.session_core.specs.Done.{given_by, StopsIn}
@@ -40,8 +40,8 @@ DoesFirst-between spelled a b c met xs ys more one two = record {
 }
 
 -- a fault in acts behind others that were done
-pub DoesFirst-behind : {P : Type 0} (spelled : P → List ℕ) (a b c : Around) (met : Fault) (xs ys : List (Act P)) → DoesAll spelled a b xs → DoesFirst spelled b c met ys → DoesFirst spelled a c met (xs ++ ys)
-DoesFirst-behind spelled a b c met xs ys one two = rw append-nil at (DoesFirst-between spelled a b c met xs ys [] one two)
+pub DoesFirst-following : {P : Type 0} (spelled : P → List ℕ) (a b c : Around) (met : Fault) (xs ys : List (Act P)) → DoesAll spelled a b xs → DoesFirst spelled b c met ys → DoesFirst spelled a c met (xs ++ ys)
+DoesFirst-following spelled a b c met xs ys one two = rw append-nil at (DoesFirst-between spelled a b c met xs ys [] one two)
 
 -- a fault in the first of these acts
 pub DoesFirst-before : {P : Type 0} (spelled : P → List ℕ) (a b : Around) (met : Fault) (xs ys : List (Act P)) → DoesFirst spelled a b met xs → DoesFirst spelled a b met (xs ++ ys)
@@ -50,7 +50,7 @@ DoesFirst-before spelled a b met xs ys first = DoesFirst-between spelled a a b m
 -- acts behind others
 pub Does-then : {P : Type 0} (spelled : P → List ℕ) (a b c : Around) (met : Option Fault) (xs ys : List (Act P)) → DoesAll spelled a b xs → Does spelled b c met ys → Does spelled a c met (xs ++ ys)
 Does-then spelled a b c None xs ys one two = DoesAll-then spelled a b c xs ys one two
-Does-then spelled a b c (Some met) xs ys one two = DoesFirst-behind spelled a b c met xs ys one two
+Does-then spelled a b c (Some met) xs ys one two = DoesFirst-following spelled a b c met xs ys one two
 
 -- a fault before anything was done
 pub DoesFirst-none : {P : Type 0} (spelled : P → List ℕ) (a : Around) (met : Fault) (acts : List (Act P)) → (met ≡ fault.Keeper → ⊥) → DoesFirst spelled a a met acts
@@ -66,7 +66,7 @@ LeavesDesk-nil a = record { desk = refl; keeper = refl }
 pub LeavesDesk-then : (a b c : Around) → LeavesDesk a b → LeavesDesk b c → LeavesDesk a c
 LeavesDesk-then a b c one two = record { desk = two.desk ∙ one.desk; keeper = two.keeper ∙ one.keeper }
 
-answered_as : (T : Type 0) (result : Result T Fault) (before now : Telling) (octets : List ℕ) → GivesOrFails before now result octets → GivesOrFails before now (answer_of (fault_of result)) octets
+answered_as : (T : Type 0) (result : Result T Fault) (before now : WireState) (octets : List ℕ) → GivesOrFails before now result octets → GivesOrFails before now (answer_of (fault_of result)) octets
 answered_as T (Ok x) before now octets gives = gives
 answered_as T (Err met) before now octets gives = gives
 

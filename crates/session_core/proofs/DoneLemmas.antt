@@ -123,8 +123,8 @@ StopsIn-asked spelled old had asked reply given missing whole = record {
 
 -- ---- acts behind others, and before others
 
-behind_and_before : {A : Type 0} (front done mid left more : List A) → front ++ ((done ++ (mid ++ left)) ++ more) ≡ (front ++ done) ++ (mid ++ (left ++ more))
-behind_and_before front done mid left more =
+after_and_before : {A : Type 0} (front done mid left more : List A) → front ++ ((done ++ (mid ++ left)) ++ more) ≡ (front ++ done) ++ (mid ++ (left ++ more))
+after_and_before front done mid left more =
     ap (λ l. front ++ l) (append_assoc done (mid ++ left) more ∙ ap (λ l. done ++ l) (append_assoc mid left more)) ∙ sym (append_assoc front done (mid ++ (left ++ more)))
 
 front_given : {P : Type 0} (spelled : P → List ℕ) (front done : List (Act P)) (begun : List ℕ) → given_by spelled front ++ (given_by spelled done ++ begun) ≡ given_by spelled (front ++ done) ++ begun
@@ -138,7 +138,7 @@ StopsIn-more spelled old mid new had has having front acts more given first stop
   done = front ++ stops.done;
   cut = stops.cut;
   left = stops.left ++ more;
-  acts_are = ap (λ l. front ++ (l ++ more)) stops.acts_are ∙ behind_and_before front stops.done stops.cut stops.left more;
+  acts_are = ap (λ l. front ++ (l ++ more)) stops.acts_are ∙ after_and_before front stops.done stops.cut stops.left more;
   unchanged = stops.unchanged;
   begun = stops.begun;
   missing = stops.missing;
@@ -155,7 +155,7 @@ FailsIn-more spelled old mid new had has having front acts more given first fail
   done = front ++ fails.done;
   failing = fails.failing;
   left = fails.left ++ more;
-  acts_are = ap (λ l. front ++ (l ++ more)) fails.acts_are ∙ behind_and_before front fails.done (changes fails.failing ∷ []) fails.left more;
+  acts_are = ap (λ l. front ++ (l ++ more)) fails.acts_are ∙ after_and_before front fails.done (changes fails.failing ∷ []) fails.left more;
   given_is = ap (λ l. given_by spelled front ++ l) fails.given_is ∙ sym (given_by-append spelled front fails.done);
   breaks = rw (records_in-append front fails.done)
       (Breaks-more old mid new had has having (records_of (changes_in front)) (records_of (changes_in fails.done)) fails.failing first fails.breaks);

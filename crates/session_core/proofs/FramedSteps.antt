@@ -16,7 +16,7 @@ use Rattle.session_core.specs.Around.{Around}
 use Rattle.session_core.specs.laws.FramedLaws.{count_cut-some, count_cut-none, count_cut-zero, framed_by}
 use Rattle.session_core.specs.FramedRows.{framed_next}
 use Rattle.session_core.specs.Grammar.{Grammar, Answers, IsUnit, Refuses, StandingRows, StandsNext, count_cut, cut_by, protocol_of, turn_by}
-use Rattle.session_core.specs.Meanings.{Meanings}
+use Rattle.session_core.specs.Oracles.{Oracles}
 use Rattle.session_core.specs.Moments.{Moment, IsTold}
 use Rattle.session_core.specs.Steps.{IsReadyAfter, Standing, StandsAfter, Steps}
 use Rattle.session_core.specs.declared.desk.Desk.{Desk}
@@ -92,8 +92,8 @@ pub Steps-more : (grammar : Grammar) {R : Type 0} (stands : StandingRows grammar
 Steps-more grammar stands a machine kept keeps piece same = record {
   told = [];
   are_told = All-nil (IsTold a.clock);
-  steps = λ meanings are more state rest has.
-      StepsBy-waits (protocol_of grammar) (FramedStands grammar stands) meanings a (record { next = Some machine; used = length piece }) keeps piece more (rest ++ piece) state (rest ++ piece)
+  steps = λ oracles are more state rest has.
+      StepsBy-waits (protocol_of grammar) (FramedStands grammar stands) oracles a (record { next = Some machine; used = length piece }) keeps piece more (rest ++ piece) state (rest ++ piece)
       (has.0, rw (has.1, same) refl) (rw (drop-length piece, append-nil (rest ++ piece)) refl);
 }
 
@@ -108,9 +108,9 @@ next_ready wanted knows None used b known = tt
 next_ready wanted knows (Some rows) used b known = (none_kept (wanted rows), known)
 
 -- the turn at the head of what was kept and the piece
-head_turn : (grammar : Grammar) (meanings : Meanings) (state : grammar.S) (want : Wants) (kept piece rest : List ℕ) (framed : FramedOctets) → grammar.wants state ≡ Some want → rest ≡ kept → cut_by want (kept ++ piece) ≡ framed
-    → (protocol_of grammar).next meanings state (rest ++ piece) ≡ turn_by grammar meanings state framed
-head_turn grammar meanings state want kept piece rest framed wanted same is = rw (wanted, same, is) refl
+head_turn : (grammar : Grammar) (oracles : Oracles) (state : grammar.S) (want : Wants) (kept piece rest : List ℕ) (framed : FramedOctets) → grammar.wants state ≡ Some want → rest ≡ kept → cut_by want (kept ++ piece) ≡ framed
+    → (protocol_of grammar).next oracles state (rest ++ piece) ≡ turn_by grammar oracles state framed
+head_turn grammar oracles state want kept piece rest framed wanted same is = rw (wanted, same, is) refl
 
 -- a unit
 pub Steps-unit : (grammar : Grammar) {R : Type 0} (stands : StandingRows grammar R) (want : Wants) (a b : Around) (machine : Framed R) (kept piece unit : List ℕ) (n : ℕ) (next : Option R)
@@ -119,12 +119,12 @@ pub Steps-unit : (grammar : Grammar) {R : Type 0} (stands : StandingRows grammar
 Steps-unit grammar stands want a b machine kept piece unit n next agrees is answers = record {
   told = answers.told;
   are_told = answers.are_told;
-  steps = λ meanings are more state rest has.
-      let by = answers.answers meanings are more state has.0 in
-      StepsBy-turn (protocol_of grammar) (FramedStands grammar stands) meanings (framed_by grammar meanings) a b (record { next = framed_next next; used = n }) [] piece more [] state (rest ++ piece)
-      (record { parts = (grammar.row meanings state unit).acts; after = (grammar.row meanings state unit).after; rest = drop n piece })
-      (head_turn grammar meanings state want kept piece rest (whole unit (drop n piece)) (agrees (answers.told ++ more) state has.0) has.1 is)
-      by.does (next_stands grammar stands more next b.desk (grammar.row meanings state unit).after by.next) refl;
+  steps = λ oracles are more state rest has.
+      let by = answers.answers oracles are more state has.0 in
+      StepsBy-turn (protocol_of grammar) (FramedStands grammar stands) oracles (framed_by grammar oracles) a b (record { next = framed_next next; used = n }) [] piece more [] state (rest ++ piece)
+      (record { parts = (grammar.row oracles state unit).acts; after = (grammar.row oracles state unit).after; rest = drop n piece })
+      (head_turn grammar oracles state want kept piece rest (whole unit (drop n piece)) (agrees (answers.told ++ more) state has.0) has.1 is)
+      by.does (next_stands grammar stands more next b.desk (grammar.row oracles state unit).after by.next) refl;
 }
 
 -- a fault in its row
@@ -134,25 +134,25 @@ pub Steps-unit_fails : (grammar : Grammar) {R : Type 0} (stands : StandingRows g
 Steps-unit_fails grammar stands want a b machine kept keeps piece unit n met agrees is answers = record {
   told = answers.told;
   are_told = answers.are_told;
-  steps = λ meanings are more state rest has.
-      let by = answers.answers meanings are more state has.0 in
-      StepsBy-fails (protocol_of grammar) (FramedStands grammar stands) meanings (framed_by grammar meanings) a b keeps piece more met state (rest ++ piece)
-      (record { parts = (grammar.row meanings state unit).acts; after = (grammar.row meanings state unit).after; rest = drop n piece })
-      (head_turn grammar meanings state want kept piece rest (whole unit (drop n piece)) (agrees (answers.told ++ more) state has.0) has.1 is) by.does;
+  steps = λ oracles are more state rest has.
+      let by = answers.answers oracles are more state has.0 in
+      StepsBy-fails (protocol_of grammar) (FramedStands grammar stands) oracles (framed_by grammar oracles) a b keeps piece more met state (rest ++ piece)
+      (record { parts = (grammar.row oracles state unit).acts; after = (grammar.row oracles state unit).after; rest = drop n piece })
+      (head_turn grammar oracles state want kept piece rest (whole unit (drop n piece)) (agrees (answers.told ++ more) state has.0) has.1 is) by.does;
 }
 
 -- a line that is too long
-pub Steps-long : (grammar : Grammar) {R : Type 0} (stands : StandingRows grammar R) → ((meanings : Meanings) (state : grammar.S) → grammar.wants (grammar.long_row meanings state).after ≡ None) → (want : Wants) (a b : Around) (machine : Framed R)
+pub Steps-long : (grammar : Grammar) {R : Type 0} (stands : StandingRows grammar R) → ((oracles : Oracles) (state : grammar.S) → grammar.wants (grammar.long_row oracles state).after ≡ None) → (want : Wants) (a b : Around) (machine : Framed R)
     (kept keeps piece left : List ℕ) → Agrees grammar stands machine.rows a.desk want → cut_by want (kept ++ piece) ≡ too_long left → Refuses grammar stands a b machine.rows (Ok tt)
     → Steps (protocol_of grammar) (FramedStands grammar stands) a b machine kept keeps piece (Ok (record { next = None; used = length piece }))
 Steps-long grammar stands ends want a b machine kept keeps piece left agrees is refuses = record {
   told = [];
   are_told = All-nil (IsTold a.clock);
-  steps = λ meanings are more state rest has.
-      StepsBy-turn (protocol_of grammar) (FramedStands grammar stands) meanings (framed_by grammar meanings) a b (record { next = None; used = length piece }) keeps piece more left state (rest ++ piece)
-      (record { parts = (grammar.long_row meanings state).acts; after = (grammar.long_row meanings state).after; rest = left })
-      (head_turn grammar meanings state want kept piece rest (too_long left) (agrees more state has.0) has.1 is)
-      (refuses meanings are more state has.0) (ends meanings state) (rw (drop-length piece, append-nil left) refl);
+  steps = λ oracles are more state rest has.
+      StepsBy-turn (protocol_of grammar) (FramedStands grammar stands) oracles (framed_by grammar oracles) a b (record { next = None; used = length piece }) keeps piece more left state (rest ++ piece)
+      (record { parts = (grammar.long_row oracles state).acts; after = (grammar.long_row oracles state).after; rest = left })
+      (head_turn grammar oracles state want kept piece rest (too_long left) (agrees more state has.0) has.1 is)
+      (refuses oracles are more state has.0) (ends oracles state) (rw (drop-length piece, append-nil left) refl);
 }
 
 pub Steps-long_fails : (grammar : Grammar) {R : Type 0} (stands : StandingRows grammar R) (want : Wants) (a b : Around) (machine : Framed R) (kept keeps piece left : List ℕ) (met : Fault)
@@ -161,8 +161,8 @@ pub Steps-long_fails : (grammar : Grammar) {R : Type 0} (stands : StandingRows g
 Steps-long_fails grammar stands want a b machine kept keeps piece left met agrees is refuses = record {
   told = [];
   are_told = All-nil (IsTold a.clock);
-  steps = λ meanings are more state rest has.
-      StepsBy-fails (protocol_of grammar) (FramedStands grammar stands) meanings (framed_by grammar meanings) a b keeps piece more met state (rest ++ piece)
-      (record { parts = (grammar.long_row meanings state).acts; after = (grammar.long_row meanings state).after; rest = left })
-      (head_turn grammar meanings state want kept piece rest (too_long left) (agrees more state has.0) has.1 is) (refuses meanings are more state has.0);
+  steps = λ oracles are more state rest has.
+      StepsBy-fails (protocol_of grammar) (FramedStands grammar stands) oracles (framed_by grammar oracles) a b keeps piece more met state (rest ++ piece)
+      (record { parts = (grammar.long_row oracles state).acts; after = (grammar.long_row oracles state).after; rest = left })
+      (head_turn grammar oracles state want kept piece rest (too_long left) (agrees more state has.0) has.1 is) (refuses oracles are more state has.0);
 }

@@ -1,6 +1,6 @@
 -- What several calls leave as it was.
 use Rattle.std.proofs.Common.{◌≡◌, Option, None, Some, Result, refl, ◌∙◌, arith}
-use Rattle.mail_wire.specs.KeeperTelling.{KeeperTelling}
+use Rattle.mail_wire.specs.KeeperState.{KeeperState}
 use Rattle.mail_wire.specs.Keeping.{HasKeeperCause}
 use Rattle.mail_wire.specs.declared.outside.Fault.{Fault}
 use Rattle.mail_wire.specs.declared.outside.Fault.TheVariants as fault
@@ -11,10 +11,10 @@ use Rattle.session_core.specs.Keeps.{Keeps, answer_of}
 
 -- ---- the keeper
 
-pub keeper_still : (a : KeeperTelling) → HasKeeperCause a a (answer_of None) fault.Keeper
+pub keeper_still : (a : KeeperState) → HasKeeperCause a a (answer_of None) fault.Keeper
 keeper_still a = record { later = omega arith; rose = λ bad. absurd cc; sure = λ sure. (sure, λ bad. cc) }
 
-keeper_then : (a b c : KeeperTelling) (met : Option Fault) → HasKeeperCause a b (answer_of None) fault.Keeper → HasKeeperCause b c (answer_of met) fault.Keeper → HasKeeperCause a c (answer_of met) fault.Keeper
+keeper_then : (a b c : KeeperState) (met : Option Fault) → HasKeeperCause a b (answer_of None) fault.Keeper → HasKeeperCause b c (answer_of met) fault.Keeper → HasKeeperCause a c (answer_of met) fault.Keeper
 keeper_then a b c met one two = record {
   later = let early = one.later in let late = two.later in omega arith;
   rose = λ failed. let early = one.later in let late = two.rose failed in omega arith;
@@ -22,7 +22,7 @@ keeper_then a b c met one two = record {
 }
 
 -- an answer that is no fault of the keeper
-pub keeper_fine : {T E : Type 0} (a b : KeeperTelling) (first : Result T E) (second : Option Fault) (met : E) → HasKeeperCause a b first met → ¬ (second ≡ Some fault.Keeper)
+pub keeper_fine : {T E : Type 0} (a b : KeeperState) (first : Result T E) (second : Option Fault) (met : E) → HasKeeperCause a b first met → ¬ (second ≡ Some fault.Keeper)
     → HasKeeperCause a b (answer_of second) fault.Keeper
 keeper_fine a b first None met one fine = record { later = one.later; rose = λ bad. absurd cc; sure = λ sure. ((one.sure sure).0, λ bad. cc) }
 keeper_fine a b first (Some fault.Keeper) met one fine = absurd (fine refl)

@@ -10,7 +10,7 @@ use Rattle.address_lists.proofs.PathPiecesLemmas.{paths_read}
 use Rattle.imap_grammar.proofs.DecidingDue.{commands_read}
 use Rattle.imap_mailboxes.proofs.ReadMailboxes.{mailboxes_read}
 use Rattle.imap_views.proofs.GivenViews.{outlines_given, views_given}
-use Rattle.session_core.specs.Meanings.{Meanings, AreMeanings}
+use Rattle.session_core.specs.Oracles.{Oracles, AreOracles}
 
 -- octets have a tree of entities, or none
 abbrev Decided : List ℕ → Type 0
@@ -27,8 +27,8 @@ unfolding told
 told_is octets (inl tree) = (λ is. record { entities = tree.0; tree = tree.1 }, λ stored. search rules)
 told_is octets (inr none) = (λ is. absurd (search rules), λ stored. absurd (none stored.entities stored.tree))
 
-pub meanings_given : (meanings : Meanings) × AreMeanings meanings
-meanings_given = (
+pub oracles_given : (oracles : Oracles) × AreOracles oracles
+oracles_given = (
   record {
     surrogate = surrogates_given.0;
     path_of = paths_read.0;

@@ -7,8 +7,8 @@ use Rattle.std.proofs.lemmas.Option.{IfSome_then}
 use Rattle.mail_wire.specs.declared.outside.Fault.{Fault}
 use Rattle.mail_wire.specs.declared.outside.Fault.TheVariants as fault
 use Rattle.mail_wire.specs.declared.traffic.TheConstants.{PIECE}
-use Rattle.mail_wire.specs.Telling.{Telling}
-use Rattle.session_core.specs.Turns.{Turn, IsFramed, stay, behind, all_turns}
+use Rattle.mail_wire.specs.WireState.{WireState}
+use Rattle.session_core.specs.Turns.{Turn, IsFramed, stay, following, all_turns}
 use Rattle.mail_wire.specs.Transcript.{taken_of}
 use Rattle.mail_wire.specs.Moves.{TakesPiece, TakesNothing}
 use Rattle.mail_wire.proofs.AllLemmas.{all-append}
@@ -23,11 +23,11 @@ use Rattle.session_core.proofs.DoneLemmas.{IsDone-more, asked_in-append, given_b
 use Rattle.mail_store.proofs.FollowLemmas.{Follows-more}
 use Rattle.session_core.specs.Around.{Around, LeavesDesk}
 use Rattle.session_core.specs.Desks.{IsOpen}
-use Rattle.session_core.specs.Meanings.{Meanings, AreMeanings, WithMeanings}
+use Rattle.session_core.specs.Oracles.{Oracles, AreOracles, WithOracles}
 use Rattle.session_core.specs.Moments.{Moment, IsTold}
 use Rattle.session_core.specs.Protocol.{Protocol, IsFitTurn}
 use Rattle.session_core.specs.Served.{met_of, served_of}
-use Rattle.session_core.specs.Serving.{Course, course_of, turns_for, acts_for, asked_for, replies_to, changes_by, EndsBy, IsSent, IsPrefixOf, MayTake, ServesLawfully, Serves, ServesBy, ServesFrom}
+use Rattle.session_core.specs.Serving.{Instance, instance_of, turns_for, acts_for, asked_for, replies_to, changes_by, EndsBy, IsSent, IsPrefixOf, MayTake, ServesLawfully, Serves, ServesBy, ServesFrom}
 use Rattle.session_core.specs.Sessions.{BeginsSession, Feeds, FeedsBy, HasEnded, StandsFor}
 use Rattle.session_core.specs.Steps.{Standing}
 use Rattle.session_core.specs.declared.desk.Desk.{Desk}
@@ -45,12 +45,12 @@ use Rattle.session_core.proofs.TranscriptLemmas.{Grows, Serving, Halfway, Halfwa
 -- What holds of every machine: a turn doesn't depend on what comes later, a machine stands for no end, after which nothing comes, and what
 -- is given may be sent.
 pub record AreLaws (protocol : Protocol) {M : Type 0} (stands : Standing protocol M) : Type 0 where
-  pub framed : (meanings : Meanings) → AreMeanings meanings → IsFramed (protocol.next meanings)
+  pub framed : (oracles : Oracles) → AreOracles oracles → IsFramed (protocol.next oracles)
   pub goes_on : (more : List Moment) (machine : M) (kept : List ℕ) (desk : Desk) (state : protocol.S) (rest : List ℕ) → stands more machine kept desk state rest → ¬ protocol.HasEnded state
   pub quiet : Quiet protocol
-  pub begins_fit : (meanings : Meanings) → AreMeanings meanings → (moments : List Moment) (desk : Desk) → IsOpen desk
-      → IsFitTurn protocol meanings (record { parts = protocol.opening desk.store; after = protocol.start moments desk.store; rest = [] })
-  pub fits : (meanings : Meanings) → AreMeanings meanings → TurnsFit protocol meanings
+  pub begins_fit : (oracles : Oracles) → AreOracles oracles → (moments : List Moment) (desk : Desk) → IsOpen desk
+      → IsFitTurn protocol oracles (record { parts = protocol.opening desk.store; after = protocol.start moments desk.store; rest = [] })
+  pub fits : (oracles : Oracles) → AreOracles oracles → TurnsFit protocol oracles
 
 -- what a session that stands for an end is
 ended_session : (protocol : Protocol) {M : Type 0} (stands : Standing protocol M) → AreLaws protocol stands → (more : List Moment) (at : Session M) (desk : Desk) (state : protocol.S) (rest : List ℕ)
@@ -66,40 +66,40 @@ ended_state protocol stands more session.Ended desk state rest stood is = stood
 -- ---- a stream and a piece behind it
 
 -- the turns of a piece behind a stream
-abbrev pub piece_turn : (course : Course) → StoreState → List ℕ → List ℕ → Turn course.S (Act course.P)
-piece_turn course store octets piece = all_turns course.next (turns_for course store octets).after ((turns_for course store octets).rest ++ piece)
+abbrev pub piece_turn : (instance : Instance) → StoreState → List ℕ → List ℕ → Turn instance.S (Act instance.P)
+piece_turn instance store octets piece = all_turns instance.next (turns_for instance store octets).after ((turns_for instance store octets).rest ++ piece)
 
-turns_for-append : (course : Course) → IsFramed course.next → (store : StoreState) (octets piece : List ℕ)
-    → turns_for course store (octets ++ piece) ≡ behind (turns_for course store octets).parts (piece_turn course store octets piece)
-turns_for-append course framed store octets piece = all_turns-append course.next framed (course.start store) octets piece
+turns_for-append : (instance : Instance) → IsFramed instance.next → (store : StoreState) (octets piece : List ℕ)
+    → turns_for instance store (octets ++ piece) ≡ following (turns_for instance store octets).parts (piece_turn instance store octets piece)
+turns_for-append instance framed store octets piece = all_turns-append instance.next framed (instance.start store) octets piece
 
-acts_for-append : (course : Course) → IsFramed course.next → (store : StoreState) (octets piece : List ℕ)
-    → acts_for course store (octets ++ piece) ≡ acts_for course store octets ++ (piece_turn course store octets piece).parts
-acts_for-append course framed store octets piece =
-    ap (λ (turn : Turn course.S (Act course.P)). course.opening store ++ turn.parts) (turns_for-append course framed store octets piece)
-    ∙ sym (append_assoc (course.opening store) (turns_for course store octets).parts (piece_turn course store octets piece).parts)
+acts_for-append : (instance : Instance) → IsFramed instance.next → (store : StoreState) (octets piece : List ℕ)
+    → acts_for instance store (octets ++ piece) ≡ acts_for instance store octets ++ (piece_turn instance store octets piece).parts
+acts_for-append instance framed store octets piece =
+    ap (λ (turn : Turn instance.S (Act instance.P)). instance.opening store ++ turn.parts) (turns_for-append instance framed store octets piece)
+    ∙ sym (append_assoc (instance.opening store) (turns_for instance store octets).parts (piece_turn instance store octets piece).parts)
 
-replies_to-append : (course : Course) → IsFramed course.next → (store : StoreState) (octets piece : List ℕ)
-    → replies_to course store (octets ++ piece) ≡ replies_to course store octets ++ given_by course.spelled (piece_turn course store octets piece).parts
-replies_to-append course framed store octets piece =
-    ap (given_by course.spelled) (acts_for-append course framed store octets piece)
-    ∙ given_by-append course.spelled (acts_for course store octets) (piece_turn course store octets piece).parts
+replies_to-append : (instance : Instance) → IsFramed instance.next → (store : StoreState) (octets piece : List ℕ)
+    → replies_to instance store (octets ++ piece) ≡ replies_to instance store octets ++ given_by instance.spelled (piece_turn instance store octets piece).parts
+replies_to-append instance framed store octets piece =
+    ap (given_by instance.spelled) (acts_for-append instance framed store octets piece)
+    ∙ given_by-append instance.spelled (acts_for instance store octets) (piece_turn instance store octets piece).parts
 
-grows : (course : Course) → IsFramed course.next → (store : StoreState) → Grows (replies_to course store)
-grows course framed store xs ys = (given_by course.spelled (piece_turn course store xs ys).parts, replies_to-append course framed store xs ys)
+grows : (instance : Instance) → IsFramed instance.next → (store : StoreState) → Grows (replies_to instance store)
+grows instance framed store xs ys = (given_by instance.spelled (piece_turn instance store xs ys).parts, replies_to-append instance framed store xs ys)
 
-turns_for-nil : (course : Course) (store : StoreState) → turns_for course store [] ≡ stay (course.start store) []
+turns_for-nil : (instance : Instance) (store : StoreState) → turns_for instance store [] ≡ stay (instance.start store) []
 unfolding Rattle.session_core.specs.Turns.turns
-turns_for-nil course store = refl
+turns_for-nil instance store = refl
 
-acts_for-nil : (course : Course) (store : StoreState) → acts_for course store [] ≡ course.opening store
-acts_for-nil course store =
-    ap (λ (turn : Turn course.S (Act course.P)). course.opening store ++ turn.parts) (turns_for-nil course store) ∙ append-nil (course.opening store)
+acts_for-nil : (instance : Instance) (store : StoreState) → acts_for instance store [] ≡ instance.opening store
+acts_for-nil instance store =
+    ap (λ (turn : Turn instance.S (Act instance.P)). instance.opening store ++ turn.parts) (turns_for-nil instance store) ∙ append-nil (instance.opening store)
 
 -- ---- what was done
 
-behind_begun : (a b c d : List ℕ) → a ++ ((b ++ c) ++ d) ≡ (a ++ b) ++ (c ++ d)
-behind_begun a b c d = ap (λ l. a ++ l) (append_assoc b c d) ∙ sym (append_assoc a b (c ++ d))
+after_begun : (a b c d : List ℕ) → a ++ ((b ++ c) ++ d) ≡ (a ++ b) ++ (c ++ d)
+after_begun a b c d = ap (λ l. a ++ l) (append_assoc b c d) ∙ sym (append_assoc a b (c ++ d))
 
 stops_begins : {P : Type 0} (spelled : P → List ℕ) (old new : StoreState) (had has : Option (List ℕ)) (acts : List (Act P)) (given : List ℕ) → StopsIn spelled old new had has acts given
     → IsPrefixOf given (given_by spelled acts)
@@ -108,7 +108,7 @@ stops_begins spelled old new had has acts given stops =
       stops.missing ++ left,
       ap (given_by spelled) stops.acts_are ∙ given_by-append spelled stops.done (stops.cut ++ stops.left)
           ∙ ap (λ l. given_by spelled stops.done ++ l) (given_by-append spelled stops.cut stops.left ∙ ap (λ l. l ++ left) stops.cut_is)
-          ∙ behind_begun (given_by spelled stops.done) stops.begun stops.missing left ∙ ap (λ l. l ++ (stops.missing ++ left)) (sym stops.given_is),
+          ∙ after_begun (given_by spelled stops.done) stops.begun stops.missing left ∙ ap (λ l. l ++ (stops.missing ++ left)) (sym stops.given_is),
     )
 
 fails_begins : {P : Type 0} (spelled : P → List ℕ) (old new : StoreState) (had has : Option (List ℕ)) (acts : List (Act P)) (given : List ℕ) → FailsIn spelled old new had has acts given
@@ -151,30 +151,30 @@ never_limit is = cc
 
 -- ---- what was served so far, by its answer
 
-lawfully : (course : Course) → IsFramed course.next → (store after : StoreState) (had has : Option (List ℕ)) (served : Served) (max : ℕ) (a b : Telling) (taken given : List ℕ) → length taken ≤ max
-    → (half : Halfway (replies_to course store) (MayTake course store) a b taken given) → IsDone course.spelled store after had has (met_of served) (acts_for course store taken) given
-    → (lawful : ServesLawfully course store after had has served max a b) × (taken_of lawful.entries ≡ taken)
-lawfully course framed store after had has served max a b taken given few half done = (
+lawfully : (instance : Instance) → IsFramed instance.next → (store after : StoreState) (had has : Option (List ℕ)) (served : Served) (max : ℕ) (a b : WireState) (taken given : List ℕ) → length taken ≤ max
+    → (half : Halfway (replies_to instance store) (MayTake instance store) a b taken given) → IsDone instance.spelled store after had has (met_of served) (acts_for instance store taken) given
+    → (lawful : ServesLawfully instance store after had has served max a b) × (taken_of lawful.entries ≡ taken)
+lawfully instance framed store after had has served max a b taken given few half done = (
   record {
     entries = half.entries;
     moves = half.moves;
     lawful = half.lawful;
     takes = half.takes;
     few = rw half.taken_is few;
-    begun = rw half.given_is (begins_answer (replies_to course store) (MayTake course store) a b taken given (grows course framed store) half
-        (done_begins course.spelled store after had has (met_of served) (acts_for course store taken) given done));
+    begun = rw half.given_is (begins_answer (replies_to instance store) (MayTake instance store) a b taken given (grows instance framed store) half
+        (done_begins instance.spelled store after had has (met_of served) (acts_for instance store taken) given done));
     done = rw (half.taken_is, half.given_is) done;
   },
   half.taken_is,
 )
 
 -- a fault broke it off
-broken_off : (course : Course) → IsFramed course.next → (a b : Around) (met : Fault) (taken given : List ℕ) → length taken ≤ a.desk.limits.session_max
-    → Halfway (replies_to course a.desk.store) (MayTake course a.desk.store) a.wire b.wire taken given
-    → IsDone course.spelled a.desk.store b.desk.store a.keeper.octets b.keeper.octets (Some met) (acts_for course a.desk.store taken) given → ServesFrom course a b (served_of (Err met))
-broken_off course framed a b met taken given few half done = record {
+broken_off : (instance : Instance) → IsFramed instance.next → (a b : Around) (met : Fault) (taken given : List ℕ) → length taken ≤ a.desk.limits.session_max
+    → Halfway (replies_to instance a.desk.store) (MayTake instance a.desk.store) a.wire b.wire taken given
+    → IsDone instance.spelled a.desk.store b.desk.store a.keeper.octets b.keeper.octets (Some met) (acts_for instance a.desk.store taken) given → ServesFrom instance a b (served_of (Err met))
+broken_off instance framed a b met taken given few half done = record {
   serves = record {
-    lawful = (lawfully course framed a.desk.store b.desk.store a.keeper.octets b.keeper.octets (served_of (Err met)) a.desk.limits.session_max a.wire b.wire taken given few half (rw answered done)).0;
+    lawful = (lawfully instance framed a.desk.store b.desk.store a.keeper.octets b.keeper.octets (served_of (Err met)) a.desk.limits.session_max a.wire b.wire taken given few half (rw answered done)).0;
     ended = λ is. absurd (not_ended met is);
     limit = λ is. absurd (not_limit met is);
   };
@@ -185,35 +185,35 @@ broken_off course framed a b met taken given few half done = record {
 -- ---- what holds between two takes
 
 -- All that was taken is answered, its changes are made, what it asks for is fetched, and the session stands for what follows.
-pub record GoesBy (protocol : Protocol) {M : Type 0} (stands : Standing protocol M) (meanings : Meanings) (moments more : List Moment) (a b : Around) (at : Session M) (taken : ℕ) : Type 0 where
+pub record GoesBy (protocol : Protocol) {M : Type 0} (stands : Standing protocol M) (oracles : Oracles) (moments more : List Moment) (a b : Around) (at : Session M) (taken : ℕ) : Type 0 where
   pub octets : List ℕ
-  pub serving : Serving (replies_to (course_of protocol meanings moments) a.desk.store) (MayTake (course_of protocol meanings moments) a.desk.store) a.wire b.wire octets
-  pub stood : StandsFor protocol stands more at b.desk (turns_for (course_of protocol meanings moments) a.desk.store octets).after (turns_for (course_of protocol meanings moments) a.desk.store octets).rest
-  pub follows : Follows a.desk.store b.desk.store a.keeper.octets b.keeper.octets (records_of (changes_by (course_of protocol meanings moments) a.desk.store octets))
-  pub fetched : Fetched a.desk.cache (asked_for (course_of protocol meanings moments) a.desk.store octets) b.desk.cache
+  pub serving : Serving (replies_to (instance_of protocol oracles moments) a.desk.store) (MayTake (instance_of protocol oracles moments) a.desk.store) a.wire b.wire octets
+  pub stood : StandsFor protocol stands more at b.desk (turns_for (instance_of protocol oracles moments) a.desk.store octets).after (turns_for (instance_of protocol oracles moments) a.desk.store octets).rest
+  pub follows : Follows a.desk.store b.desk.store a.keeper.octets b.keeper.octets (records_of (changes_by (instance_of protocol oracles moments) a.desk.store octets))
+  pub fetched : Fetched a.desk.cache (asked_for (instance_of protocol oracles moments) a.desk.store octets) b.desk.cache
   pub count : length octets ≡ taken
 
 -- The same whatever is meant, with moments that the clock told, and whatever moments are to come.
 pub record Goes (protocol : Protocol) {M : Type 0} (stands : Standing protocol M) (a b : Around) (at : Session M) (taken : ℕ) : Type 0 where
   pub told : List Moment
   pub are_told : All (IsTold a.clock) told
-  pub goes : WithMeanings (λ meanings. (more : List Moment) → GoesBy protocol stands meanings (told ++ more) more a b at taken)
+  pub goes : WithOracles (λ oracles. (more : List Moment) → GoesBy protocol stands oracles (told ++ more) more a b at taken)
 
 -- the session has begun
 pub goes_first : (protocol : Protocol) {M : Type 0} (stands : Standing protocol M) (a b : Around) (at : Session M) → BeginsSession protocol stands a b (Ok at) → Goes protocol stands a b at 0
 goes_first protocol stands a b at begins = record {
   told = [];
   are_told = All-nil (IsTold a.clock);
-  goes = λ meanings are more.
-      let course = course_of protocol meanings more in
-      let none = acts_for-nil course a.desk.store in
-      let does = begins.does meanings are in
+  goes = λ oracles are more.
+      let instance = instance_of protocol oracles more in
+      let none = acts_for-nil instance a.desk.store in
+      let does = begins.does oracles are in
       record {
         octets = [];
-        serving = Serving-of (replies_to course a.desk.store) (MayTake course a.desk.store) a.wire b.wire [] (given_by course.spelled (course.opening a.desk.store))
-            (Halfway-first (replies_to course a.desk.store) (MayTake course a.desk.store) a.wire b.wire (given_by course.spelled (course.opening a.desk.store)) does.gives)
-            (sym (ap (given_by course.spelled) none));
-        stood = rw (turns_for-nil course a.desk.store) (begins.stands_for more);
+        serving = Serving-of (replies_to instance a.desk.store) (MayTake instance a.desk.store) a.wire b.wire [] (given_by instance.spelled (instance.opening a.desk.store))
+            (Halfway-first (replies_to instance a.desk.store) (MayTake instance a.desk.store) a.wire b.wire (given_by instance.spelled (instance.opening a.desk.store)) does.gives)
+            (sym (ap (given_by instance.spelled) none));
+        stood = rw (turns_for-nil instance a.desk.store) (begins.stands_for more);
         follows = rw none does.follows;
         fetched = rw none does.fetched;
         count = refl;
@@ -224,46 +224,46 @@ taken_more : (octets into : List ℕ) (taken n : ℕ) → length octets ≡ take
 taken_more octets into taken n count low = length-append octets (take n into) ∙ (rw (count, length-take-le n into low) refl)
 
 -- a take of a session that goes on
-may_take : (protocol : Protocol) {M : Type 0} (stands : Standing protocol M) → AreLaws protocol stands → (meanings : Meanings) (moments more : List Moment) (a b : Around) (at : Session M) (taken n : ℕ) (into : List ℕ)
-    → (so : GoesBy protocol stands meanings moments more a b at taken) → (HasEnded at → ⊥) → n ≤ length into → n ≤ PIECE → MayTake (course_of protocol meanings moments) a.desk.store so.octets (take n into)
-may_take protocol stands laws meanings moments more a b at taken n into so still low most = record {
-  goes_on = λ ends. still (ended_session protocol stands laws more at b.desk (turns_for (course_of protocol meanings moments) a.desk.store so.octets).after (turns_for (course_of protocol meanings moments) a.desk.store so.octets).rest so.stood ends);
+may_take : (protocol : Protocol) {M : Type 0} (stands : Standing protocol M) → AreLaws protocol stands → (oracles : Oracles) (moments more : List Moment) (a b : Around) (at : Session M) (taken n : ℕ) (into : List ℕ)
+    → (so : GoesBy protocol stands oracles moments more a b at taken) → (HasEnded at → ⊥) → n ≤ length into → n ≤ PIECE → MayTake (instance_of protocol oracles moments) a.desk.store so.octets (take n into)
+may_take protocol stands laws oracles moments more a b at taken n into so still low most = record {
+  goes_on = λ ends. still (ended_session protocol stands laws more at b.desk (turns_for (instance_of protocol oracles moments) a.desk.store so.octets).after (turns_for (instance_of protocol oracles moments) a.desk.store so.octets).rest so.stood ends);
   piece = rw (length-take-le n into low) most;
 }
 
 -- what a piece brought was done
-more_by : (protocol : Protocol) {M : Type 0} (stands : Standing protocol M) → AreLaws protocol stands → (meanings : Meanings) → AreMeanings meanings → (moments sooner more : List Moment) (a b c d : Around) (at next : Session M)
-    (taken n : ℕ) (into : List ℕ) → (so : GoesBy protocol stands meanings moments sooner a b at taken) → (HasEnded at → ⊥) → LeavesDesk b c → TakesPiece b.wire c.wire n into → n ≤ length into → n ≤ PIECE
-    → FeedsBy protocol stands meanings c d (Ok next) more (piece_turn (course_of protocol meanings moments) a.desk.store so.octets (take n into)) → GoesBy protocol stands meanings moments more a d next (taken + n)
-more_by protocol stands laws meanings are moments sooner more a b c d at next taken n into so still leaves took low most fed =
-    let course = course_of protocol meanings moments in
-    let framed = laws.framed meanings are in
+more_by : (protocol : Protocol) {M : Type 0} (stands : Standing protocol M) → AreLaws protocol stands → (oracles : Oracles) → AreOracles oracles → (moments sooner more : List Moment) (a b c d : Around) (at next : Session M)
+    (taken n : ℕ) (into : List ℕ) → (so : GoesBy protocol stands oracles moments sooner a b at taken) → (HasEnded at → ⊥) → LeavesDesk b c → TakesPiece b.wire c.wire n into → n ≤ length into → n ≤ PIECE
+    → FeedsBy protocol stands oracles c d (Ok next) more (piece_turn (instance_of protocol oracles moments) a.desk.store so.octets (take n into)) → GoesBy protocol stands oracles moments more a d next (taken + n)
+more_by protocol stands laws oracles are moments sooner more a b c d at next taken n into so still leaves took low most fed =
+    let instance = instance_of protocol oracles moments in
+    let framed = laws.framed oracles are in
     let store = a.desk.store in
-    let turn = piece_turn course store so.octets (take n into) in
-    let front = replies_to course store so.octets in
+    let turn = piece_turn instance store so.octets (take n into) in
+    let front = replies_to instance store so.octets in
     let all = so.octets ++ take n into in
-    let acts = acts_for-append course framed store so.octets (take n into) in
-    let given = given_by course.spelled turn.parts in
+    let acts = acts_for-append instance framed store so.octets (take n into) in
+    let given = given_by instance.spelled turn.parts in
     let after = rw (leaves.desk, leaves.keeper) at fed.does.follows in
     record {
       octets = all;
-      serving = Serving-of (replies_to course store) (MayTake course store) a.wire d.wire all (front ++ given)
-          (Halfway-give (replies_to course store) (MayTake course store) a.wire c.wire d.wire all front given
-          (Halfway-take (replies_to course store) (MayTake course store) a.wire b.wire c.wire so.octets into n so.serving took (may_take protocol stands laws meanings moments sooner a b at taken n into so still low most)) fed.does.gives)
-          (sym (replies_to-append course framed store so.octets (take n into)));
-      stood = rw (turns_for-append course framed store so.octets (take n into)) fed.stands_for;
-      follows = rw (acts, records_in-append (acts_for course store so.octets) turn.parts)
-          (Follows-more store b.desk.store d.desk.store a.keeper.octets b.keeper.octets d.keeper.octets (records_of (changes_by course store so.octets)) (records_of (changes_in turn.parts)) so.follows after);
-      fetched = rw (acts, asked_in-append (acts_for course store so.octets) turn.parts)
-          (Fetched-append (asked_for course store so.octets) (asked_in turn.parts) a.desk.cache b.desk.cache d.desk.cache so.fetched (rw leaves.desk at fed.does.fetched));
+      serving = Serving-of (replies_to instance store) (MayTake instance store) a.wire d.wire all (front ++ given)
+          (Halfway-give (replies_to instance store) (MayTake instance store) a.wire c.wire d.wire all front given
+          (Halfway-take (replies_to instance store) (MayTake instance store) a.wire b.wire c.wire so.octets into n so.serving took (may_take protocol stands laws oracles moments sooner a b at taken n into so still low most)) fed.does.gives)
+          (sym (replies_to-append instance framed store so.octets (take n into)));
+      stood = rw (turns_for-append instance framed store so.octets (take n into)) fed.stands_for;
+      follows = rw (acts, records_in-append (acts_for instance store so.octets) turn.parts)
+          (Follows-more store b.desk.store d.desk.store a.keeper.octets b.keeper.octets d.keeper.octets (records_of (changes_by instance store so.octets)) (records_of (changes_in turn.parts)) so.follows after);
+      fetched = rw (acts, asked_in-append (acts_for instance store so.octets) turn.parts)
+          (Fetched-append (asked_for instance store so.octets) (asked_in turn.parts) a.desk.cache b.desk.cache d.desk.cache so.fetched (rw leaves.desk at fed.does.fetched));
       count = taken_more so.octets into taken n so.count low;
     }
 
 -- the same moments, some of which were told by a later call
-moments_as : (protocol : Protocol) {M : Type 0} (stands : Standing protocol M) (meanings : Meanings) (told later more : List Moment) (a b : Around) (at : Session M) (taken : ℕ)
-    → GoesBy protocol stands meanings (told ++ (later ++ more)) (later ++ more) a b at taken → GoesBy protocol stands meanings ((told ++ later) ++ more) (later ++ more) a b at taken
-moments_as protocol stands meanings told later more a b at taken so =
-    subst (λ (moments : List Moment). GoesBy protocol stands meanings moments (later ++ more) a b at taken) (sym (append_assoc told later more)) so
+moments_as : (protocol : Protocol) {M : Type 0} (stands : Standing protocol M) (oracles : Oracles) (told later more : List Moment) (a b : Around) (at : Session M) (taken : ℕ)
+    → GoesBy protocol stands oracles (told ++ (later ++ more)) (later ++ more) a b at taken → GoesBy protocol stands oracles ((told ++ later) ++ more) (later ++ more) a b at taken
+moments_as protocol stands oracles told later more a b at taken so =
+    subst (λ (moments : List Moment). GoesBy protocol stands oracles moments (later ++ more) a b at taken) (sym (append_assoc told later more)) so
 
 -- one more piece
 pub goes_on : (protocol : Protocol) {M : Type 0} (stands : Standing protocol M) → AreLaws protocol stands → (a b c d : Around) (at next : Session M) (taken n : ℕ) (into piece : List ℕ)
@@ -272,11 +272,11 @@ pub goes_on : (protocol : Protocol) {M : Type 0} (stands : Standing protocol M) 
 goes_on protocol stands laws a b c d at next taken n into piece clock ticks still leaves took low most same goes fed = record {
   told = goes.told ++ fed.told;
   are_told = told_then a.clock c.clock goes.told fed.told (ticks ∙ clock) goes.are_told fed.are_told;
-  goes = λ meanings are more.
-      let so = moments_as protocol stands meanings goes.told fed.told more a b at taken (goes.goes meanings are (fed.told ++ more)) in
-      let turns = turns_for (course_of protocol meanings ((goes.told ++ fed.told) ++ more)) a.desk.store so.octets in
-      more_by protocol stands laws meanings are ((goes.told ++ fed.told) ++ more) (fed.told ++ more) more a b c d at next taken n into so still leaves took low most
-      (rw same at (fed.feeds meanings are more turns.after turns.rest (rw leaves.desk so.stood)));
+  goes = λ oracles are more.
+      let so = moments_as protocol stands oracles goes.told fed.told more a b at taken (goes.goes oracles are (fed.told ++ more)) in
+      let turns = turns_for (instance_of protocol oracles ((goes.told ++ fed.told) ++ more)) a.desk.store so.octets in
+      more_by protocol stands laws oracles are ((goes.told ++ fed.told) ++ more) (fed.told ++ more) more a b c d at next taken n into so still leaves took low most
+      (rw same at (fed.feeds oracles are more turns.after turns.rest (rw leaves.desk so.stood)));
 }
 
 -- ---- the ends
@@ -287,13 +287,13 @@ pub start_fails : (protocol : Protocol) {M : Type 0} (stands : Standing protocol
 start_fails protocol stands laws a b met begins = record {
   told = [];
   are_told = All-nil (IsTold a.clock);
-  holds = λ meanings are more.
-      let course = course_of protocol meanings more in
-      let does = begins.does meanings are in
+  holds = λ oracles are more.
+      let instance = instance_of protocol oracles more in
+      let does = begins.does oracles are in
       let store = a.desk.store in
-      let first = DoesFirst-between course.spelled a a b met [] (course.opening store) (turns_for course store []).parts (DoesAll-nil course.spelled a) does in
-      broken_off course (laws.framed meanings are) a b met [] first.given (omega arith)
-      (Halfway-first (replies_to course store) (MayTake course store) a.wire b.wire first.given first.gives) first.done;
+      let first = DoesFirst-between instance.spelled a a b met [] (instance.opening store) (turns_for instance store []).parts (DoesAll-nil instance.spelled a) does in
+      broken_off instance (laws.framed oracles are) a b met [] first.given (omega arith)
+      (Halfway-first (replies_to instance store) (MayTake instance store) a.wire b.wire first.given first.gives) first.done;
 }
 
 -- a take failed
@@ -302,18 +302,18 @@ pub take_fails : (protocol : Protocol) {M : Type 0} (stands : Standing protocol 
 take_fails protocol stands laws a b c at taken met fine few leaves nothing goes = record {
   told = goes.told;
   are_told = goes.are_told;
-  holds = λ meanings are more.
-      let course = course_of protocol meanings (goes.told ++ more) in
-      let so = goes.goes meanings are more in
+  holds = λ oracles are more.
+      let instance = instance_of protocol oracles (goes.told ++ more) in
+      let so = goes.goes oracles are more in
       let store = a.desk.store in
-      let acts = acts_for course store so.octets in
-      let front = replies_to course store so.octets in
-      let none = DoesFirst-none course.spelled c met [] fine in
+      let acts = acts_for instance store so.octets in
+      let front = replies_to instance store so.octets in
+      let none = DoesFirst-none instance.spelled c met [] fine in
       let follows : Follows store c.desk.store a.keeper.octets c.keeper.octets (records_of (changes_in acts)) = rw (leaves.desk, leaves.keeper) so.follows in
-      let done = IsDone-more course.spelled store c.desk.store c.desk.store a.keeper.octets c.keeper.octets c.keeper.octets met acts [] [] none.given follows none.done in
-      broken_off course (laws.framed meanings are) a c met so.octets (front ++ none.given) (rw so.count few)
-      (Halfway-give (replies_to course store) (MayTake course store) a.wire c.wire c.wire so.octets front none.given
-      (Halfway-of (replies_to course store) (MayTake course store) a.wire c.wire so.octets (Serving-nothing (replies_to course store) (MayTake course store) a.wire b.wire c.wire so.octets so.serving nothing)) none.gives)
+      let done = IsDone-more instance.spelled store c.desk.store c.desk.store a.keeper.octets c.keeper.octets c.keeper.octets met acts [] [] none.given follows none.done in
+      broken_off instance (laws.framed oracles are) a c met so.octets (front ++ none.given) (rw so.count few)
+      (Halfway-give (replies_to instance store) (MayTake instance store) a.wire c.wire c.wire so.octets front none.given
+      (Halfway-of (replies_to instance store) (MayTake instance store) a.wire c.wire so.octets (Serving-nothing (replies_to instance store) (MayTake instance store) a.wire b.wire c.wire so.octets so.serving nothing)) none.gives)
       (rw (append-nil acts) at done);
 }
 
@@ -324,85 +324,85 @@ pub feed_fails : (protocol : Protocol) {M : Type 0} (stands : Standing protocol 
 feed_fails protocol stands laws a b c d at taken n into piece met few clock ticks still leaves took low most same goes fed = record {
   told = goes.told ++ fed.told;
   are_told = told_then a.clock c.clock goes.told fed.told (ticks ∙ clock) goes.are_told fed.are_told;
-  holds = λ meanings are more.
+  holds = λ oracles are more.
       let moments = (goes.told ++ fed.told) ++ more in
-      let course = course_of protocol meanings moments in
-      let so = moments_as protocol stands meanings goes.told fed.told more a b at taken (goes.goes meanings are (fed.told ++ more)) in
+      let instance = instance_of protocol oracles moments in
+      let so = moments_as protocol stands oracles goes.told fed.told more a b at taken (goes.goes oracles are (fed.told ++ more)) in
       let store = a.desk.store in
-      let turns = turns_for course store so.octets in
-      let turn = piece_turn course store so.octets (take n into) in
-      let acts = acts_for course store so.octets in
-      let front = replies_to course store so.octets in
-      let by = rw same at (fed.feeds meanings are more turns.after turns.rest (rw leaves.desk so.stood)) in
+      let turns = turns_for instance store so.octets in
+      let turn = piece_turn instance store so.octets (take n into) in
+      let acts = acts_for instance store so.octets in
+      let front = replies_to instance store so.octets in
+      let by = rw same at (fed.feeds oracles are more turns.after turns.rest (rw leaves.desk so.stood)) in
       let follows : Follows store c.desk.store a.keeper.octets c.keeper.octets (records_of (changes_in acts)) = rw (leaves.desk, leaves.keeper) so.follows in
-      let whole : acts_for course store (so.octets ++ take n into) ≡ acts ++ (turn.parts ++ []) =
-      acts_for-append course (laws.framed meanings are) store so.octets (take n into) ∙ ap (λ l. acts ++ l) (sym (append-nil turn.parts)) in
-      broken_off course (laws.framed meanings are) a d met (so.octets ++ take n into) (front ++ by.does.given)
+      let whole : acts_for instance store (so.octets ++ take n into) ≡ acts ++ (turn.parts ++ []) =
+      acts_for-append instance (laws.framed oracles are) store so.octets (take n into) ∙ ap (λ l. acts ++ l) (sym (append-nil turn.parts)) in
+      broken_off instance (laws.framed oracles are) a d met (so.octets ++ take n into) (front ++ by.does.given)
       (rw (taken_more so.octets into taken n so.count low) few)
-      (Halfway-give (replies_to course store) (MayTake course store) a.wire c.wire d.wire (so.octets ++ take n into) front by.does.given
-      (Halfway-take (replies_to course store) (MayTake course store) a.wire b.wire c.wire so.octets into n so.serving took (may_take protocol stands laws meanings moments (fed.told ++ more) a b at taken n into so still low most)) by.does.gives)
-      (rw whole (IsDone-more course.spelled store c.desk.store d.desk.store a.keeper.octets c.keeper.octets d.keeper.octets met acts turn.parts [] by.does.given follows by.does.done));
+      (Halfway-give (replies_to instance store) (MayTake instance store) a.wire c.wire d.wire (so.octets ++ take n into) front by.does.given
+      (Halfway-take (replies_to instance store) (MayTake instance store) a.wire b.wire c.wire so.octets into n so.serving took (may_take protocol stands laws oracles moments (fed.told ++ more) a b at taken n into so still low most)) by.does.gives)
+      (rw whole (IsDone-more instance.spelled store c.desk.store d.desk.store a.keeper.octets c.keeper.octets d.keeper.octets met acts turn.parts [] by.does.given follows by.does.done));
 }
 
 -- what is given of a stream may be sent
-acts_fit : (protocol : Protocol) {M : Type 0} (stands : Standing protocol M) → AreLaws protocol stands → (meanings : Meanings) → AreMeanings meanings → (moments : List Moment) (desk : Desk) (octets : List ℕ) → IsOpen desk
-    → AllByRecursion (IsFitAct (protocol.Fits meanings)) (acts_for (course_of protocol meanings moments) desk.store octets)
-acts_fit protocol stands laws meanings are moments desk octets opens =
-    let begun = laws.begins_fit meanings are moments desk opens in
-    let later = all_fit protocol meanings (laws.fits meanings are) (protocol.start moments desk.store) octets begun.sound in
-    all-append (IsFitAct (protocol.Fits meanings)) (protocol.opening desk.store) (turns_for (course_of protocol meanings moments) desk.store octets).parts begun.fit later.fit
+acts_fit : (protocol : Protocol) {M : Type 0} (stands : Standing protocol M) → AreLaws protocol stands → (oracles : Oracles) → AreOracles oracles → (moments : List Moment) (desk : Desk) (octets : List ℕ) → IsOpen desk
+    → AllByRecursion (IsFitAct (protocol.Fits oracles)) (acts_for (instance_of protocol oracles moments) desk.store octets)
+acts_fit protocol stands laws oracles are moments desk octets opens =
+    let begun = laws.begins_fit oracles are moments desk opens in
+    let later = all_fit protocol oracles (laws.fits oracles are) (protocol.start moments desk.store) octets begun.sound in
+    all-append (IsFitAct (protocol.Fits oracles)) (protocol.opening desk.store) (turns_for (instance_of protocol oracles moments) desk.store octets).parts begun.fit later.fit
 
 -- what was sent for octets
-sent : (protocol : Protocol) {M : Type 0} (stands : Standing protocol M) → AreLaws protocol stands → (meanings : Meanings) → AreMeanings meanings → (moments more : List Moment) (a b : Around) (at : Session M) (taken : ℕ) → IsOpen a.desk
-    → (so : GoesBy protocol stands meanings moments more a b at taken)
-    → IsSent (course_of protocol meanings moments) a.desk.store b.desk.store a.keeper.octets b.keeper.octets so.octets (replies_to (course_of protocol meanings moments) a.desk.store so.octets)
-sent protocol stands laws meanings are moments more a b at taken opens so = record { replies = refl; fit = acts_fit protocol stands laws meanings are moments a.desk so.octets opens; changes = so.follows }
+sent : (protocol : Protocol) {M : Type 0} (stands : Standing protocol M) → AreLaws protocol stands → (oracles : Oracles) → AreOracles oracles → (moments more : List Moment) (a b : Around) (at : Session M) (taken : ℕ) → IsOpen a.desk
+    → (so : GoesBy protocol stands oracles moments more a b at taken)
+    → IsSent (instance_of protocol oracles moments) a.desk.store b.desk.store a.keeper.octets b.keeper.octets so.octets (replies_to (instance_of protocol oracles moments) a.desk.store so.octets)
+sent protocol stands laws oracles are moments more a b at taken opens so = record { replies = refl; fit = acts_fit protocol stands laws oracles are moments a.desk so.octets opens; changes = so.follows }
 
 -- after the end more octets bring nothing
-acts_for-over : (course : Course) → IsFramed course.next → ((state : course.S) (octets : List ℕ) → course.HasEnded state → all_turns course.next state octets ≡ stay state octets) → (store : StoreState) (octets more : List ℕ)
-    → EndsBy course store octets → acts_for course store (octets ++ more) ≡ acts_for course store octets
-acts_for-over course framed quiet store octets more ends =
-    let turn = turns_for course store octets in
-    let none : piece_turn course store octets more ≡ stay turn.after (turn.rest ++ more) = quiet turn.after (turn.rest ++ more) ends in
-    acts_for-append course framed store octets more
-    ∙ ap (λ (t : Turn course.S (Act course.P)). acts_for course store octets ++ t.parts) none ∙ append-nil (acts_for course store octets)
+acts_for-over : (instance : Instance) → IsFramed instance.next → ((state : instance.S) (octets : List ℕ) → instance.HasEnded state → all_turns instance.next state octets ≡ stay state octets) → (store : StoreState) (octets more : List ℕ)
+    → EndsBy instance store octets → acts_for instance store (octets ++ more) ≡ acts_for instance store octets
+acts_for-over instance framed quiet store octets more ends =
+    let turn = turns_for instance store octets in
+    let none : piece_turn instance store octets more ≡ stay turn.after (turn.rest ++ more) = quiet turn.after (turn.rest ++ more) ends in
+    acts_for-append instance framed store octets more
+    ∙ ap (λ (t : Turn instance.S (Act instance.P)). acts_for instance store octets ++ t.parts) none ∙ append-nil (acts_for instance store octets)
 
-fetched_more : (course : Course) → IsFramed course.next → ((state : course.S) (octets : List ℕ) → course.HasEnded state → all_turns course.next state octets ≡ stay state octets) → (store : StoreState) (old new : CacheState)
-    (octets more : List ℕ) → EndsBy course store octets → Fetched old (asked_for course store octets) new → Fetched old (asked_for course store (octets ++ more)) new
-fetched_more course framed quiet store old new octets more ends fetched = rw (acts_for-over course framed quiet store octets more ends) fetched
+fetched_more : (instance : Instance) → IsFramed instance.next → ((state : instance.S) (octets : List ℕ) → instance.HasEnded state → all_turns instance.next state octets ≡ stay state octets) → (store : StoreState) (old new : CacheState)
+    (octets more : List ℕ) → EndsBy instance store octets → Fetched old (asked_for instance store octets) new → Fetched old (asked_for instance store (octets ++ more)) new
+fetched_more instance framed quiet store old new octets more ends fetched = rw (acts_for-over instance framed quiet store octets more ends) fetched
 
-sent_more : (course : Course) → IsFramed course.next → ((state : course.S) (octets : List ℕ) → course.HasEnded state → all_turns course.next state octets ≡ stay state octets) → (store after : StoreState) (had has : Option (List ℕ))
-    (octets given more : List ℕ) → EndsBy course store octets → IsSent course store after had has octets given → IsSent course store after had has (octets ++ more) given
-sent_more course framed quiet store after had has octets given more ends is =
-    let acts = acts_for-over course framed quiet store octets more ends in
+sent_more : (instance : Instance) → IsFramed instance.next → ((state : instance.S) (octets : List ℕ) → instance.HasEnded state → all_turns instance.next state octets ≡ stay state octets) → (store after : StoreState) (had has : Option (List ℕ))
+    (octets given more : List ℕ) → EndsBy instance store octets → IsSent instance store after had has octets given → IsSent instance store after had has (octets ++ more) given
+sent_more instance framed quiet store after had has octets given more ends is =
+    let acts = acts_for-over instance framed quiet store octets more ends in
     record {
-      replies = is.replies ∙ sym (ap (given_by course.spelled) acts);
+      replies = is.replies ∙ sym (ap (given_by instance.spelled) acts);
       fit = rw acts is.fit;
       changes = rw acts is.changes;
     }
 
 -- all that was taken was done
-goes_lawfully : (protocol : Protocol) {M : Type 0} (stands : Standing protocol M) → AreLaws protocol stands → (meanings : Meanings) → AreMeanings meanings → (moments more : List Moment) (a b : Around) (at : Session M) (taken : ℕ)
-    (served : Served) → met_of served ≡ None → taken ≤ a.desk.limits.session_max → (so : GoesBy protocol stands meanings moments more a b at taken)
-    → (lawful : ServesLawfully (course_of protocol meanings moments) a.desk.store b.desk.store a.keeper.octets b.keeper.octets served a.desk.limits.session_max a.wire b.wire) × (taken_of lawful.entries ≡ so.octets)
-goes_lawfully protocol stands laws meanings are moments more a b at taken served whole few so =
-    let course = course_of protocol meanings moments in
-    lawfully course (laws.framed meanings are) a.desk.store b.desk.store a.keeper.octets b.keeper.octets served a.desk.limits.session_max a.wire b.wire so.octets (replies_to course a.desk.store so.octets) (rw so.count few)
-    (Halfway-of (replies_to course a.desk.store) (MayTake course a.desk.store) a.wire b.wire so.octets so.serving) (rw whole (refl, so.follows))
+goes_lawfully : (protocol : Protocol) {M : Type 0} (stands : Standing protocol M) → AreLaws protocol stands → (oracles : Oracles) → AreOracles oracles → (moments more : List Moment) (a b : Around) (at : Session M) (taken : ℕ)
+    (served : Served) → met_of served ≡ None → taken ≤ a.desk.limits.session_max → (so : GoesBy protocol stands oracles moments more a b at taken)
+    → (lawful : ServesLawfully (instance_of protocol oracles moments) a.desk.store b.desk.store a.keeper.octets b.keeper.octets served a.desk.limits.session_max a.wire b.wire) × (taken_of lawful.entries ≡ so.octets)
+goes_lawfully protocol stands laws oracles are moments more a b at taken served whole few so =
+    let instance = instance_of protocol oracles moments in
+    lawfully instance (laws.framed oracles are) a.desk.store b.desk.store a.keeper.octets b.keeper.octets served a.desk.limits.session_max a.wire b.wire so.octets (replies_to instance a.desk.store so.octets) (rw so.count few)
+    (Halfway-of (replies_to instance a.desk.store) (MayTake instance a.desk.store) a.wire b.wire so.octets so.serving) (rw whole (refl, so.follows))
 
 -- the session has ended
-session_by : (protocol : Protocol) {M : Type 0} (stands : Standing protocol M) → AreLaws protocol stands → (meanings : Meanings) → AreMeanings meanings → (moments more : List Moment) (a b : Around) (at : Session M) (taken : ℕ)
-    → IsOpen a.desk → taken ≤ a.desk.limits.session_max → HasEnded at → GoesBy protocol stands meanings moments more a b at taken → ServesFrom (course_of protocol meanings moments) a b Ended
-session_by protocol stands laws meanings are moments more a b at taken opens few is so =
-    let course = course_of protocol meanings moments in
+session_by : (protocol : Protocol) {M : Type 0} (stands : Standing protocol M) → AreLaws protocol stands → (oracles : Oracles) → AreOracles oracles → (moments more : List Moment) (a b : Around) (at : Session M) (taken : ℕ)
+    → IsOpen a.desk → taken ≤ a.desk.limits.session_max → HasEnded at → GoesBy protocol stands oracles moments more a b at taken → ServesFrom (instance_of protocol oracles moments) a b Ended
+session_by protocol stands laws oracles are moments more a b at taken opens few is so =
+    let instance = instance_of protocol oracles moments in
     let store = a.desk.store in
-    let turns = turns_for course store so.octets in
-    let ends : EndsBy course store so.octets = ended_state protocol stands more at b.desk turns.after turns.rest so.stood is in
-    let due = sent protocol stands laws meanings are moments more a b at taken opens so in
-    let over = λ (state : course.S) (octets : List ℕ) (ended : course.HasEnded state). all_turns-stop course.next state octets (laws.quiet meanings state octets ended) in
-    let law = goes_lawfully protocol stands laws meanings are moments more a b at taken Ended refl few so in
-    let begins = left_begins (replies_to course store) (MayTake course store) a.wire b.wire so.octets (replies_to course store so.octets)
-    (Halfway-of (replies_to course store) (MayTake course store) a.wire b.wire so.octets so.serving) in
+    let turns = turns_for instance store so.octets in
+    let ends : EndsBy instance store so.octets = ended_state protocol stands more at b.desk turns.after turns.rest so.stood is in
+    let due = sent protocol stands laws oracles are moments more a b at taken opens so in
+    let over = λ (state : instance.S) (octets : List ℕ) (ended : instance.HasEnded state). all_turns-stop instance.next state octets (laws.quiet oracles state octets ended) in
+    let law = goes_lawfully protocol stands laws oracles are moments more a b at taken Ended refl few so in
+    let begins = left_begins (replies_to instance store) (MayTake instance store) a.wire b.wire so.octets (replies_to instance store so.octets)
+    (Halfway-of (replies_to instance store) (MayTake instance store) a.wire b.wire so.octets so.serving) in
     record {
       serves = record {
         lawful = law.0;
@@ -414,14 +414,14 @@ session_by protocol stands laws meanings are moments more a b at taken opens few
           few = rw (so.serving.taken_is, so.count) few;
           sent = rw (so.serving.taken_is, so.serving.answered) due;
           whole = rw so.serving.answered (IfSome_then a.wire.left {P = λ octets. IsPrefixOf so.octets octets} begins
-              (λ octets front. rw front.1 (sent_more course (laws.framed meanings are) over store b.desk.store a.keeper.octets b.keeper.octets so.octets (replies_to course store so.octets) front.0 ends due)));
+              (λ octets front. rw front.1 (sent_more instance (laws.framed oracles are) over store b.desk.store a.keeper.octets b.keeper.octets so.octets (replies_to instance store so.octets) front.0 ends due)));
           end = inl (rw so.serving.taken_is ends);
         };
         limit = λ bad. absurd (never_limit bad);
       };
       taken = λ _. rw law.1 so.fetched;
       whole = λ _. IfSome_then a.wire.left {P = λ octets. IsPrefixOf so.octets octets} begins
-          (λ octets front. rw front.1 (fetched_more course (laws.framed meanings are) over store a.desk.cache b.desk.cache so.octets front.0 ends so.fetched));
+          (λ octets front. rw front.1 (fetched_more instance (laws.framed oracles are) over store a.desk.cache b.desk.cache so.octets front.0 ends so.fetched));
     }
 
 pub session_ends : (protocol : Protocol) {M : Type 0} (stands : Standing protocol M) → AreLaws protocol stands → (a b : Around) (at : Session M) (taken : ℕ) → IsOpen a.desk → taken ≤ a.desk.limits.session_max → HasEnded at
@@ -429,28 +429,28 @@ pub session_ends : (protocol : Protocol) {M : Type 0} (stands : Standing protoco
 session_ends protocol stands laws a b at taken opens few is goes = record {
   told = goes.told;
   are_told = goes.are_told;
-  holds = λ meanings are more. session_by protocol stands laws meanings are (goes.told ++ more) more a b at taken opens few is (goes.goes meanings are more);
+  holds = λ oracles are more. session_by protocol stands laws oracles are (goes.told ++ more) more a b at taken opens few is (goes.goes oracles are more);
 }
 
 -- nothing was left to take
-input_by : (protocol : Protocol) {M : Type 0} (stands : Standing protocol M) → AreLaws protocol stands → (meanings : Meanings) → AreMeanings meanings → (moments more : List Moment) (a b c : Around) (at : Session M) (taken n : ℕ) (into : List ℕ)
-    → IsOpen a.desk → (HasEnded at → ⊥) → LeavesDesk b c → TakesPiece b.wire c.wire n into → n ≡ 0 → taken < a.desk.limits.session_max → GoesBy protocol stands meanings moments more a b at taken
-    → ServesFrom (course_of protocol meanings moments) a c Ended
-input_by protocol stands laws meanings are moments more a b c at taken n into opens still leaves piece none low so =
-    let course = course_of protocol meanings moments in
+input_by : (protocol : Protocol) {M : Type 0} (stands : Standing protocol M) → AreLaws protocol stands → (oracles : Oracles) → AreOracles oracles → (moments more : List Moment) (a b c : Around) (at : Session M) (taken n : ℕ) (into : List ℕ)
+    → IsOpen a.desk → (HasEnded at → ⊥) → LeavesDesk b c → TakesPiece b.wire c.wire n into → n ≡ 0 → taken < a.desk.limits.session_max → GoesBy protocol stands oracles moments more a b at taken
+    → ServesFrom (instance_of protocol oracles moments) a c Ended
+input_by protocol stands laws oracles are moments more a b c at taken n into opens still leaves piece none low so =
+    let instance = instance_of protocol oracles moments in
     let store = a.desk.store in
     let max = a.desk.limits.session_max in
-    let due : IsSent course store c.desk.store a.keeper.octets c.keeper.octets so.octets (replies_to course store so.octets) =
-    rw (leaves.desk, leaves.keeper) (sent protocol stands laws meanings are moments more a b at taken opens so) in
-    let follows : Follows store c.desk.store a.keeper.octets c.keeper.octets (records_of (changes_by course store so.octets)) = rw (leaves.desk, leaves.keeper) so.follows in
-    let fetched : Fetched a.desk.cache (asked_for course store so.octets) c.desk.cache = rw leaves.desk so.fetched in
-    let half = Halfway-take (replies_to course store) (MayTake course store) a.wire b.wire c.wire so.octets into n so.serving piece
-    (may_take protocol stands laws meanings moments more a b at taken n into so still (omega (arith, none)) (omega (arith, none))) in
+    let due : IsSent instance store c.desk.store a.keeper.octets c.keeper.octets so.octets (replies_to instance store so.octets) =
+    rw (leaves.desk, leaves.keeper) (sent protocol stands laws oracles are moments more a b at taken opens so) in
+    let follows : Follows store c.desk.store a.keeper.octets c.keeper.octets (records_of (changes_by instance store so.octets)) = rw (leaves.desk, leaves.keeper) so.follows in
+    let fetched : Fetched a.desk.cache (asked_for instance store so.octets) c.desk.cache = rw leaves.desk so.fetched in
+    let half = Halfway-take (replies_to instance store) (MayTake instance store) a.wire b.wire c.wire so.octets into n so.serving piece
+    (may_take protocol stands laws oracles moments more a b at taken n into so still (omega (arith, none)) (omega (arith, none))) in
     let same : so.octets ++ take n into ≡ so.octets = rw none (append-nil so.octets) in
     let taken_is : taken_of half.entries ≡ so.octets = half.taken_is ∙ same in
-    let law = lawfully course (laws.framed meanings are) store c.desk.store a.keeper.octets c.keeper.octets Ended max a.wire c.wire (so.octets ++ take n into) (replies_to course store so.octets)
+    let law = lawfully instance (laws.framed oracles are) store c.desk.store a.keeper.octets c.keeper.octets Ended max a.wire c.wire (so.octets ++ take n into) (replies_to instance store so.octets)
     (rw same (omega (arith, so.count))) half (rw same (refl, follows)) in
-    let all_left = left_all (replies_to course store) (MayTake course store) a.wire c.wire (so.octets ++ take n into) (replies_to course store so.octets) half (piece.end none) in
+    let all_left = left_all (replies_to instance store) (MayTake instance store) a.wire c.wire (so.octets ++ take n into) (replies_to instance store so.octets) half (piece.end none) in
     record {
       serves = record {
         lawful = law.0;
@@ -462,14 +462,14 @@ input_by protocol stands laws meanings are moments more a b c at taken n into op
           few = rw taken_is (omega (arith, so.count));
           sent = rw (taken_is, half.given_is) due;
           whole = rw half.given_is (IfSome_then a.wire.left {P = λ octets. so.octets ++ take n into ≡ octets} all_left
-              (λ octets all. subst (λ xs. IsSent course store c.desk.store a.keeper.octets c.keeper.octets xs (replies_to course store so.octets)) (sym same ∙ all) due));
+              (λ octets all. subst (λ xs. IsSent instance store c.desk.store a.keeper.octets c.keeper.octets xs (replies_to instance store so.octets)) (sym same ∙ all) due));
           end = inr (piece.end none, rw taken_is (omega (arith, so.count)));
         };
         limit = λ bad. absurd (never_limit bad);
       };
       taken = λ _. rw (law.1, same) fetched;
       whole = λ _. IfSome_then a.wire.left {P = λ octets. so.octets ++ take n into ≡ octets} all_left
-          (λ octets all. subst (λ xs. Fetched a.desk.cache (asked_for course store xs) c.desk.cache) (sym same ∙ all) fetched);
+          (λ octets all. subst (λ xs. Fetched a.desk.cache (asked_for instance store xs) c.desk.cache) (sym same ∙ all) fetched);
     }
 
 pub input_ends : (protocol : Protocol) {M : Type 0} (stands : Standing protocol M) → AreLaws protocol stands → (a b c : Around) (at : Session M) (taken n : ℕ) (into : List ℕ) → IsOpen a.desk → (HasEnded at → ⊥)
@@ -477,17 +477,17 @@ pub input_ends : (protocol : Protocol) {M : Type 0} (stands : Standing protocol 
 input_ends protocol stands laws a b c at taken n into opens still leaves piece none low goes = record {
   told = goes.told;
   are_told = goes.are_told;
-  holds = λ meanings are more. input_by protocol stands laws meanings are (goes.told ++ more) more a b c at taken n into opens still leaves piece none low (goes.goes meanings are more);
+  holds = λ oracles are more. input_by protocol stands laws oracles are (goes.told ++ more) more a b c at taken n into opens still leaves piece none low (goes.goes oracles are more);
 }
 
 -- the limit was reached
-limit_by : (protocol : Protocol) {M : Type 0} (stands : Standing protocol M) → AreLaws protocol stands → (meanings : Meanings) → AreMeanings meanings → (moments more : List Moment) (a b : Around) (at : Session M) (taken : ℕ)
-    → IsOpen a.desk → (HasEnded at → ⊥) → taken ≡ a.desk.limits.session_max → GoesBy protocol stands meanings moments more a b at taken → ServesFrom (course_of protocol meanings moments) a b Limit
-limit_by protocol stands laws meanings are moments more a b at taken opens still full so =
-    let course = course_of protocol meanings moments in
+limit_by : (protocol : Protocol) {M : Type 0} (stands : Standing protocol M) → AreLaws protocol stands → (oracles : Oracles) → AreOracles oracles → (moments more : List Moment) (a b : Around) (at : Session M) (taken : ℕ)
+    → IsOpen a.desk → (HasEnded at → ⊥) → taken ≡ a.desk.limits.session_max → GoesBy protocol stands oracles moments more a b at taken → ServesFrom (instance_of protocol oracles moments) a b Limit
+limit_by protocol stands laws oracles are moments more a b at taken opens still full so =
+    let instance = instance_of protocol oracles moments in
     let store = a.desk.store in
-    let turns = turns_for course store so.octets in
-    let law = goes_lawfully protocol stands laws meanings are moments more a b at taken Limit refl (omega (arith, full)) so in
+    let turns = turns_for instance store so.octets in
+    let law = goes_lawfully protocol stands laws oracles are moments more a b at taken Limit refl (omega (arith, full)) so in
     record {
       serves = record {
         lawful = law.0;
@@ -497,7 +497,7 @@ limit_by protocol stands laws meanings are moments more a b at taken opens still
           moves = so.serving.moves;
           lawful = so.serving.lawful;
           takes = so.serving.takes;
-          sent = rw (so.serving.taken_is, so.serving.answered) (sent protocol stands laws meanings are moments more a b at taken opens so);
+          sent = rw (so.serving.taken_is, so.serving.answered) (sent protocol stands laws oracles are moments more a b at taken opens so);
           full = rw so.serving.taken_is (so.count ∙ full);
           goes_on = rw so.serving.taken_is (λ ends. still (ended_session protocol stands laws more at b.desk turns.after turns.rest so.stood ends));
         };
@@ -511,5 +511,5 @@ pub limit_reached : (protocol : Protocol) {M : Type 0} (stands : Standing protoc
 limit_reached protocol stands laws a b at taken opens still full goes = record {
   told = goes.told;
   are_told = goes.are_told;
-  holds = λ meanings are more. limit_by protocol stands laws meanings are (goes.told ++ more) more a b at taken opens still full (goes.goes meanings are more);
+  holds = λ oracles are more. limit_by protocol stands laws oracles are (goes.told ++ more) more a b at taken opens still full (goes.goes oracles are more);
 }

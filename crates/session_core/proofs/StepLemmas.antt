@@ -8,49 +8,49 @@ use Rattle.session_core.proofs.TurnsLemmas.{all_turns-go}
 use Rattle.session_core.specs.Acts.{Act}
 use Rattle.session_core.specs.Around.{Around}
 use Rattle.session_core.specs.Doing.{DoesAll, DoesFirst}
-use Rattle.session_core.specs.Meanings.{Meanings}
+use Rattle.session_core.specs.Oracles.{Oracles}
 use Rattle.session_core.specs.Moments.{Moment, IsTold}
 use Rattle.session_core.specs.Protocol.{Protocol}
 use Rattle.session_core.specs.Steps.{Standing, StandsAfter, Steps, StepsBy}
-use Rattle.session_core.specs.declared.machine.Came.{Came}
+use Rattle.session_core.specs.declared.machine.Advance.{Advance}
 use Rattle.session_core.proofs.DoingLemmas.{DoesAll-nil, DoesFirst-none}
 
 -- the turn at the head of what was kept and the piece was carried out
-pub StepsBy-turn : (protocol : Protocol) {M : Type 0} (stands : Standing protocol M) (meanings : Meanings) → IsFramed (protocol.next meanings) → (a b : Around) (came : Came M) (keeps piece : List ℕ) (more : List Moment) (rest : List ℕ)
+pub StepsBy-turn : (protocol : Protocol) {M : Type 0} (stands : Standing protocol M) (oracles : Oracles) → IsFramed (protocol.next oracles) → (a b : Around) (advance : Advance M) (keeps piece : List ℕ) (more : List Moment) (rest : List ℕ)
     (state : protocol.S) (octets : List ℕ) (turn : Turn protocol.S (Act protocol.P))
-    → protocol.next meanings state octets ≡ Some turn → DoesAll (protocol.spelled meanings) a b turn.parts
-    → StandsAfter protocol stands more came.next keeps b.desk turn.after rest → turn.rest ≡ rest ++ drop came.used piece
-    → StepsBy protocol stands meanings a b (Ok came) keeps piece more (all_turns (protocol.next meanings) state octets)
-StepsBy-turn protocol stands meanings framed a b came keeps piece more rest state octets turn is does has left = record {
+    → protocol.next oracles state octets ≡ Some turn → DoesAll (protocol.spelled oracles) a b turn.parts
+    → StandsAfter protocol stands more advance.next keeps b.desk turn.after rest → turn.rest ≡ rest ++ drop advance.used piece
+    → StepsBy protocol stands oracles a b (Ok advance) keeps piece more (all_turns (protocol.next oracles) state octets)
+StepsBy-turn protocol stands oracles framed a b advance keeps piece more rest state octets turn is does has left = record {
   acts = turn.parts;
-  turn = all_turns (protocol.next meanings) turn.after turn.rest;
-  turns_are = all_turns-go (protocol.next meanings) framed state octets turn is;
+  turn = all_turns (protocol.next oracles) turn.after turn.rest;
+  turns_are = all_turns-go (protocol.next oracles) framed state octets turn is;
   does = does;
-  stays = record { state = turn.after; rest = rest; has = has; turn_is = ap (λ l. all_turns (protocol.next meanings) turn.after l) left };
+  stays = record { state = turn.after; rest = rest; has = has; turn_is = ap (λ l. all_turns (protocol.next oracles) turn.after l) left };
 }
 
 -- a fault in it
-pub StepsBy-fails : (protocol : Protocol) {M : Type 0} (stands : Standing protocol M) (meanings : Meanings) → IsFramed (protocol.next meanings) → (a b : Around) (keeps piece : List ℕ) (more : List Moment) (met : Fault)
-    (state : protocol.S) (octets : List ℕ) (turn : Turn protocol.S (Act protocol.P)) → protocol.next meanings state octets ≡ Some turn → DoesFirst (protocol.spelled meanings) a b met turn.parts
-    → StepsBy protocol {M = M} stands meanings a b (Err met) keeps piece more (all_turns (protocol.next meanings) state octets)
-StepsBy-fails protocol stands meanings framed a b keeps piece more met state octets turn is first = record {
+pub StepsBy-fails : (protocol : Protocol) {M : Type 0} (stands : Standing protocol M) (oracles : Oracles) → IsFramed (protocol.next oracles) → (a b : Around) (keeps piece : List ℕ) (more : List Moment) (met : Fault)
+    (state : protocol.S) (octets : List ℕ) (turn : Turn protocol.S (Act protocol.P)) → protocol.next oracles state octets ≡ Some turn → DoesFirst (protocol.spelled oracles) a b met turn.parts
+    → StepsBy protocol {M = M} stands oracles a b (Err met) keeps piece more (all_turns (protocol.next oracles) state octets)
+StepsBy-fails protocol stands oracles framed a b keeps piece more met state octets turn is first = record {
   acts = turn.parts;
-  turn = all_turns (protocol.next meanings) turn.after turn.rest;
-  turns_are = all_turns-go (protocol.next meanings) framed state octets turn is;
+  turn = all_turns (protocol.next oracles) turn.after turn.rest;
+  turns_are = all_turns-go (protocol.next oracles) framed state octets turn is;
   does = first;
   stays = tt;
 }
 
 -- no turn yet: more was kept
-pub StepsBy-waits : (protocol : Protocol) {M : Type 0} (stands : Standing protocol M) (meanings : Meanings) (a : Around) (came : Came M) (keeps piece : List ℕ) (more : List Moment) (rest : List ℕ)
-    (state : protocol.S) (octets : List ℕ) → StandsAfter protocol stands more came.next keeps a.desk state rest → octets ≡ rest ++ drop came.used piece
-    → StepsBy protocol stands meanings a a (Ok came) keeps piece more (all_turns (protocol.next meanings) state octets)
-StepsBy-waits protocol stands meanings a came keeps piece more rest state octets has left = record {
+pub StepsBy-waits : (protocol : Protocol) {M : Type 0} (stands : Standing protocol M) (oracles : Oracles) (a : Around) (advance : Advance M) (keeps piece : List ℕ) (more : List Moment) (rest : List ℕ)
+    (state : protocol.S) (octets : List ℕ) → StandsAfter protocol stands more advance.next keeps a.desk state rest → octets ≡ rest ++ drop advance.used piece
+    → StepsBy protocol stands oracles a a (Ok advance) keeps piece more (all_turns (protocol.next oracles) state octets)
+StepsBy-waits protocol stands oracles a advance keeps piece more rest state octets has left = record {
   acts = [];
-  turn = all_turns (protocol.next meanings) state octets;
+  turn = all_turns (protocol.next oracles) state octets;
   turns_are = refl;
-  does = DoesAll-nil (protocol.spelled meanings) a;
-  stays = record { state = state; rest = rest; has = has; turn_is = ap (λ l. all_turns (protocol.next meanings) state l) left };
+  does = DoesAll-nil (protocol.spelled oracles) a;
+  stays = record { state = state; rest = rest; has = has; turn_is = ap (λ l. all_turns (protocol.next oracles) state l) left };
 }
 
 -- a fault before anything was done
@@ -59,11 +59,11 @@ pub Steps-stop : (protocol : Protocol) {M : Type 0} (stands : Standing protocol 
 Steps-stop protocol stands a machine kept keeps piece met fine = record {
   told = [];
   are_told = All-nil (IsTold a.clock);
-  steps = λ meanings are more state rest has. record {
+  steps = λ oracles are more state rest has. record {
     acts = [];
-    turn = all_turns (protocol.next meanings) state (rest ++ piece);
+    turn = all_turns (protocol.next oracles) state (rest ++ piece);
     turns_are = refl;
-    does = DoesFirst-none (protocol.spelled meanings) a met [] fine;
+    does = DoesFirst-none (protocol.spelled oracles) a met [] fine;
     stays = tt;
   };
 }

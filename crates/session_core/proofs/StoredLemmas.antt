@@ -26,7 +26,7 @@ use Rattle.kept_mail.proofs.SameMessages.{AreSameMessages-gone}
 use Rattle.kept_mail.proofs.DateLemmas.{date_ascii}
 use Rattle.mail_store.proofs.IndexLemmas.{AreStored-same}
 use Rattle.session_core.specs.Desks.{stored_date, stored_octets}
-use Rattle.session_core.specs.Meanings.{Meanings, AreMeanings}
+use Rattle.session_core.specs.Oracles.{Oracles, AreOracles}
 
 -- ---- no octets
 
@@ -106,9 +106,9 @@ stored-expunged kept (id ∷ ids) are =
 -- ---- what is shown
 
 -- a legacy session is shown the surrogate, whose headers are ASCII
-pub surrogate_shown : (meanings : Meanings) → AreMeanings meanings → (msg : List ℕ) → IsStored msg → HasSurrogate msg (meanings.surrogate msg) × HasAsciiBlocks (meanings.surrogate msg)
-surrogate_shown meanings are msg stored =
+pub surrogate_shown : (oracles : Oracles) → AreOracles oracles → (msg : List ℕ) → IsStored msg → HasSurrogate msg (oracles.surrogate msg) × HasAsciiBlocks (oracles.surrogate msg)
+surrogate_shown oracles are msg stored =
     let made = some_surrogate msg stored.entities stored.tree in
-    let same : made.0 ≡ meanings.surrogate msg = are.surrogates msg made.0 made.1 in
-    let has : HasSurrogate msg (meanings.surrogate msg) = subst (λ s. HasSurrogate msg s) same made.1 in
-    (has, surrogate_blocks msg (meanings.surrogate msg) has)
+    let same : made.0 ≡ oracles.surrogate msg = are.surrogates msg made.0 made.1 in
+    let has : HasSurrogate msg (oracles.surrogate msg) = subst (λ s. HasSurrogate msg s) same made.1 in
+    (has, surrogate_blocks msg (oracles.surrogate msg) has)

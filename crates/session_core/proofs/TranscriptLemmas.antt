@@ -5,7 +5,7 @@ use Rattle.std.specs.Io.KnownBytes.{Consumes, IsAtEnd}
 use Rattle.std.proofs.lemmas.Option.{IfSome_then}
 use Rattle.mail_wire.specs.declared.outside.Entry.{Entry}
 use Rattle.mail_wire.specs.declared.outside.Entry.TheVariants.{Taken, Given}
-use Rattle.mail_wire.specs.Telling.{Telling}
+use Rattle.mail_wire.specs.WireState.{WireState}
 use Rattle.mail_wire.specs.Transcript.{IsLawful, AreGiven, taken_of, given_of}
 use Rattle.mail_wire.specs.Moves.{Moves, Gives, TakesPiece, TakesNothing}
 use Rattle.mail_wire.proofs.Moving.{Moves-trans, Moves-take, Moves-none, taken_of-append, given_of-append, AreGiven-taken_of}
@@ -17,7 +17,7 @@ abbrev pub Grows : (List ℕ → List ℕ) → Type 0
 Grows answer = (xs ys : List ℕ) → IsPrefixOf (answer xs) (answer (xs ++ ys))
 
 -- These octets were taken, and the answer to them was given.
-pub record Serving (answer : List ℕ → List ℕ) (May : List ℕ → List ℕ → Type 0) (before now : Telling) (taken : List ℕ) : Type 0 where
+pub record Serving (answer : List ℕ → List ℕ) (May : List ℕ → List ℕ → Type 0) (before now : WireState) (taken : List ℕ) : Type 0 where
   pub entries : List Entry
   pub moves : Moves before now entries
   pub lawful : IsLawful answer entries
@@ -26,7 +26,7 @@ pub record Serving (answer : List ℕ → List ℕ) (May : List ℕ → List ℕ
   pub answered : given_of entries ≡ answer taken
 
 -- These octets were taken, and so far this was given, which is as is due before each take.
-pub record Halfway (answer : List ℕ → List ℕ) (May : List ℕ → List ℕ → Type 0) (before now : Telling) (taken given : List ℕ) : Type 0 where
+pub record Halfway (answer : List ℕ → List ℕ) (May : List ℕ → List ℕ → Type 0) (before now : WireState) (taken given : List ℕ) : Type 0 where
   pub entries : List Entry
   pub moves : Moves before now entries
   pub lawful : IsLawful answer entries
@@ -46,14 +46,14 @@ EachTake-append May taken (Taken octets ∷ xs) ys first more =
     (first.0, EachTake-append May (taken ++ octets) xs ys first.1 (subst (λ l. EachTake May l ys) (sym (append_assoc taken octets (taken_of xs))) more))
 EachTake-append May taken (Given octets ∷ xs) ys first more = EachTake-append May taken xs ys first more
 
-pub Halfway-of : (answer : List ℕ → List ℕ) (May : List ℕ → List ℕ → Type 0) (a b : Telling) (taken : List ℕ) → Serving answer May a b taken → Halfway answer May a b taken (answer taken)
+pub Halfway-of : (answer : List ℕ → List ℕ) (May : List ℕ → List ℕ → Type 0) (a b : WireState) (taken : List ℕ) → Serving answer May a b taken → Halfway answer May a b taken (answer taken)
 Halfway-of answer May a b taken so_far = record { entries = so_far.entries; moves = so_far.moves; lawful = so_far.lawful; takes = so_far.takes; taken_is = so_far.taken_is; given_is = so_far.answered }
 
-pub Serving-of : (answer : List ℕ → List ℕ) (May : List ℕ → List ℕ → Type 0) (a b : Telling) (taken given : List ℕ) → Halfway answer May a b taken given → given ≡ answer taken → Serving answer May a b taken
+pub Serving-of : (answer : List ℕ → List ℕ) (May : List ℕ → List ℕ → Type 0) (a b : WireState) (taken given : List ℕ) → Halfway answer May a b taken given → given ≡ answer taken → Serving answer May a b taken
 Serving-of answer May a b taken given half is = record { entries = half.entries; moves = half.moves; lawful = half.lawful; takes = half.takes; taken_is = half.taken_is; answered = half.given_is ∙ is }
 
 -- what is given first
-pub Halfway-first : (answer : List ℕ → List ℕ) (May : List ℕ → List ℕ → Type 0) (a b : Telling) (given : List ℕ) → Gives a b given → Halfway answer May a b [] given
+pub Halfway-first : (answer : List ℕ → List ℕ) (May : List ℕ → List ℕ → Type 0) (a b : WireState) (given : List ℕ) → Gives a b given → Halfway answer May a b [] given
 Halfway-first answer May a b given gives = record {
   entries = gives.entries;
   moves = gives.moves;
@@ -64,7 +64,7 @@ Halfway-first answer May a b given gives = record {
 }
 
 -- a piece is taken
-pub Halfway-take : (answer : List ℕ → List ℕ) (May : List ℕ → List ℕ → Type 0) (a b c : Telling) (taken into : List ℕ) (n : ℕ) → Serving answer May a b taken → TakesPiece b c n into → May taken (take n into)
+pub Halfway-take : (answer : List ℕ → List ℕ) (May : List ℕ → List ℕ → Type 0) (a b c : WireState) (taken into : List ℕ) (n : ℕ) → Serving answer May a b taken → TakesPiece b c n into → May taken (take n into)
     → Halfway answer May a c (taken ++ take n into) (answer taken)
 Halfway-take answer May a b c taken into n so_far piece may =
     let entry : List Entry = Taken (take n into) ∷ [] in
@@ -78,7 +78,7 @@ Halfway-take answer May a b c taken into n so_far piece may =
     }
 
 -- octets are given
-pub Halfway-give : (answer : List ℕ → List ℕ) (May : List ℕ → List ℕ → Type 0) (a b c : Telling) (taken given more : List ℕ) → Halfway answer May a b taken given → Gives b c more → Halfway answer May a c taken (given ++ more)
+pub Halfway-give : (answer : List ℕ → List ℕ) (May : List ℕ → List ℕ → Type 0) (a b c : WireState) (taken given more : List ℕ) → Halfway answer May a b taken given → Gives b c more → Halfway answer May a c taken (given ++ more)
 Halfway-give answer May a b c taken given more half gives = record {
   entries = half.entries ++ gives.entries;
   moves = Moves-trans a b c half.entries gives.entries half.moves gives.moves;
@@ -90,7 +90,7 @@ Halfway-give answer May a b c taken given more half gives = record {
 }
 
 -- a take failed
-pub Serving-nothing : (answer : List ℕ → List ℕ) (May : List ℕ → List ℕ → Type 0) (a b c : Telling) (taken : List ℕ) → Serving answer May a b taken → TakesNothing b c → Serving answer May a c taken
+pub Serving-nothing : (answer : List ℕ → List ℕ) (May : List ℕ → List ℕ → Type 0) (a b c : WireState) (taken : List ℕ) → Serving answer May a b taken → TakesNothing b c → Serving answer May a c taken
 Serving-nothing answer May a b c taken so_far none = record {
   entries = so_far.entries;
   moves = rw append-nil at (Moves-trans a b c so_far.entries [] so_far.moves (Moves-none b c none.left none.noted));
@@ -113,18 +113,18 @@ all_by (Some l) None taken consumes end = absurd consumes
 all_by (Some l) (Some m) taken consumes end = sym (consumes ∙ (rw end (append-nil taken)))
 
 -- it began with what was taken
-pub left_begins : (answer : List ℕ → List ℕ) (May : List ℕ → List ℕ → Type 0) (a b : Telling) (taken given : List ℕ) → Halfway answer May a b taken given → IfSome a.left (λ octets. IsPrefixOf taken octets)
+pub left_begins : (answer : List ℕ → List ℕ) (May : List ℕ → List ℕ → Type 0) (a b : WireState) (taken given : List ℕ) → Halfway answer May a b taken given → IfSome a.left (λ octets. IsPrefixOf taken octets)
 left_begins answer May a b taken given half = begun_by a.left b.left taken (rw half.taken_is at half.moves.left)
 
 -- it was what was taken, where nothing is left
-pub left_all : (answer : List ℕ → List ℕ) (May : List ℕ → List ℕ → Type 0) (a b : Telling) (taken given : List ℕ) → Halfway answer May a b taken given → IsAtEnd b.left → IfSome a.left (λ octets. taken ≡ octets)
+pub left_all : (answer : List ℕ → List ℕ) (May : List ℕ → List ℕ → Type 0) (a b : WireState) (taken given : List ℕ) → Halfway answer May a b taken given → IsAtEnd b.left → IfSome a.left (λ octets. taken ≡ octets)
 left_all answer May a b taken given half end = all_by a.left b.left taken (rw half.taken_is at half.moves.left) end
 
 prefix_trans : (xs ys zs : List ℕ) → IsPrefixOf xs ys → IsPrefixOf ys zs → IsPrefixOf xs zs
 prefix_trans xs ys zs one two = (one.0 ++ two.0, two.1 ∙ ap (λ front. front ++ two.0) one.1 ∙ append_assoc xs one.0 two.0)
 
 -- a prefix of the answer to what was taken is one of the answer to what was left
-pub begins_answer : (answer : List ℕ → List ℕ) (May : List ℕ → List ℕ → Type 0) (a b : Telling) (taken given : List ℕ) → Grows answer → Halfway answer May a b taken given → IsPrefixOf given (answer taken)
+pub begins_answer : (answer : List ℕ → List ℕ) (May : List ℕ → List ℕ → Type 0) (a b : WireState) (taken given : List ℕ) → Grows answer → Halfway answer May a b taken given → IsPrefixOf given (answer taken)
     → IfSome a.left (λ octets. IsPrefixOf given (answer octets))
 begins_answer answer May a b taken given grows half begun =
     IfSome_then a.left {P = λ octets. IsPrefixOf taken octets} (left_begins answer May a b taken given half)

@@ -33,9 +33,9 @@ abbrev pub append_changes : StoreState → (folder flags : ℕ) → (date octets
 append_changes store folder flags date octets = unless_refused (append_refusal store octets) (records.Message folder flags date octets ∷ [])
 
 -- what came of a message that was refused so, or that wasn't
-abbrev pub came_of : Option StoreFault → Delivered
-came_of None = Stored
-came_of (Some refusal) = TooLarge
+abbrev pub advance_of : Option StoreFault → Delivered
+advance_of None = Stored
+advance_of (Some refusal) = TooLarge
 
 -- the change that makes a folder
 abbrev pub folder_changes : StoreState → (account : ℕ) → (name : List ℕ) → List (List Record)

@@ -9,7 +9,7 @@ use Rattle.mail_store.specs.StoreState.{StoreState}
 use Rattle.session_core.specs.Around.{Around}
 use Rattle.session_core.specs.Doing.{Does}
 use Rattle.session_core.specs.Keeps.{fault_of}
-use Rattle.session_core.specs.Meanings.{AreMeanings, Meanings, WithMeanings}
+use Rattle.session_core.specs.Oracles.{AreOracles, Oracles, WithOracles}
 use Rattle.session_core.specs.Moments.{Moment, IsTold}
 use Rattle.session_core.specs.Protocol.{Protocol}
 use Rattle.session_core.specs.declared.desk.Desk.{Desk}
@@ -32,11 +32,11 @@ pub record Grammar : Type 1 where
   -- what a state reads next; one that has ended reads nothing
   pub wants : S → Option Wants
   -- the row of what was read, and that of a line that is too long
-  pub row : Meanings → S → List ℕ → Row S P
-  pub long_row : Meanings → S → Row S P
+  pub row : Oracles → S → List ℕ → Row S P
+  pub long_row : Oracles → S → Row S P
   -- the octets of a part, and what may be sent
-  pub spelled : Meanings → P → List ℕ
-  pub Fits : Meanings → P → Type 0
+  pub spelled : Oracles → P → List ℕ
+  pub Fits : Oracles → P → Type 0
   -- whatever such a state is asked for, its replies may be sent
   pub IsSound : S → Type 0
 
@@ -51,17 +51,17 @@ cut_by wants.Line octets = next_line octets
 cut_by (wants.Count n) octets = count_cut n octets
 
 -- the turn of what a stream begins with
-abbrev pub turn_by : (grammar : Grammar) → Meanings → grammar.S → Framed → Option (Turn grammar.S (Act grammar.P))
-turn_by grammar meanings state waiting = None
-turn_by grammar meanings state (whole unit rest) =
-    Some (record { parts = (grammar.row meanings state unit).acts; after = (grammar.row meanings state unit).after; rest = rest })
-turn_by grammar meanings state (too_long rest) =
-    Some (record { parts = (grammar.long_row meanings state).acts; after = (grammar.long_row meanings state).after; rest = rest })
+abbrev pub turn_by : (grammar : Grammar) → Oracles → grammar.S → Framed → Option (Turn grammar.S (Act grammar.P))
+turn_by grammar oracles state waiting = None
+turn_by grammar oracles state (whole unit rest) =
+    Some (record { parts = (grammar.row oracles state unit).acts; after = (grammar.row oracles state unit).after; rest = rest })
+turn_by grammar oracles state (too_long rest) =
+    Some (record { parts = (grammar.long_row oracles state).acts; after = (grammar.long_row oracles state).after; rest = rest })
 
 -- after the end nothing is read
-abbrev pub turn_in : (grammar : Grammar) → Meanings → grammar.S → Option Wants → List ℕ → Option (Turn grammar.S (Act grammar.P))
-turn_in grammar meanings state None octets = None
-turn_in grammar meanings state (Some want) octets = turn_by grammar meanings state (cut_by want octets)
+abbrev pub turn_in : (grammar : Grammar) → Oracles → grammar.S → Option Wants → List ℕ → Option (Turn grammar.S (Act grammar.P))
+turn_in grammar oracles state None octets = None
+turn_in grammar oracles state (Some want) octets = turn_by grammar oracles state (cut_by want octets)
 
 -- The protocol that these rows are.
 abbrev pub protocol_of : Grammar → Protocol
@@ -70,7 +70,7 @@ protocol_of grammar = record {
   P = grammar.P;
   opening = grammar.opening;
   start = grammar.start;
-  next = λ meanings state octets. turn_in grammar meanings state (grammar.wants state) octets;
+  next = λ oracles state octets. turn_in grammar oracles state (grammar.wants state) octets;
   spelled = grammar.spelled;
   Fits = grammar.Fits;
   HasEnded = λ state. grammar.wants state ≡ None;
@@ -93,39 +93,39 @@ StandsNext grammar stands more (Some rows) desk state = stands more rows desk st
 
 -- The opening was done, or the first of it; and the rows stand for the start.
 pub record BeginsRows (grammar : Grammar) {R : Type 0} (stands : StandingRows grammar R) (before now : Around) (result : Result R Fault) : Type 0 where
-  pub does : WithMeanings (λ meanings. Does (grammar.spelled meanings) before now (fault_of result) (grammar.opening before.desk.store))
+  pub does : WithOracles (λ oracles. Does (grammar.spelled oracles) before now (fault_of result) (grammar.opening before.desk.store))
   pub stands_for : IfOk result (λ rows. (moments : List Moment) → stands moments rows now.desk (grammar.start moments before.desk.store))
 
 -- The row was done, or the first of it, and the rows stand for the state after it.
-pub record AnswersBy (grammar : Grammar) {R : Type 0} (stands : StandingRows grammar R) (meanings : Meanings) (before now : Around) (result : Result (Option R) Fault) (more : List Moment) (row : Row grammar.S grammar.P) : Type 0 where
-  pub does : Does (grammar.spelled meanings) before now (fault_of result) row.acts
+pub record AnswersBy (grammar : Grammar) {R : Type 0} (stands : StandingRows grammar R) (oracles : Oracles) (before now : Around) (result : Result (Option R) Fault) (more : List Moment) (row : Row grammar.S grammar.P) : Type 0 where
+  pub does : Does (grammar.spelled oracles) before now (fault_of result) row.acts
   pub next : IfOk result (λ next. StandsNext grammar stands more next now.desk row.after)
 
 -- The row of the unit was done, or after a fault the first of it, with moments that the clock told.
 pub record Answers (grammar : Grammar) {R : Type 0} (stands : StandingRows grammar R) (before now : Around) (rows : R) (unit : List ℕ) (result : Result (Option R) Fault) : Type 0 where
   pub told : List Moment
   pub are_told : All (IsTold before.clock) told
-  pub answers : WithMeanings (λ meanings. (more : List Moment) (state : grammar.S) → stands (told ++ more) rows before.desk state
-      → AnswersBy grammar stands meanings before now result more (grammar.row meanings state unit))
+  pub answers : WithOracles (λ oracles. (more : List Moment) (state : grammar.S) → stands (told ++ more) rows before.desk state
+      → AnswersBy grammar stands oracles before now result more (grammar.row oracles state unit))
 
 -- The row of a line that is too long was done, or after a fault the first of it.
 abbrev pub Refuses : (grammar : Grammar) {R : Type 0} → StandingRows grammar R → Around → Around → R → Result (Unit {0}) Fault → Type 0
 Refuses grammar stands before now rows result =
-    WithMeanings (λ meanings. (more : List Moment) (state : grammar.S) → stands more rows before.desk state
-    → Does (grammar.spelled meanings) before now (fault_of result) (grammar.long_row meanings state).acts)
+    WithOracles (λ oracles. (more : List Moment) (state : grammar.S) → stands more rows before.desk state
+    → Does (grammar.spelled oracles) before now (fault_of result) (grammar.long_row oracles state).acts)
 
 -- what a row gives may be sent, and its state is sound
-pub record IsFitRow (grammar : Grammar) (meanings : Meanings) (row : Row grammar.S grammar.P) : Type 0 where
-  pub fit : AllByRecursion (IsFitAct (grammar.Fits meanings)) row.acts
+pub record IsFitRow (grammar : Grammar) (oracles : Oracles) (row : Row grammar.S grammar.P) : Type 0 where
+  pub fit : AllByRecursion (IsFitAct (grammar.Fits oracles)) row.acts
   pub sound : grammar.IsSound row.after
 
 -- The row of each unit that a sound state reads gives only what may be sent, and leaves a sound state.
 abbrev pub RowsFit : Grammar → Type 0
-RowsFit grammar = (meanings : Meanings) → AreMeanings meanings → (state : grammar.S) (unit : List ℕ) → grammar.IsSound state → IsFitRow grammar meanings (grammar.row meanings state unit)
+RowsFit grammar = (oracles : Oracles) → AreOracles oracles → (state : grammar.S) (unit : List ℕ) → grammar.IsSound state → IsFitRow grammar oracles (grammar.row oracles state unit)
 
 -- So does the row of a line that is too long, in each sound state.
 abbrev pub LongRowsFit : Grammar → Type 0
-LongRowsFit grammar = (meanings : Meanings) → AreMeanings meanings → (state : grammar.S) → grammar.IsSound state → IsFitRow grammar meanings (grammar.long_row meanings state)
+LongRowsFit grammar = (oracles : Oracles) → AreOracles oracles → (state : grammar.S) → grammar.IsSound state → IsFitRow grammar oracles (grammar.long_row oracles state)
 
 -- what a session does first, as a row
 abbrev pub opening_row : (grammar : Grammar) → List Moment → StoreState → Row grammar.S grammar.P

@@ -1,7 +1,7 @@
 -- What all sessions have in common. A protocol is a machine: from a state and octets it makes acts and a next state.
 pub mod Turns
 pub mod Acts
-pub mod Meanings
+pub mod Oracles
 pub mod Desks
 pub mod Moments
 pub mod Around

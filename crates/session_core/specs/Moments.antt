@@ -2,7 +2,7 @@
 use Rattle.std.specs.Prelude.{◌≡◌, ℕ, ◌<◌, List, Option, IfSome}
 use Rattle.mail_wire.specs.Dates.{IsDateText, IsInternalDate}
 use Rattle.mail_wire.specs.declared.clock.TheConstants.{CLOCK_END}
-use Rattle.session_core.specs.declared.outside.Stamp.{Stamp}
+use Rattle.session_core.specs.declared.outside.Timestamp.{Timestamp}
 
 -- the texts of a moment: in a field of a message, and under which a message is kept
 pub record Moment : Type 0 where
@@ -22,5 +22,5 @@ pub record IsTold (reading : Option ℕ) (moment : Moment) : Type 0 where
   pub reads : IfSome reading (λ fixed. seconds ≡ fixed)
 
 -- the moment of these texts
-abbrev pub moment_of : Stamp → Moment
-moment_of stamp = record { date = stamp.date; internal = stamp.internal }
+abbrev pub moment_of : Timestamp → Moment
+moment_of timestamp = record { date = timestamp.date; internal = timestamp.internal }

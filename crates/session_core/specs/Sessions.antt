@@ -7,7 +7,7 @@ use Rattle.session_core.specs.Acts.{Act}
 use Rattle.session_core.specs.Around.{Around}
 use Rattle.session_core.specs.Doing.{Does}
 use Rattle.session_core.specs.Keeps.{fault_of}
-use Rattle.session_core.specs.Meanings.{Meanings, WithMeanings}
+use Rattle.session_core.specs.Oracles.{Oracles, WithOracles}
 use Rattle.session_core.specs.Moments.{Moment, IsTold}
 use Rattle.session_core.specs.Protocol.{Protocol}
 use Rattle.session_core.specs.Steps.{Standing}
@@ -32,17 +32,17 @@ HasEnded variant.Ended = Unit {0}
 
 -- The opening was done, or the first of it; and the session stands for the start.
 pub record BeginsSession (protocol : Protocol) {M : Type 0} (stands : Standing protocol M) (before now : Around) (result : Result (Session M) Fault) : Type 0 where
-  pub does : WithMeanings (λ meanings. Does (protocol.spelled meanings) before now (fault_of result) (protocol.opening before.desk.store))
+  pub does : WithOracles (λ oracles. Does (protocol.spelled oracles) before now (fault_of result) (protocol.opening before.desk.store))
   pub stands_for : IfOk result (λ session. (moments : List Moment) → StandsFor protocol stands moments session now.desk (protocol.start moments before.desk.store) [])
 
 -- The acts of these turns were done, or after a fault the first of them; and the session stands for what they leave.
-pub record FeedsBy (protocol : Protocol) {M : Type 0} (stands : Standing protocol M) (meanings : Meanings) (before now : Around) (result : Result (Session M) Fault) (more : List Moment) (turn : Turn protocol.S (Act protocol.P)) : Type 0 where
-  pub does : Does (protocol.spelled meanings) before now (fault_of result) turn.parts
+pub record FeedsBy (protocol : Protocol) {M : Type 0} (stands : Standing protocol M) (oracles : Oracles) (before now : Around) (result : Result (Session M) Fault) (more : List Moment) (turn : Turn protocol.S (Act protocol.P)) : Type 0 where
+  pub does : Does (protocol.spelled oracles) before now (fault_of result) turn.parts
   pub stands_for : IfOk result (λ session. StandsFor protocol stands more session now.desk turn.after turn.rest)
 
 -- Whatever the session stands for, the call does the turns of the rest and the piece, with moments that the clock told.
 pub record Feeds (protocol : Protocol) {M : Type 0} (stands : Standing protocol M) (before now : Around) (session : Session M) (result : Result (Session M) Fault) (piece : List ℕ) : Type 0 where
   pub told : List Moment
   pub are_told : All (IsTold before.clock) told
-  pub feeds : WithMeanings (λ meanings. (more : List Moment) (state : protocol.S) (rest : List ℕ) → StandsFor protocol stands (told ++ more) session before.desk state rest
-      → FeedsBy protocol stands meanings before now result more (all_turns (protocol.next meanings) state (rest ++ piece)))
+  pub feeds : WithOracles (λ oracles. (more : List Moment) (state : protocol.S) (rest : List ℕ) → StandsFor protocol stands (told ++ more) session before.desk state rest
+      → FeedsBy protocol stands oracles before now result more (all_turns (protocol.next oracles) state (rest ++ piece)))

@@ -13,8 +13,8 @@ abbrev pub stay : {S P : Type 0} → S → List ℕ → Turn S P
 stay s octets = record { parts = []; after = s; rest = octets }
 
 -- The turn with these parts before its parts.
-abbrev pub behind : {S P : Type 0} → List P → Turn S P → Turn S P
-behind parts turn = record { parts = parts ++ turn.parts; after = turn.after; rest = turn.rest }
+abbrev pub following : {S P : Type 0} → List P → Turn S P → Turn S P
+following parts turn = record { parts = parts ++ turn.parts; after = turn.after; rest = turn.rest }
 
 -- more octets stand behind those of the turn
 abbrev pub followed_by : {S P : Type 0} → List ℕ → Turn S P → Turn S P
@@ -23,7 +23,7 @@ followed_by more turn = record { parts = turn.parts; after = turn.after; rest = 
 -- the turns that these octets bring from a state on, at most n of them
 unfoldable pub turns : {S P : Type 0} → (S → List ℕ → Option (Turn S P)) → ℕ → S → List ℕ → Turn S P
 turns next zero s octets = stay s octets
-turns next (suc n) s octets = option_map_or (λ turn. behind turn.parts (turns next n turn.after turn.rest)) (next s octets) (stay s octets)
+turns next (suc n) s octets = option_map_or (λ turn. following turn.parts (turns next n turn.after turn.rest)) (next s octets) (stay s octets)
 
 -- all turns that these octets bring: a turn takes an octet at least, so there are no more turns than octets
 abbrev pub all_turns : {S P : Type 0} → (S → List ℕ → Option (Turn S P)) → S → List ℕ → Turn S P

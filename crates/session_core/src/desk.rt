@@ -44,16 +44,16 @@ pub fn open_desk<J: Keeper>(
 ) -> Result<Desk, OpenFault>
     requires { AreLimits limits }
     // Its store is the fold of the whole records that were there, and the keeper holds them and nothing more.
-    ensures opens { IfOk result (λ desk. IfSome (J.tells keeper.old).octets (λ old. OpensTo old (J.tells keeper.new).octets desk.store.kept)) }
+    ensures opens { IfOk result (λ desk. IfSome (J.observed keeper.old).octets (λ old. OpensTo old (J.observed keeper.new).octets desk.store.kept)) }
     ensures fold { IfOk result (λ desk. IsFold desk.store.kept) }
-    ensures end { IfOk result (λ desk. IfSome (J.tells keeper.new).octets (λ octets. desk.store.end ≡ length octets)) }
+    ensures end { IfOk result (λ desk. IfSome (J.observed keeper.new).octets (λ octets. desk.store.end ≡ length octets)) }
     ensures open { IfOk result IsOpen }
     ensures limits { IfOk result (λ desk. desk.limits ≡ limits) }
     ensures cache { IfOk result (λ desk. desk.cache ≡ new_cache limits) }
 
-    ensures fault { IfErr result (λ fault. IfSome (J.tells keeper.old).octets (λ old. IsJournalFault old (J.tells keeper.new).octets fault)) }
-    ensures cause { HasKeeperCause (J.tells keeper.old) (J.tells keeper.new) result OpenFault.Keeper }
-    ensures leaves { LeavesRecords (J.tells keeper.old).octets (J.tells keeper.new).octets }
+    ensures fault { IfErr result (λ fault. IfSome (J.observed keeper.old).octets (λ old. IsJournalFault old (J.observed keeper.new).octets fault)) }
+    ensures cause { HasKeeperCause (J.observed keeper.old) (J.observed keeper.new) result OpenFault.Keeper }
+    ensures leaves { LeavesRecords (J.observed keeper.old).octets (J.observed keeper.new).octets }
 {
     let Ok(cache) = Cache::open(alloc, limits.pool_blocks, limits.cache_entries) else {
         return Err(OpenFault::Memory);
@@ -70,16 +70,16 @@ impl Desk {
     /// The store catches up with what others wrote to its journal. The cache stays, since the messages have the numbers that they had. Where
     /// that is refused, the desk isn't to be served from before it has caught up.
     pub fn catch_up<J: Keeper>(&mut self, keeper: &mut J) -> Result<(), OpenFault>
-        ensures reads { ReadsOn (J.tells keeper.old).octets self.old.store self.new.store }
-        ensures catches { OnOk result (IfSome (J.tells keeper.old).octets (λ old. CatchesUp self.old.store old (J.tells keeper.new).octets self.new.store.kept)) }
-        ensures end { OnOk result (IfSome (J.tells keeper.new).octets (λ octets. self.new.store.end ≡ length octets)) }
+        ensures reads { ReadsOn (J.observed keeper.old).octets self.old.store self.new.store }
+        ensures catches { OnOk result (IfSome (J.observed keeper.old).octets (λ old. CatchesUp self.old.store old (J.observed keeper.new).octets self.new.store.kept)) }
+        ensures end { OnOk result (IfSome (J.observed keeper.new).octets (λ octets. self.new.store.end ≡ length octets)) }
         ensures open { OnOk result (WorksWithin self.old.limits self.old → IsOpen self.new) }
         ensures limits { self.new.limits ≡ self.old.limits }
         ensures cache { self.new.cache ≡ self.old.cache }
 
-        ensures same { OnErr result ((J.tells keeper.new).octets ≡ (J.tells keeper.old).octets) }
-        ensures fault { IfErr result (λ fault. IfSome (J.tells keeper.old).octets (λ old. IsCatchFault self.old.store old fault)) }
-        ensures cause { HasKeeperCause (J.tells keeper.old) (J.tells keeper.new) result OpenFault.Keeper }
+        ensures same { OnErr result ((J.observed keeper.new).octets ≡ (J.observed keeper.old).octets) }
+        ensures fault { IfErr result (λ fault. IfSome (J.observed keeper.old).octets (λ old. IsCatchFault self.old.store old fault)) }
+        ensures cause { HasKeeperCause (J.observed keeper.old) (J.observed keeper.new) result OpenFault.Keeper }
         ensures failed { self.new.store.failed ≡ is_err result }
     {
         self.store.catch_up(keeper)
@@ -97,18 +97,18 @@ pub fn next_desk<J: Keeper>(
     requires limits { AreLimits limits }
     requires kept { IfSome kept (WorksWithin limits) }
     // Its store is the fold of the whole records that are there, whoever wrote them, and the keeper holds them and nothing more.
-    ensures opens { IfOk result (λ desk. IfSome (J.tells keeper.old).octets (λ old. HasFirst kept old → OpensTo old (J.tells keeper.new).octets desk.store.kept)) }
+    ensures opens { IfOk result (λ desk. IfSome (J.observed keeper.old).octets (λ old. HasFirst kept old → OpensTo old (J.observed keeper.new).octets desk.store.kept)) }
     // Whatever the desk had that was kept, no record goes: at most a prefix of one is cut off.
-    ensures anew { IfOk result (λ desk. IfSome (J.tells keeper.old).octets (λ old. OpensOrCatchesUp kept old (J.tells keeper.new).octets desk.store.kept)) }
-    ensures end { IfOk result (λ desk. IfSome (J.tells keeper.new).octets (λ octets. desk.store.end ≡ length octets)) }
+    ensures anew { IfOk result (λ desk. IfSome (J.observed keeper.old).octets (λ old. OpensOrCatchesUp kept old (J.observed keeper.new).octets desk.store.kept)) }
+    ensures end { IfOk result (λ desk. IfSome (J.observed keeper.new).octets (λ octets. desk.store.end ≡ length octets)) }
     ensures open { IfOk result IsOpen }
     ensures limits { IfOk result (λ desk. desk.limits ≡ limits) }
     // What the last sessions were shown is still held.
-    ensures cache { IfOk result (λ desk. IfSome (J.tells keeper.old).octets (λ old. IsNextCache limits kept old desk.cache)) }
+    ensures cache { IfOk result (λ desk. IfSome (J.observed keeper.old).octets (λ old. IsNextCache limits kept old desk.cache)) }
 
-    ensures fault { IfErr result (λ fault. IfSome (J.tells keeper.old).octets (λ old. IsJournalFault old (J.tells keeper.new).octets fault)) }
-    ensures cause { HasKeeperCause (J.tells keeper.old) (J.tells keeper.new) result OpenFault.Keeper }
-    ensures leaves { OnErr result (LeavesRecords (J.tells keeper.old).octets (J.tells keeper.new).octets) }
+    ensures fault { IfErr result (λ fault. IfSome (J.observed keeper.old).octets (λ old. IsJournalFault old (J.observed keeper.new).octets fault)) }
+    ensures cause { HasKeeperCause (J.observed keeper.old) (J.observed keeper.new) result OpenFault.Keeper }
+    ensures leaves { OnErr result (LeavesRecords (J.observed keeper.old).octets (J.observed keeper.new).octets) }
 {
     let Some(mut desk) = kept else {
         return open_desk(alloc, keeper, limits);

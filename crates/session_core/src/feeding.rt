@@ -4,7 +4,7 @@ ghost use Rattle.session_core.specs.Desks.{IsOpen};
 ghost use Rattle.session_core.specs.Keeps.{Keeps, fault_of};
 ghost use Rattle.session_core.specs.Sessions.{BeginsSession, Feeds, HasEnded, IsReady};
 
-use crate::machine::{Came, Machine};
+use crate::machine::{Advance, Machine};
 use crate::outside::Outside;
 use mail_wire::{Clock, Fault, Keeper, Octets, Wire};
 
@@ -40,8 +40,8 @@ fn feed_open<M: Machine, W: Wire, J: Keeper, C: Clock>(
     } = reading;
     let mut rest = piece;
     while !rest.is_empty() {
-        let came = machine.take_next(&mut kept, rest, outside)?;
-        let Came { next, used } = came;
+        let advance = machine.take_next(&mut kept, rest, outside)?;
+        let Advance { next, used } = advance;
         let Some(next) = next else {
             return Ok(Session::Ended);
         };

@@ -18,8 +18,8 @@ pub trait Giving {
     /// Gives it, or a prefix of it where that fails.
     fn give_to<W: Wire>(&self, msg: &[u8], wire: &mut W) -> Result<(), Failed>
         requires { fits self.now msg.now }
-        ensures gives { GivesOrFails (W.tells wire.old) (W.tells wire.new) result (given self.now msg.now) }
-        ensures cause { HasWireCause (W.tells wire.old) (W.tells wire.new) result Failed.Outside };
+        ensures gives { GivesOrFails (W.observed wire.old) (W.observed wire.new) result (given self.now msg.now) }
+        ensures cause { HasWireCause (W.observed wire.old) (W.observed wire.new) result Failed.Outside };
 }
 
 /// A range of what is shown of a message.

@@ -1,12 +1,12 @@
 //! What holds of what every session takes as given.
 ghost use Rattle.std.specs.Prelude.{◌≡◌};
-ghost use Rattle.session_core.specs.Meanings.{Meanings, AreMeanings};
+ghost use Rattle.session_core.specs.Oracles.{Oracles, AreOracles};
 ghost use Rattle.session_core.specs.declared.desk.TheConstants.{LIMITS};
 
 /// There are functions that give surrogates, read paths, tell trees, and read commands and names, so what is said of all such
 /// functions is said of some.
-pub fn meanings_are_given()
-    ensures { (meanings : Meanings) × AreMeanings meanings }
+pub fn oracles_are_given()
+    ensures { (oracles : Oracles) × AreOracles oracles }
 {}
 
 /// The limits of the program have these values: a message of 32 MiB, 1 GiB that a session takes, a cache of 256 surrogates in 1,024 blocks.

@@ -5,7 +5,7 @@ ghost use Rattle.session_core.specs.Acts.{Act};
 ghost use Rattle.session_core.specs.declared.desk.Desk.{Desk as DeskValue};
 ghost use Rattle.session_core.specs.Desks.{IsOpen};
 ghost use Rattle.session_core.specs.Keeps.{Keeps, fault_of};
-ghost use Rattle.session_core.specs.Meanings.{Meanings, AreMeanings};
+ghost use Rattle.session_core.specs.Oracles.{Oracles, AreOracles};
 ghost use Rattle.session_core.specs.Moments.{Moment};
 ghost use Rattle.session_core.specs.Protocol.{Protocol, IsFitTurn};
 ghost use Rattle.session_core.specs.Steps.{Begins, IsReadyAfter, Steps};
@@ -15,7 +15,7 @@ use mail_wire::{Clock, Fault, Keeper, Octets, Wire};
 
 /// What came of a piece: the machine behind it, none where the session has ended, and how many octets were used.
 #[derive(Debug, Drop)]
-pub struct Came<M> {
+pub struct Advance<M> {
     pub next: Option<M>,
     pub used: usize,
 }
@@ -44,32 +44,32 @@ pub trait Machine: Drop {
         kept: &mut Octets,
         piece: &[u8],
         outside: &mut Outside<W, J, C>,
-    ) -> Result<Came<Self>, Fault>
+    ) -> Result<Advance<Self>, Fault>
         requires some { 0 < length piece.now }
         requires opens { IsOpen outside.old.desk }
         requires ready { is_ready self kept.old outside.old.desk }
         ensures steps { Steps protocol stands outside.old outside.new self kept.old kept.new piece.now result }
-        ensures used { IfOk result (λ came. (0 < came.used) × (came.used ≤ length piece.now)) }
-        ensures ready { IfOk result (λ came. IsReadyAfter is_ready came kept.new outside.new.desk) }
+        ensures used { IfOk result (λ advance. (0 < advance.used) × (advance.used ≤ length piece.now)) }
+        ensures ready { IfOk result (λ advance. IsReadyAfter is_ready advance kept.new outside.new.desk) }
         ensures keeps { Keeps outside.old outside.new (fault_of result) };
 
     /// A turn takes an octet at least, and doesn't depend on what comes behind it.
-    ghost framed: { (meanings : Meanings) → AreMeanings meanings → IsFramed (protocol.next meanings) };
+    ghost framed: { (oracles : Oracles) → AreOracles oracles → IsFramed (protocol.next oracles) };
 
     /// What was kept brings no turn.
-    ghost waits: { (meanings : Meanings) → AreMeanings meanings → (more : List Moment) (machine : Self) (kept : List ℕ) (desk : DeskValue) (state : protocol.S) (rest : List ℕ)
-        → is_ready machine kept desk → stands more machine kept desk state rest → protocol.next meanings state rest ≡ None };
+    ghost waits: { (oracles : Oracles) → AreOracles oracles → (more : List Moment) (machine : Self) (kept : List ℕ) (desk : DeskValue) (state : protocol.S) (rest : List ℕ)
+        → is_ready machine kept desk → stands more machine kept desk state rest → protocol.next oracles state rest ≡ None };
 
     /// A machine stands for no end, after which nothing brings a turn.
     ghost goes_on: { (more : List Moment) (machine : Self) (kept : List ℕ) (desk : DeskValue) (state : protocol.S) (rest : List ℕ)
         → stands more machine kept desk state rest → ¬ protocol.HasEnded state };
 
-    ghost quiet: { (meanings : Meanings) (state : protocol.S) (rest : List ℕ) → protocol.HasEnded state → protocol.next meanings state rest ≡ None };
+    ghost quiet: { (oracles : Oracles) (state : protocol.S) (rest : List ℕ) → protocol.HasEnded state → protocol.next oracles state rest ≡ None };
 
     /// Whatever is asked for, the replies may be sent.
-    ghost begins_fit: { (meanings : Meanings) → AreMeanings meanings → (moments : List Moment) (desk : DeskValue) → IsOpen desk
-        → IsFitTurn protocol meanings (record { parts = protocol.opening desk.store; after = protocol.start moments desk.store; rest = [] }) };
+    ghost begins_fit: { (oracles : Oracles) → AreOracles oracles → (moments : List Moment) (desk : DeskValue) → IsOpen desk
+        → IsFitTurn protocol oracles (record { parts = protocol.opening desk.store; after = protocol.start moments desk.store; rest = [] }) };
 
-    ghost fits: { (meanings : Meanings) → AreMeanings meanings → (state : protocol.S) (octets : List ℕ) (turn : Turn protocol.S (Act protocol.P)) → protocol.IsSound state
-        → protocol.next meanings state octets ≡ Some turn → IsFitTurn protocol meanings turn };
+    ghost fits: { (oracles : Oracles) → AreOracles oracles → (state : protocol.S) (octets : List ℕ) (turn : Turn protocol.S (Act protocol.P)) → protocol.IsSound state
+        → protocol.next oracles state octets ≡ Some turn → IsFitTurn protocol oracles turn };
 }

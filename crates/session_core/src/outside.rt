@@ -11,7 +11,7 @@ ghost use Rattle.surrogate_cache.specs.Caching.{Fetched, LosesShown, asked_by};
 ghost use Rattle.surrogate_cache.specs.Served.{IsServed, HasServedHeaders};
 ghost use Rattle.session_core.specs.Around.{LeavesDesk};
 ghost use Rattle.session_core.specs.Moments.{IsMoment, IsTold, moment_of};
-ghost use Rattle.session_core.specs.Changes.{append_changes, calls_of, came_of, changes_of, created_of, folder_changes};
+ghost use Rattle.session_core.specs.Changes.{append_changes, calls_of, advance_of, changes_of, created_of, folder_changes};
 ghost use Rattle.session_core.specs.Desks.{IsCacheOf, IsOpen, stored_date, stored_octets};
 ghost use Rattle.session_core.specs.Doing.{Asks, IsChanged, Makes, Replies, wanting};
 ghost use Rattle.session_core.specs.Keeps.{Keeps, fault_of};
@@ -45,9 +45,9 @@ impl<'w, 'k, 'c, W: Wire, J: Keeper, C: Clock> Model for Outside<'w, 'k, 'c, W, 
     ghost Value = { Around };
 
     ghost view = { λ a. record {
-      wire = W.tells a.wire.now;
-      keeper = J.tells a.keeper.now;
-      clock = C.tells a.clock.now;
+      wire = W.observed a.wire.now;
+      keeper = J.observed a.keeper.now;
+      clock = C.observed a.clock.now;
       desk = a.desk;
       loans = record { wire = a.wire.ghost_name; keeper = a.keeper.ghost_name; clock = a.clock.ghost_name };
     } };
@@ -55,7 +55,7 @@ impl<'w, 'k, 'c, W: Wire, J: Keeper, C: Clock> Model for Outside<'w, 'k, 'c, W, 
 
 /// A moment: the seconds since 1970, and its texts.
 #[derive(Debug, Drop)]
-pub struct Stamp {
+pub struct Timestamp {
     pub seconds: u64,
     /// In a field of a message (RFC 5322, 3.3).
     pub date: Octets,
@@ -128,8 +128,8 @@ fn give_from<G: Giving, W: Wire>(
 ) -> Result<(), Fault>
     requires id { id < length store.now.kept.messages }
     requires fits { G.fits giving.now (stored_octets store.now id) }
-    ensures gives { GivesOrFails (W.tells wire.old) (W.tells wire.new) result (G.given giving.now (stored_octets store.now id)) }
-    ensures cause { HasWireCause (W.tells wire.old) (W.tells wire.new) result Fault.Wire }
+    ensures gives { GivesOrFails (W.observed wire.old) (W.observed wire.new) result (G.given giving.now (stored_octets store.now id)) }
+    ensures cause { HasWireCause (W.observed wire.old) (W.observed wire.new) result Fault.Wire }
     ensures keeper { ¬ (result ≡ Err Fault.Keeper) }
 {
     match giving.give_to(store.octets(id), wire) {
@@ -146,9 +146,9 @@ fn deliver_to<J: Keeper>(
 ) -> Result<Delivered, Fault>
     requires works { store.old.failed ≡ false }
     requires deliverable { IsDeliverable store.old delivery.now }
-    ensures came { IfOk result (λ came. came ≡ came_of (delivery_refusal store.old delivery.now)) }
-    ensures changes { IsChanged store.old store.new (J.tells keeper.old).octets (J.tells keeper.new).octets (fault_of result) (changes_of store.old delivery.now) }
-    ensures cause { HasKeeperCause (J.tells keeper.old) (J.tells keeper.new) result Fault.Keeper }
+    ensures advance { IfOk result (λ advance. advance ≡ advance_of (delivery_refusal store.old delivery.now)) }
+    ensures changes { IsChanged store.old store.new (J.observed keeper.old).octets (J.observed keeper.new).octets (fault_of result) (changes_of store.old delivery.now) }
+    ensures cause { HasKeeperCause (J.observed keeper.old) (J.observed keeper.new) result Fault.Keeper }
     ensures wire { ¬ (result ≡ Err Fault.Wire) }
 {
     match store.deliver(keeper, delivery) {
@@ -171,9 +171,9 @@ fn append_to<J: Keeper>(
 ) -> Result<Delivered, Fault>
     requires works { store.old.failed ≡ false }
     requires appendable { IsAppendable store.old folder flags date.now octets.now }
-    ensures came { IfOk result (λ came. came ≡ came_of (append_refusal store.old octets.now)) }
-    ensures changes { IsChanged store.old store.new (J.tells keeper.old).octets (J.tells keeper.new).octets (fault_of result) (append_changes store.old folder flags date.now octets.now) }
-    ensures cause { HasKeeperCause (J.tells keeper.old) (J.tells keeper.new) result Fault.Keeper }
+    ensures advance { IfOk result (λ advance. advance ≡ advance_of (append_refusal store.old octets.now)) }
+    ensures changes { IsChanged store.old store.new (J.observed keeper.old).octets (J.observed keeper.new).octets (fault_of result) (append_changes store.old folder flags date.now octets.now) }
+    ensures cause { HasKeeperCause (J.observed keeper.old) (J.observed keeper.new) result Fault.Keeper }
     ensures wire { ¬ (result ≡ Err Fault.Wire) }
 {
     match store.append(keeper, folder, flags, date, octets) {
@@ -190,9 +190,9 @@ fn expunge_from<J: Keeper>(store: &mut Store, keeper: &mut J, ids: &[u32]) -> Re
     requires works { store.old.failed ≡ false }
     requires live { expunge_refusal store.old.kept ids.now ≡ None }
     requires distinct { IsDistinct (λ a b. a == b) ids.now }
-    ensures changes { IsChanged store.old store.new (J.tells keeper.old).octets (J.tells keeper.new).octets (fault_of result) (calls_of (expunged ids.now)) }
-    ensures nothing { ids.now ≡ [] → (store.new ≡ store.old) × (J.tells keeper.new ≡ J.tells keeper.old) }
-    ensures cause { HasKeeperCause (J.tells keeper.old) (J.tells keeper.new) result Fault.Keeper }
+    ensures changes { IsChanged store.old store.new (J.observed keeper.old).octets (J.observed keeper.new).octets (fault_of result) (calls_of (expunged ids.now)) }
+    ensures nothing { ids.now ≡ [] → (store.new ≡ store.old) × (J.observed keeper.new ≡ J.observed keeper.old) }
+    ensures cause { HasKeeperCause (J.observed keeper.old) (J.observed keeper.new) result Fault.Keeper }
     ensures wire { ¬ (result ≡ Err Fault.Wire) }
 {
     match store.expunge(keeper, ids) {
@@ -213,8 +213,8 @@ fn set_flags_in<J: Keeper>(
     requires works { store.old.failed ≡ false }
     requires live { flags_refusal store.old.kept id ≡ None }
     requires flags { flags < 32 }
-    ensures changes { IsChanged store.old store.new (J.tells keeper.old).octets (J.tells keeper.new).octets (fault_of result) ((records.Flags id flags ∷ []) ∷ []) }
-    ensures cause { HasKeeperCause (J.tells keeper.old) (J.tells keeper.new) result Fault.Keeper }
+    ensures changes { IsChanged store.old store.new (J.observed keeper.old).octets (J.observed keeper.new).octets (fault_of result) ((records.Flags id flags ∷ []) ∷ []) }
+    ensures cause { HasKeeperCause (J.observed keeper.old) (J.observed keeper.new) result Fault.Keeper }
     ensures wire { ¬ (result ≡ Err Fault.Wire) }
 {
     match store.set_flags(keeper, id, flags) {
@@ -234,8 +234,8 @@ fn settle_in<J: Keeper>(
 ) -> Result<(), Fault>
     requires works { store.old.failed ≡ false }
     requires waits { settle_refusal store.old.kept entry index ≡ None }
-    ensures changes { IsChanged store.old store.new (J.tells keeper.old).octets (J.tells keeper.new).octets (fault_of result) ((records.Settle entry index ∷ []) ∷ []) }
-    ensures cause { HasKeeperCause (J.tells keeper.old) (J.tells keeper.new) result Fault.Keeper }
+    ensures changes { IsChanged store.old store.new (J.observed keeper.old).octets (J.observed keeper.new).octets (fault_of result) ((records.Settle entry index ∷ []) ∷ []) }
+    ensures cause { HasKeeperCause (J.observed keeper.old) (J.observed keeper.new) result Fault.Keeper }
     ensures wire { ¬ (result ≡ Err Fault.Wire) }
 {
     match store.settle(keeper, entry, index) {
@@ -256,9 +256,9 @@ fn create_folder_in<J: Keeper>(
     requires works { store.old.failed ≡ false }
     requires known { account < length store.old.kept.accounts }
     requires name { IsFolderName (kept_name name.now) }
-    ensures came { IfOk result (λ came. came ≡ created_of (folder_refusal store.old.kept account name.now)) }
-    ensures changes { IsChanged store.old store.new (J.tells keeper.old).octets (J.tells keeper.new).octets (fault_of result) (folder_changes store.old account name.now) }
-    ensures cause { HasKeeperCause (J.tells keeper.old) (J.tells keeper.new) result Fault.Keeper }
+    ensures advance { IfOk result (λ advance. advance ≡ created_of (folder_refusal store.old.kept account name.now)) }
+    ensures changes { IsChanged store.old store.new (J.observed keeper.old).octets (J.observed keeper.new).octets (fault_of result) (folder_changes store.old account name.now) }
+    ensures cause { HasKeeperCause (J.observed keeper.old) (J.observed keeper.new) result Fault.Keeper }
     ensures wire { ¬ (result ≡ Err Fault.Wire) }
 {
     match store.create_folder(keeper, account, name) {
@@ -272,13 +272,13 @@ fn create_folder_in<J: Keeper>(
 }
 
 // The texts of this moment.
-fn read_stamp<C: Clock>(alloc: Global, clock: &mut C) -> Result<Stamp, Memory>
-    ensures told { IfOk result (λ stamp. IsTold (C.tells clock.old) (moment_of stamp)) }
-    ensures seconds { IfOk result (λ stamp. IsMoment stamp.seconds (moment_of stamp)) }
-    ensures clock { C.tells clock.new ≡ C.tells clock.old }
+fn read_timestamp<C: Clock>(alloc: Global, clock: &mut C) -> Result<Timestamp, Memory>
+    ensures told { IfOk result (λ timestamp. IsTold (C.observed clock.old) (moment_of timestamp)) }
+    ensures seconds { IfOk result (λ timestamp. IsMoment timestamp.seconds (moment_of timestamp)) }
+    ensures clock { C.observed clock.new ≡ C.observed clock.old }
 {
     let seconds = clock.now();
-    Ok(Stamp {
+    Ok(Timestamp {
         seconds,
         date: date_text(alloc, seconds)?,
         internal: internal_date(alloc, seconds)?,
@@ -295,9 +295,9 @@ impl<'w, 'k, 'c, W: Wire, J: Keeper, C: Clock> Outside<'w, 'k, 'c, W, J, C> {
         clock: &'c mut C,
     ) -> Self
         ensures desk { result.desk ≡ desk }
-        ensures wire { result.wire ≡ W.tells wire.old }
-        ensures keeper { result.keeper ≡ J.tells keeper.old }
-        ensures clock { result.clock ≡ C.tells clock.old }
+        ensures wire { result.wire ≡ W.observed wire.old }
+        ensures keeper { result.keeper ≡ J.observed keeper.old }
+        ensures clock { result.clock ≡ C.observed clock.old }
         ensures loans { result.loans ≡ record { wire = wire.entry.ghost_name; keeper = keeper.entry.ghost_name; clock = clock.entry.ghost_name } }
     {
         Outside {
@@ -312,9 +312,9 @@ impl<'w, 'k, 'c, W: Wire, J: Keeper, C: Clock> Outside<'w, 'k, 'c, W, J, C> {
     /// Gives the desk back, and all that was lent.
     pub fn into_parts(self) -> (Desk, &'w mut W, &'k mut J, &'c mut C)
         ensures desk { result.0 ≡ self.entry.desk }
-        ensures wire { W.tells result.1.now ≡ self.entry.wire }
-        ensures keeper { J.tells result.2.now ≡ self.entry.keeper }
-        ensures clock { C.tells result.3.now ≡ self.entry.clock }
+        ensures wire { W.observed result.1.now ≡ self.entry.wire }
+        ensures keeper { J.observed result.2.now ≡ self.entry.keeper }
+        ensures clock { C.observed result.3.now ≡ self.entry.clock }
         ensures wire_loan { result.1.ghost_name ≡ self.entry.loans.wire }
         ensures keeper_loan { result.2.ghost_name ≡ self.entry.loans.keeper }
         ensures clock_loan { result.3.ghost_name ≡ self.entry.loans.clock }
@@ -442,7 +442,7 @@ impl<'w, 'k, 'c, W: Wire, J: Keeper, C: Clock> Outside<'w, 'k, 'c, W, J, C> {
     pub fn deliver(&mut self, delivery: &Delivery) -> Result<Delivered, Fault>
         requires opens { IsOpen self.old.desk }
         requires deliverable { IsDeliverable self.old.desk.store delivery.now }
-        ensures came { IfOk result (λ came. came ≡ came_of (delivery_refusal self.old.desk.store delivery.now)) }
+        ensures advance { IfOk result (λ advance. advance ≡ advance_of (delivery_refusal self.old.desk.store delivery.now)) }
         ensures makes { Makes self.old self.new (fault_of result) (changes_of self.old.desk.store delivery.now) }
         ensures wire { ¬ (result ≡ Err Fault.Wire) }
         ensures keeps { Keeps self.old self.new (fault_of result) }
@@ -460,7 +460,7 @@ impl<'w, 'k, 'c, W: Wire, J: Keeper, C: Clock> Outside<'w, 'k, 'c, W, J, C> {
     ) -> Result<Delivered, Fault>
         requires opens { IsOpen self.old.desk }
         requires appendable { IsAppendable self.old.desk.store folder flags date.now octets.now }
-        ensures came { IfOk result (λ came. came ≡ came_of (append_refusal self.old.desk.store octets.now)) }
+        ensures advance { IfOk result (λ advance. advance ≡ advance_of (append_refusal self.old.desk.store octets.now)) }
         ensures makes { Makes self.old self.new (fault_of result) (append_changes self.old.desk.store folder flags date.now octets.now) }
         ensures keeps { Keeps self.old self.new (fault_of result) }
     {
@@ -513,7 +513,7 @@ impl<'w, 'k, 'c, W: Wire, J: Keeper, C: Clock> Outside<'w, 'k, 'c, W, J, C> {
         requires opens { IsOpen self.old.desk }
         requires known { account < length self.old.desk.store.kept.accounts }
         requires name { IsFolderName (kept_name name.now) }
-        ensures came { IfOk result (λ came. came ≡ created_of (folder_refusal self.old.desk.store.kept account name.now)) }
+        ensures advance { IfOk result (λ advance. advance ≡ created_of (folder_refusal self.old.desk.store.kept account name.now)) }
         ensures makes { Makes self.old self.new (fault_of result) (folder_changes self.old.desk.store account name.now) }
         ensures keeps { Keeps self.old self.new (fault_of result) }
     {
@@ -521,11 +521,11 @@ impl<'w, 'k, 'c, W: Wire, J: Keeper, C: Clock> Outside<'w, 'k, 'c, W, J, C> {
     }
 
     /// The present moment, in UTC.
-    pub fn now(&mut self) -> Result<Stamp, Memory>
-        ensures told { IfOk result (λ stamp. IsTold self.old.clock (moment_of stamp)) }
-        ensures seconds { IfOk result (λ stamp. IsMoment stamp.seconds (moment_of stamp)) }
+    pub fn now(&mut self) -> Result<Timestamp, Memory>
+        ensures told { IfOk result (λ timestamp. IsTold self.old.clock (moment_of timestamp)) }
+        ensures seconds { IfOk result (λ timestamp. IsMoment timestamp.seconds (moment_of timestamp)) }
         ensures same { self.new ≡ self.old }
     {
-        read_stamp(self.alloc, self.clock)
+        read_timestamp(self.alloc, self.clock)
     }
 }

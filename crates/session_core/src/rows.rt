@@ -7,11 +7,11 @@ ghost use Rattle.session_core.specs.Desks.{IsOpen};
 ghost use Rattle.session_core.specs.FramedRows.{framed_next};
 ghost use Rattle.session_core.specs.Grammar.{Grammar, Answers, BeginsRows, IsFitRow, IsUnit, LongRowsFit, Refuses, RowsFit, cut_by, opening_row, protocol_of};
 ghost use Rattle.session_core.specs.Keeps.{Keeps, fault_of};
-ghost use Rattle.session_core.specs.Meanings.{Meanings, AreMeanings};
+ghost use Rattle.session_core.specs.Oracles.{Oracles, AreOracles};
 ghost use Rattle.session_core.specs.Moments.{Moment};
 ghost use Rattle.session_core.specs.laws.FramedLaws.{framed_by, waits_by, goes_on_by, quiet_by, fits_by};
 
-use crate::machine::{Came, Machine};
+use crate::machine::{Advance, Machine};
 use crate::outside::Outside;
 use mail_wire::{Clock, Fault, FoundLine, Keeper, Octets, Wire, find_line};
 
@@ -73,10 +73,10 @@ pub trait Rows: Drop {
     /// The rows want what their states want, and a line that is too long ends the session.
     ghost agrees: { (more : List Moment) (rows : Self) (desk : DeskValue) (state : grammar.S) → stands more rows desk state → grammar.wants state ≡ Some (wanted rows) };
 
-    ghost ends: { (meanings : Meanings) (state : grammar.S) → grammar.wants (grammar.long_row meanings state).after ≡ None };
+    ghost ends: { (oracles : Oracles) (state : grammar.S) → grammar.wants (grammar.long_row oracles state).after ≡ None };
 
     /// Whatever is asked for, the replies may be sent.
-    ghost opening_fits: { (meanings : Meanings) → AreMeanings meanings → (moments : List Moment) (desk : DeskValue) → IsOpen desk → IsFitRow grammar meanings (opening_row grammar moments desk.store) };
+    ghost opening_fits: { (oracles : Oracles) → AreOracles oracles → (moments : List Moment) (desk : DeskValue) → IsOpen desk → IsFitRow grammar oracles (opening_row grammar moments desk.store) };
 
     ghost rows_fit: { RowsFit grammar };
 
@@ -113,15 +113,15 @@ pub struct Framed<R> {
     pub rows: R,
 }
 
-fn came_of<R: Rows>(next: Option<R>, used: usize) -> Came<Framed<R>>
+fn advance_of<R: Rows>(next: Option<R>, used: usize) -> Advance<Framed<R>>
     ensures { result ≡ record { next = framed_next next; used = used } }
 {
     match next {
-        Some(rows) => Came {
+        Some(rows) => Advance {
             next: Some(Framed { rows }),
             used,
         },
-        None => Came { next: None, used },
+        None => Advance { next: None, used },
     }
 }
 
@@ -142,25 +142,25 @@ impl<R: Rows> Machine for Framed<R> {
         kept: &mut Octets,
         piece: &[u8],
         outside: &mut Outside<W, J, C>,
-    ) -> Result<Came<Self>, Fault> {
+    ) -> Result<Advance<Self>, Fault> {
         match find_unit(self.rows.wants(), kept.as_slice(), piece) {
             FoundLine::Whole(used) => {
                 let (front, _) = piece.split_at(used);
                 kept.push_slice(front)?;
                 let next = self.rows.answer(kept.as_slice(), outside)?;
                 kept.clear();
-                Ok(came_of(next, used))
+                Ok(advance_of(next, used))
             }
             FoundLine::TooLong => {
                 self.rows.refuse_line(outside)?;
-                Ok(Came {
+                Ok(Advance {
                     next: None,
                     used: piece.len(),
                 })
             }
             FoundLine::Waiting => {
                 kept.push_slice(piece)?;
-                Ok(Came {
+                Ok(Advance {
                     next: Some(self),
                     used: piece.len(),
                 })
@@ -168,15 +168,15 @@ impl<R: Rows> Machine for Framed<R> {
         }
     }
 
-    ghost framed = { λ meanings are. framed_by R.grammar meanings };
+    ghost framed = { λ oracles are. framed_by R.grammar oracles };
 
-    ghost waits = { λ meanings are more machine kept desk state rest ready stands. waits_by R.grammar meanings (R.wanted machine.rows) kept state rest (R.agrees more machine.rows desk state stands.0) ready.0 stands.1 };
+    ghost waits = { λ oracles are more machine kept desk state rest ready stands. waits_by R.grammar oracles (R.wanted machine.rows) kept state rest (R.agrees more machine.rows desk state stands.0) ready.0 stands.1 };
 
     ghost goes_on = { λ more machine kept desk state rest stands. goes_on_by R.grammar (R.wanted machine.rows) state (R.agrees more machine.rows desk state stands.0) };
 
-    ghost quiet = { λ meanings state rest ended. quiet_by R.grammar meanings state rest ended };
+    ghost quiet = { λ oracles state rest ended. quiet_by R.grammar oracles state rest ended };
 
-    ghost begins_fit = { λ meanings are moments desk opens. let row = R.opening_fits meanings are moments desk opens in record { fit = row.fit; sound = row.sound } };
+    ghost begins_fit = { λ oracles are moments desk opens. let row = R.opening_fits oracles are moments desk opens in record { fit = row.fit; sound = row.sound } };
 
     ghost fits = { fits_by R.grammar R.rows_fit R.long_rows_fit };
 }

@@ -58,8 +58,8 @@ not_announced line apart = none_by line (nat_le 5 (length line)) (announces line
 pub echo_answers : (a b : Around) (session : Echo) (unit : List ℕ) (result : Result (Option Echo) Fault) (octets : List ℕ) (after : State) → row_of (state_of session) unit ≡ replies octets after
     → Replies a b (fault_of result) octets → ((more : List Moment) → IfOk result (λ next. StandsNext echo_grammar EchoStands more next b.desk after)) → Answers echo_grammar EchoStands a b session unit result
 echo_answers a b session unit result octets after row gave next =
-    Answers-reply echo_grammar EchoStands a b session unit result (λ meanings. octets ∷ []) (λ meanings more. after) octets (λ meanings are more state stood. rw stood row) (λ meanings are. append-nil octets) gave
-    (λ meanings are more. next more)
+    Answers-reply echo_grammar EchoStands a b session unit result (λ oracles. octets ∷ []) (λ oracles more. after) octets (λ oracles are more state stood. rw stood row) (λ oracles are. append-nil octets) gave
+    (λ oracles are more. next more)
 
 -- the rows of a line
 pub go_row : (said line command : List ℕ) (n : ℕ) → Some n ≡ literal_of line → command ≡ said ++ line → row_of (saying said) line ≡ replies (codes "+ go" ++ crlf) (literal command n)

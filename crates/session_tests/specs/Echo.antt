@@ -1,6 +1,7 @@
 -- The toy: its states, and the row of each line and of each literal.
 use Rattle.std.specs.Prelude.{◌≡◌, ℕ, ◌+◌, ◌-◌, List, [], ◌∷◌, ◌++◌, Bool, true, false, ◌&&◌, ◌==◌, nat_le, slice_index, codes, length, if◌then◌else◌, Option, Some, None}
 use Rattle.std.specs.Str.{bytes_eq}
+use Rattle.mail_wire.specs.Characters.{left_brace, right_brace}
 use Rattle.mail_wire.specs.Lines.{crlf}
 use Rattle.session_core.specs.Moments.{Moment}
 use Rattle.session_core.specs.Acts.{gives}
@@ -21,7 +22,8 @@ pub data State : Type 0 where
 
 -- A literal is announced at this place: a digit from 1 to 9 in braces.
 abbrev pub announces : List ℕ → ℕ → Bool
-announces line at = slice_index line at == 123 && nat_le 49 (slice_index line (at + 1)) && nat_le (slice_index line (at + 1)) 57 && slice_index line (at + 2) == 125
+announces line at = slice_index line at == left_brace
+    && nat_le 49 (slice_index line (at + 1)) && nat_le (slice_index line (at + 1)) 57 && slice_index line (at + 2) == right_brace
 
 -- the length of the literal that a line announces by `{n}` before its CRLF
 unfoldable pub literal_of : List ℕ → Option ℕ
@@ -69,10 +71,10 @@ echo_grammar = record {
   opening = λ store. [];
   start = λ moments store. saying [];
   wants = wants_of;
-  row = λ meanings state unit. row_of state unit;
-  long_row = λ meanings state. replies too_long ended;
-  spelled = λ meanings part. part;
-  Fits = λ meanings part. Unit {0};
+  row = λ oracles state unit. row_of state unit;
+  long_row = λ oracles state. replies too_long ended;
+  spelled = λ oracles part. part;
+  Fits = λ oracles part. Unit {0};
   IsSound = λ state. Unit {0};
 }
 

@@ -116,9 +116,9 @@ impl Rows for Echo {
 
     ghost agrees = { agrees_by };
 
-    ghost ends = { λ meanings state. refl };
+    ghost ends = { λ oracles state. refl };
 
-    ghost opening_fits = { λ meanings are moments desk opens. record { fit = tt; sound = tt } };
+    ghost opening_fits = { λ oracles are moments desk opens. record { fit = tt; sound = tt } };
 
     ghost rows_fit = { rows_fit_by };
 

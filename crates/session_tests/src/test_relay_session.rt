@@ -43,14 +43,14 @@ fn journal(alloc: Global, entry: &[u8]) -> Result<Octets, Fail> {
 
 // What a run came to: its end, what was given, and what is kept behind the journal.
 #[derive(Drop)]
-struct Came {
+struct Advance {
     end: RelayEnd,
     given: Octets,
     kept: Octets,
 }
 
 // What a keeper keeps behind what it began with.
-fn kept_behind(alloc: Global, keeper: &MemKeeper, begun: usize) -> Result<Octets, Fail> {
+fn kept_following(alloc: Global, keeper: &MemKeeper, begun: usize) -> Result<Octets, Fail> {
     let kept = keeper.octets().get(begun..).unwrap_or(b"");
     Ok(Octets::from_slice(alloc, kept)?)
 }
@@ -80,15 +80,15 @@ fn relayed(
     server: &[u8],
     size: usize,
     call: u64,
-) -> Result<Came, Fail> {
+) -> Result<Advance, Fail> {
     let before = journal(alloc, entry)?;
     let begun = before.len();
     let mut keeper = MemKeeper::new(before, Vec::new(alloc));
     let mut wire = server_of(alloc, server, size, call)?;
     let end = answer_over(alloc, &mut wire, &mut keeper)??;
     let given = given(alloc, wire.entries())?;
-    let kept = kept_behind(alloc, &keeper, begun)?;
-    Ok(Came { end, given, kept })
+    let kept = kept_following(alloc, &keeper, begun)?;
+    Ok(Advance { end, given, kept })
 }
 
 // What is kept behind the journal where the keeper fails at a call within the run.
@@ -98,7 +98,7 @@ fn kept_by_failing(alloc: Global, call: u64) -> Result<Octets, Fail> {
     let mut keeper = keeper_of(alloc, before.as_slice(), failing(call))?;
     let mut wire = server_of(alloc, EIGHT, 4096, NEVER)?;
     match answer_over(alloc, &mut wire, &mut keeper)? {
-        Err(Fault::Keeper) => kept_behind(alloc, &keeper, begun),
+        Err(Fault::Keeper) => kept_following(alloc, &keeper, begun),
         _ => Err(Fail::from("the keeper did not fail in the run")),
     }
 }
@@ -110,7 +110,7 @@ fn dialled(
     server: &[u8],
     failing_dial: u64,
     failing_wire: u64,
-) -> Result<Came, Fail> {
+) -> Result<Advance, Fail> {
     let begun = before.len();
     let mut keeper = MemKeeper::new(before, Vec::new(alloc));
     let mut failures = Vec::new(alloc);
@@ -134,8 +134,8 @@ fn dialled(
         return Err(Fail::from("more was dialled than this host once"));
     }
     let given = given(alloc, dial.entries())?;
-    let kept = kept_behind(alloc, &keeper, begun)?;
-    Ok(Came { end, given, kept })
+    let kept = kept_following(alloc, &keeper, begun)?;
+    Ok(Advance { end, given, kept })
 }
 
 // Whether the numbers of the end are these.
@@ -152,51 +152,56 @@ fn stopped_by(end: &RelayEnd, octets: &[u8]) -> bool {
 }
 
 // Whether what is kept says this.
-fn says(came: &Came, text: &[u8]) -> bool {
-    memmem::find(came.kept.as_slice(), text).is_some()
+fn says(advance: &Advance, text: &[u8]) -> bool {
+    memmem::find(advance.kept.as_slice(), text).is_some()
 }
 
 #[test]
 fn what_the_server_cannot_take_is_reported(rt: HostRuntime) -> Result<(), Fail> {
     for size in [1, 4096] {
-        let came = relayed(rt.alloc(), FROM_ACCOUNT, EIGHT, size, NEVER)?;
-        assert!(rt; came.given.as_slice() == b"EHLO example.org\r\nQUIT\r\n".as_slice());
-        assert!(rt; counts(&came.end, 0, 1, 0) && came.end.cause.is_none());
-        assert!(rt; says(&came, b"Final-Recipient: utf-8; jos\\x{E9}@example.com\r\n"));
-        assert!(rt; says(&came, b"Action: failed\r\nStatus: 5.6.9\r\n"));
+        let advance = relayed(rt.alloc(), FROM_ACCOUNT, EIGHT, size, NEVER)?;
+        assert!(rt; advance.given.as_slice() == b"EHLO example.org\r\nQUIT\r\n".as_slice());
+        assert!(rt; counts(&advance.end, 0, 1, 0) && advance.end.cause.is_none());
         assert!(rt;
             says(
-                &came,
+                &advance,
+                b"Final-Recipient: utf-8; jos\\x{E9}@example.com\r\n"
+            )
+        );
+        assert!(rt; says(&advance, b"Action: failed\r\nStatus: 5.6.9\r\n"));
+        assert!(rt;
+            says(
+                &advance,
                 b"To: ann@example.org\r\nDate: Thu, 01 Jan 1970 00:00:00 +0000\r\n"
             )
         );
         // The recipient is taken off.
-        assert!(rt; came.kept.as_slice().ends_with(SETTLED));
+        assert!(rt; advance.kept.as_slice().ends_with(SETTLED));
     }
     Ok(())
 }
 
 #[test]
 fn the_null_path_is_told_nothing(rt: HostRuntime) -> Result<(), Fail> {
-    let came = relayed(rt.alloc(), FROM_NULL_PATH, EIGHT, 4096, NEVER)?;
-    assert!(rt; counts(&came.end, 0, 0, 0) && came.end.cause.is_none());
-    assert!(rt; came.kept.as_slice() == SETTLED);
+    let advance = relayed(rt.alloc(), FROM_NULL_PATH, EIGHT, 4096, NEVER)?;
+    assert!(rt; counts(&advance.end, 0, 0, 0) && advance.end.cause.is_none());
+    assert!(rt; advance.kept.as_slice() == SETTLED);
     Ok(())
 }
 
 #[test]
 fn a_path_that_is_not_ascii_is_told_in_utf8(rt: HostRuntime) -> Result<(), Fail> {
-    let came = relayed(rt.alloc(), FROM_UTF8, EIGHT, 7, NEVER)?;
-    assert!(rt; counts(&came.end, 0, 1, 0));
+    let advance = relayed(rt.alloc(), FROM_UTF8, EIGHT, 7, NEVER)?;
+    assert!(rt; counts(&advance.end, 0, 1, 0));
     assert!(rt;
         says(
-            &came,
+            &advance,
             b"Final-Recipient: utf-8; jos\xC3\xA9@example.com\r\n"
         )
     );
     assert!(rt;
         says(
-            &came,
+            &advance,
             b"Content-Type: message/global-headers\r\n\r\nSubject: \xC3\xA9\r\n"
         )
     );
@@ -205,9 +210,9 @@ fn a_path_that_is_not_ascii_is_told_in_utf8(rt: HostRuntime) -> Result<(), Fail>
 
 #[test]
 fn a_report_for_an_account_that_is_gone_is_dropped(rt: HostRuntime) -> Result<(), Fail> {
-    let came = relayed(rt.alloc(), FROM_GONE, EIGHT, 4096, NEVER)?;
-    assert!(rt; counts(&came.end, 0, 0, 0));
-    assert!(rt; came.kept.as_slice() == SETTLED);
+    let advance = relayed(rt.alloc(), FROM_GONE, EIGHT, 4096, NEVER)?;
+    assert!(rt; counts(&advance.end, 0, 0, 0));
+    assert!(rt; advance.kept.as_slice() == SETTLED);
     Ok(())
 }
 
@@ -216,15 +221,15 @@ fn a_refused_recipient_is_reported_with_the_code(rt: HostRuntime) -> Result<(), 
     let mut server = Octets::from_slice(rt.alloc(), UTF8)?;
     server.push_slice(b"250 ok\r\n550 no\r\n250 ok\r\n")?;
     for size in [1, 4096] {
-        let came = relayed(rt.alloc(), FROM_ACCOUNT, server.as_slice(), size, NEVER)?;
+        let advance = relayed(rt.alloc(), FROM_ACCOUNT, server.as_slice(), size, NEVER)?;
         assert!(rt;
-            came.given.as_slice()
+            advance.given.as_slice()
                 == b"EHLO example.org\r\nMAIL FROM:<ann@example.org> BODY=8BITMIME SMTPUTF8\r\n\
 RCPT TO:<jos\xC3\xA9@example.com>\r\nRSET\r\nQUIT\r\n"
                     .as_slice()
         );
-        assert!(rt; counts(&came.end, 0, 1, 0) && came.end.cause.is_none());
-        assert!(rt; says(&came, b"Status: 5.0.0\r\nDiagnostic-Code: smtp; 550\r\n"));
+        assert!(rt; counts(&advance.end, 0, 1, 0) && advance.end.cause.is_none());
+        assert!(rt; says(&advance, b"Status: 5.0.0\r\nDiagnostic-Code: smtp; 550\r\n"));
     }
     Ok(())
 }
@@ -234,10 +239,10 @@ fn a_reply_that_is_not_expected_leaves_all(rt: HostRuntime) -> Result<(), Fail> 
     let mut server = Octets::from_slice(rt.alloc(), UTF8)?;
     server.push_slice(b"250 ok\r\n550 no\r\n451 x\r\n250 ok\r\n")?;
     for size in [1, 4096] {
-        let came = relayed(rt.alloc(), FROM_ACCOUNT, server.as_slice(), size, NEVER)?;
-        assert!(rt; came.given.as_slice().ends_with(b"RSET\r\n"));
-        assert!(rt; counts(&came.end, 0, 0, 1) && stopped_by(&came.end, b"451 x\r\n"));
-        assert!(rt; came.kept.is_empty());
+        let advance = relayed(rt.alloc(), FROM_ACCOUNT, server.as_slice(), size, NEVER)?;
+        assert!(rt; advance.given.as_slice().ends_with(b"RSET\r\n"));
+        assert!(rt; counts(&advance.end, 0, 0, 1) && stopped_by(&advance.end, b"451 x\r\n"));
+        assert!(rt; advance.kept.is_empty());
     }
     Ok(())
 }
@@ -265,16 +270,16 @@ fn octets_that_are_no_reply_leave_all(rt: HostRuntime) -> Result<(), Fail> {
 fn a_message_is_sent_with_its_dots(rt: HostRuntime) -> Result<(), Fail> {
     let alloc = rt.alloc();
     let server = b"220 x\r\n250 x\r\n250 ok\r\n250 ok\r\n550 no\r\n354 go\r\n250 ok\r\n221 bye\r\n";
-    let came = relayed(alloc, WITH_DOTS, server, 5, NEVER)?;
+    let advance = relayed(alloc, WITH_DOTS, server, 5, NEVER)?;
     assert!(rt;
-        came.given.as_slice()
+        advance.given.as_slice()
             == b"EHLO example.org\r\nMAIL FROM:<ann@example.org>\r\nRCPT TO:<x@example.com>\r\nRCPT TO:<y@example.com>\r\nDATA\r\n\
 A: b\r\n\r\n..\r\n...x\r\n.\r\nQUIT\r\n"
                 .as_slice()
     );
-    assert!(rt; counts(&came.end, 1, 1, 0) && came.end.cause.is_none());
-    assert!(rt; says(&came, b"Final-Recipient: rfc822; y@example.com\r\n"));
-    assert!(rt; !says(&came, b"Final-Recipient: rfc822; x@example.com\r\n"));
+    assert!(rt; counts(&advance.end, 1, 1, 0) && advance.end.cause.is_none());
+    assert!(rt; says(&advance, b"Final-Recipient: rfc822; y@example.com\r\n"));
+    assert!(rt; !says(&advance, b"Final-Recipient: rfc822; x@example.com\r\n"));
     Ok(())
 }
 
@@ -284,24 +289,28 @@ fn where_the_wire_fails_what_is_open_is_left(rt: HostRuntime) -> Result<(), Fail
     server.push_slice(b"250 ok\r\n250 ok\r\n354 go\r\n250 ok\r\n")?;
     // Each take brings all that is sent: a take, then a give for each of EHLO, MAIL, RCPT, DATA, the message and QUIT.
     for call in 0..6 {
-        let came = relayed(rt.alloc(), FROM_ACCOUNT, server.as_slice(), 4096, call)?;
-        assert!(rt; counts(&came.end, 0, 0, 1) && matches!(came.end.cause, Some(LeftCause::Wire)));
-        assert!(rt; came.kept.is_empty());
+        let advance = relayed(rt.alloc(), FROM_ACCOUNT, server.as_slice(), 4096, call)?;
+        assert!(rt;
+            counts(&advance.end, 0, 0, 1) && matches!(advance.end.cause, Some(LeftCause::Wire))
+        );
+        assert!(rt; advance.kept.is_empty());
     }
     // It doesn't matter whether QUIT arrives.
-    let came = relayed(rt.alloc(), FROM_ACCOUNT, server.as_slice(), 4096, 6)?;
-    assert!(rt; counts(&came.end, 1, 0, 0) && came.end.cause.is_none());
-    assert!(rt; came.given.as_slice().ends_with(b".\r\nQUI"));
+    let advance = relayed(rt.alloc(), FROM_ACCOUNT, server.as_slice(), 4096, 6)?;
+    assert!(rt; counts(&advance.end, 1, 0, 0) && advance.end.cause.is_none());
+    assert!(rt; advance.given.as_slice().ends_with(b".\r\nQUI"));
     Ok(())
 }
 
 #[test]
 fn where_a_later_take_fails_no_more_is_said(rt: HostRuntime) -> Result<(), Fail> {
     // The greeting is a piece, and EHLO is given before the next take.
-    let came = relayed(rt.alloc(), FROM_ACCOUNT, EIGHT, 7, 2)?;
-    assert!(rt; counts(&came.end, 0, 0, 1) && matches!(came.end.cause, Some(LeftCause::Wire)));
-    assert!(rt; came.given.as_slice() == b"EHLO example.org\r\n".as_slice());
-    assert!(rt; came.kept.is_empty());
+    let advance = relayed(rt.alloc(), FROM_ACCOUNT, EIGHT, 7, 2)?;
+    assert!(rt;
+        counts(&advance.end, 0, 0, 1) && matches!(advance.end.cause, Some(LeftCause::Wire))
+    );
+    assert!(rt; advance.given.as_slice() == b"EHLO example.org\r\n".as_slice());
+    assert!(rt; advance.kept.is_empty());
     Ok(())
 }
 
@@ -333,11 +342,11 @@ fn a_message_is_sent_over_a_connection_that_was_dialled(rt: HostRuntime) -> Resu
     let alloc = rt.alloc();
     let before = journal(alloc, FROM_ACCOUNT)?;
     // Only its second call would fail.
-    let came = dialled(alloc, before, taking(alloc)?.as_slice(), 1, NEVER)?;
-    assert!(rt; counts(&came.end, 1, 0, 0) && came.end.cause.is_none());
+    let advance = dialled(alloc, before, taking(alloc)?.as_slice(), 1, NEVER)?;
+    assert!(rt; counts(&advance.end, 1, 0, 0) && advance.end.cause.is_none());
     // The connection was handed back with all that was said.
-    assert!(rt; came.given.as_slice() == SENT);
-    assert!(rt; came.kept.as_slice() == SETTLED);
+    assert!(rt; advance.given.as_slice() == SENT);
+    assert!(rt; advance.kept.as_slice() == SETTLED);
     Ok(())
 }
 
@@ -345,9 +354,11 @@ fn a_message_is_sent_over_a_connection_that_was_dialled(rt: HostRuntime) -> Resu
 fn where_the_dial_fails_everybody_is_left(rt: HostRuntime) -> Result<(), Fail> {
     let alloc = rt.alloc();
     let before = journal(alloc, FROM_ACCOUNT)?;
-    let came = dialled(alloc, before, taking(alloc)?.as_slice(), 0, NEVER)?;
-    assert!(rt; counts(&came.end, 0, 0, 1) && matches!(came.end.cause, Some(LeftCause::Dial)));
-    assert!(rt; came.given.is_empty() && came.kept.is_empty());
+    let advance = dialled(alloc, before, taking(alloc)?.as_slice(), 0, NEVER)?;
+    assert!(rt;
+        counts(&advance.end, 0, 0, 1) && matches!(advance.end.cause, Some(LeftCause::Dial))
+    );
+    assert!(rt; advance.given.is_empty() && advance.kept.is_empty());
     Ok(())
 }
 
@@ -356,10 +367,12 @@ fn a_connection_that_fails_is_handed_back(rt: HostRuntime) -> Result<(), Fail> {
     let alloc = rt.alloc();
     let before = journal(alloc, FROM_ACCOUNT)?;
     // After a take that brings all, EHLO and then MAIL are given.
-    let came = dialled(alloc, before, taking(alloc)?.as_slice(), NEVER, 2)?;
-    assert!(rt; counts(&came.end, 0, 0, 1) && matches!(came.end.cause, Some(LeftCause::Wire)));
-    assert!(rt; came.given.as_slice() == b"EHLO example.org\r\nMAI".as_slice());
-    assert!(rt; came.kept.is_empty());
+    let advance = dialled(alloc, before, taking(alloc)?.as_slice(), NEVER, 2)?;
+    assert!(rt;
+        counts(&advance.end, 0, 0, 1) && matches!(advance.end.cause, Some(LeftCause::Wire))
+    );
+    assert!(rt; advance.given.as_slice() == b"EHLO example.org\r\nMAI".as_slice());
+    assert!(rt; advance.kept.is_empty());
     Ok(())
 }
 
@@ -368,8 +381,8 @@ fn nobody_is_dialled_where_nobody_waits(rt: HostRuntime) -> Result<(), Fail> {
     let alloc = rt.alloc();
     let before = joined(alloc, &[BEGUN, FROM_ACCOUNT, SETTLED])?;
     // A dial would fail.
-    let came = dialled(alloc, before, taking(alloc)?.as_slice(), 0, NEVER)?;
-    assert!(rt; counts(&came.end, 0, 0, 0) && came.end.cause.is_none());
-    assert!(rt; came.given.is_empty() && came.kept.is_empty());
+    let advance = dialled(alloc, before, taking(alloc)?.as_slice(), 0, NEVER)?;
+    assert!(rt; counts(&advance.end, 0, 0, 0) && advance.end.cause.is_none());
+    assert!(rt; advance.given.is_empty() && advance.kept.is_empty());
     Ok(())
 }

@@ -5,7 +5,7 @@ use Rattle.std.proofs.lemmas.Option.{IfSome_then}
 use Rattle.mail_wire.specs.declared.outside.Fault.{Fault}
 use Rattle.mail_wire.specs.declared.outside.Fault.TheVariants as fault
 use Rattle.mail_wire.specs.Lines.{crlf}
-use Rattle.mail_wire.specs.Telling.{Telling}
+use Rattle.mail_wire.specs.WireState.{WireState}
 use Rattle.mail_wire.specs.Moves.{Gives}
 use Rattle.mail_wire.proofs.Moving.{Gives-nil}
 use Rattle.mail_store.specs.declared.changing.StoreFault.{StoreFault}
@@ -69,24 +69,24 @@ begun_of store new opened one all is first = record {
 
 -- ---- the journal isn't opened
 
-quiet : (a b : Telling) → b ≡ a → Gives a b []
-quiet a b same = subst (λ (t : Telling). Gives a t []) (sym same) (Gives-nil a)
+quiet : (a b : WireState) → b ≡ a → Gives a b []
+quiet a b same = subst (λ (t : WireState). Gives a t []) (sym same) (Gives-nil a)
 
-unopened_by : (refusal : Kept → Option StoreFault) (one : Record) (old new : Option (List ℕ)) (a b : Telling) (met : OpenFault) (result : Result ℕ Fault) → LeavesRecords old new
+unopened_by : (refusal : Kept → Option StoreFault) (one : Record) (old new : Option (List ℕ)) (a b : WireState) (met : OpenFault) (result : Result ℕ Fault) → LeavesRecords old new
     → IfSome old (λ octets. IsJournalFault octets new met) → TellsUnopened met a b result → RunsAdding refusal one old new a b (status_of result)
-unopened_by refusal one old new a b opening.Keeper result leaves is tells = rw tells.1 (Broken (inr refl) (InJournal (quiet a b tells.0) leaves))
-unopened_by refusal one old new a b opening.Memory result leaves is tells = rw tells.1 (Broken (inl (inr refl)) (InJournal (quiet a b tells.0) leaves))
-unopened_by refusal one old new a b (opening.BadJournal at) (Ok status) leaves is tells =
-    Unopened (place_line (codes "bad journal at ") at) (record { fault = opening.BadJournal at; told = (tells.1, refl); is = is }) tells.0
-unopened_by refusal one old new a b (opening.BadJournal at) (Err fault.Wire) leaves is tells =
-    Broken (inl (inl refl)) (InLine 5 (place_line (codes "bad journal at ") at) (record { fault = opening.BadJournal at; told = (refl, refl); is = is }) tells leaves)
-unopened_by refusal one old new a b (opening.BadJournal at) (Err fault.Memory) leaves is tells =
-    Broken (inl (inr refl)) (InLine 5 (place_line (codes "bad journal at ") at) (record { fault = opening.BadJournal at; told = (refl, refl); is = is }) tells leaves)
-unopened_by refusal one old new a b (opening.BadJournal at) (Err fault.Keeper) leaves is tells = absurd tells
+unopened_by refusal one old new a b opening.Keeper result leaves is observed = rw observed.1 (Broken (inr refl) (InJournal (quiet a b observed.0) leaves))
+unopened_by refusal one old new a b opening.Memory result leaves is observed = rw observed.1 (Broken (inl (inr refl)) (InJournal (quiet a b observed.0) leaves))
+unopened_by refusal one old new a b (opening.BadJournal at) (Ok status) leaves is observed =
+    Unopened (place_line (codes "bad journal at ") at) (record { fault = opening.BadJournal at; told = (observed.1, refl); is = is }) observed.0
+unopened_by refusal one old new a b (opening.BadJournal at) (Err fault.Wire) leaves is observed =
+    Broken (inl (inl refl)) (InLine 5 (place_line (codes "bad journal at ") at) (record { fault = opening.BadJournal at; told = (refl, refl); is = is }) observed leaves)
+unopened_by refusal one old new a b (opening.BadJournal at) (Err fault.Memory) leaves is observed =
+    Broken (inl (inr refl)) (InLine 5 (place_line (codes "bad journal at ") at) (record { fault = opening.BadJournal at; told = (refl, refl); is = is }) observed leaves)
+unopened_by refusal one old new a b (opening.BadJournal at) (Err fault.Keeper) leaves is observed = absurd observed
 
 -- ---- the record is added
 
-added_by : (T : Type 0) (done : T) (refusal : Kept → Option StoreFault) (one : Record) (old opened new : Option (List ℕ)) (a : Telling) (store after : StoreState)
+added_by : (T : Type 0) (done : T) (refusal : Kept → Option StoreFault) (one : Record) (old opened new : Option (List ℕ)) (a : WireState) (store after : StoreState)
     → LeavesRecords old opened → IsFold store.kept → IfSome old (λ octets. OpensTo octets opened store.kept) → Changes {T = T} store after opened new (Ok done) (one ∷ [])
     → IsRefusedAs {T = T} (Ok done) (refusal store.kept) → RunsAdding refusal one old new a a 0
 added_by T done refusal one old opened new a store after leaves fold opens changes free =
@@ -105,10 +105,10 @@ added_by T done refusal one old opened new a store after leaves fold opens chang
 
 -- ---- the record is refused
 
-refused_line : (refusal : Kept → Option StoreFault) (one : Record) (old opened new : Option (List ℕ)) (a b : Telling) (store : StoreState) (why : StoreFault) (line : List ℕ)
+refused_line : (refusal : Kept → Option StoreFault) (one : Record) (old opened new : Option (List ℕ)) (a b : WireState) (store : StoreState) (why : StoreFault) (line : List ℕ)
     (result : Result ℕ Fault) → LeavesRecords old opened → IsFold store.kept → IfSome old (λ octets. OpensTo octets opened store.kept) → new ≡ opened → refusal store.kept ≡ Some why
     → IsRefusedBy why line → TellsLine a b result 9 line → RunsAdding refusal one old new a b (status_of result)
-refused_line refusal one old opened new a b store why line result leaves fold opens same refused told tells = by_answer result tells
+refused_line refusal one old opened new a b store why line result leaves fold opens same refused told observed = by_answer result observed
   where
     refuses : RefusesOne refusal old new line
     refuses = record {
@@ -129,17 +129,17 @@ refused_line refusal one old opened new a b store why line result leaves fold op
 not_both : (status : ℕ) → status ≡ 3 → status ≡ 2 → ⊥
 not_both status three two = omega (arith, three, two)
 
-refused_by : (T : Type 0) (refusal : Kept → Option StoreFault) (one : Record) (old opened new : Option (List ℕ)) (a b : Telling) (store after : StoreState) (why : StoreFault)
+refused_by : (T : Type 0) (refusal : Kept → Option StoreFault) (one : Record) (old opened new : Option (List ℕ)) (a b : WireState) (store after : StoreState) (why : StoreFault)
     (result : Result ℕ Fault) → LeavesRecords old opened → IsFold store.kept → IfSome old (λ octets. OpensTo octets opened store.kept)
     → Changes {T = T} store after opened new (Err why) (one ∷ []) → IsRefusedAs {T = T} (Err why) (refusal store.kept) → TellsRefused why a b result
     → RunsAdding refusal one old new a b (status_of result)
-refused_by T refusal one old opened new a b store after faults.Exists result leaves fold opens changes refused tells =
-    refused_line refusal one old opened new a b store faults.Exists (codes "exists" ++ crlf) result leaves fold opens changes.1 refused refl tells
-refused_by T refusal one old opened new a b store after faults.NoSuch result leaves fold opens changes refused tells =
-    refused_line refusal one old opened new a b store faults.NoSuch (codes "no such domain" ++ crlf) result leaves fold opens changes.1 refused refl tells
-refused_by T refusal one old opened new a b store after faults.TooLarge result leaves fold opens changes refused tells =
-    refused_line refusal one old opened new a b store faults.TooLarge (codes "too large" ++ crlf) result leaves fold opens changes.1 refused refl tells
-refused_by T refusal one old opened new a b store after faults.Memory result leaves fold opens changes refused tells = rw tells.1
+refused_by T refusal one old opened new a b store after faults.Exists result leaves fold opens changes refused observed =
+    refused_line refusal one old opened new a b store faults.Exists (codes "exists" ++ crlf) result leaves fold opens changes.1 refused refl observed
+refused_by T refusal one old opened new a b store after faults.NoSuch result leaves fold opens changes refused observed =
+    refused_line refusal one old opened new a b store faults.NoSuch (codes "no such domain" ++ crlf) result leaves fold opens changes.1 refused refl observed
+refused_by T refusal one old opened new a b store after faults.TooLarge result leaves fold opens changes refused observed =
+    refused_line refusal one old opened new a b store faults.TooLarge (codes "too large" ++ crlf) result leaves fold opens changes.1 refused refl observed
+refused_by T refusal one old opened new a b store after faults.Memory result leaves fold opens changes refused observed = rw observed.1
     (Broken (inl (inr refl))
     (InAdding (record {
       store = store;
@@ -150,9 +150,9 @@ refused_by T refusal one old opened new a b store after faults.Memory result lea
       holds = IfSome_then old {P = λ octets. OpensTo octets opened store.kept} opens
           (λ octets to. rw changes.1 (begun_of store opened opened one to.all (opened_store octets opened store to)
           (HoldsFirst-none store opened to.all (one ∷ []) (opened_store octets opened store to))));
-      quiet = quiet a b tells.0;
+      quiet = quiet a b observed.0;
     })))
-refused_by T refusal one old opened new a b store after faults.Keeper result leaves fold opens changes refused tells = rw tells.1
+refused_by T refusal one old opened new a b store after faults.Keeper result leaves fold opens changes refused observed = rw observed.1
     (Broken (inr refl)
     (InAdding (record {
       store = store;
@@ -163,7 +163,7 @@ refused_by T refusal one old opened new a b store after faults.Keeper result lea
       holds = IfSome_then old {P = λ octets. OpensTo octets opened store.kept} opens
           (λ octets to. begun_of store new opened one to.all (opened_store octets opened store to)
           (broken store after opened new to.all [] (one ∷ []) (opened_store octets opened store to) (Breaks-one store after opened new (one ∷ []) changes)));
-      quiet = quiet a b tells.0;
+      quiet = quiet a b observed.0;
     })))
 
 -- ---- the answer is exact
@@ -183,7 +183,7 @@ opened_of : (octets : List ℕ) (opened : Option (List ℕ)) (store : StoreState
 opened_of octets opened store all opens had =
     opens.opens.kept_is ∙ ap (λ (l : List Record). store_of l) (same_records octets opens.opens.all all opens.opens.had had)
 
-adding_at : (refusal : Kept → Option StoreFault) (one : Record) (octets : List ℕ) (new : Option (List ℕ)) (a b : Telling) (status : ℕ)
+adding_at : (refusal : Kept → Option StoreFault) (one : Record) (octets : List ℕ) (new : Option (List ℕ)) (a b : WireState) (status : ℕ)
     → RunsAdding refusal one (Some octets) new a b status → IsExactAdding refusal octets status
 adding_at refusal one octets new a b status (Added adds is) = λ all had.
     let none : refusal (store_of all) ≡ None = ap refusal (sym (opened_of octets adds.opened adds.store all adds.opens had)) ∙ adds.free in
@@ -195,12 +195,12 @@ adding_at refusal one octets new a b status (Unopened line unopened gives) = λ 
     let bad = bad_of octets new unopened.fault status line unopened.told unopened.is in absurd (records_not_bad octets all bad.1 had bad.2)
 adding_at refusal one octets new a b status (Broken broken partly) = λ all had. broken_answer (refusal (store_of all)) status broken
 
-exact_adding : (refusal : Kept → Option StoreFault) (one : Record) (old new : Option (List ℕ)) (a b : Telling) (status : ℕ) → RunsAdding refusal one old new a b status
+exact_adding : (refusal : Kept → Option StoreFault) (one : Record) (old new : Option (List ℕ)) (a b : WireState) (status : ℕ) → RunsAdding refusal one old new a b status
     → IfSome old (λ octets. IsExactAdding refusal octets status)
 exact_adding refusal one None new a b status runs = tt
 exact_adding refusal one (Some octets) new a b status runs = adding_at refusal one octets new a b status runs
 
-journal_at : (refusal : Kept → Option StoreFault) (one : Record) (octets : List ℕ) (new : Option (List ℕ)) (a b : Telling) (status : ℕ)
+journal_at : (refusal : Kept → Option StoreFault) (one : Record) (octets : List ℕ) (new : Option (List ℕ)) (a b : WireState) (status : ℕ)
     → RunsAdding refusal one (Some octets) new a b status → IsExactJournal octets status
 journal_at refusal one octets new a b status (Added adds is) = λ at bad. absurd (records_not_bad octets adds.opens.opens.all at adds.opens.opens.had bad)
 journal_at refusal one octets new a b status (Refused line refuses gives is) = λ at bad.
@@ -208,19 +208,19 @@ journal_at refusal one octets new a b status (Refused line refuses gives is) = �
 journal_at refusal one octets new a b status (Unopened line unopened gives) = λ at bad. inl (bad_of octets new unopened.fault status line unopened.told unopened.is).0
 journal_at refusal one octets new a b status (Broken broken partly) = λ at bad. inr broken
 
-exact_journal : (refusal : Kept → Option StoreFault) (one : Record) (old new : Option (List ℕ)) (a b : Telling) (status : ℕ) → RunsAdding refusal one old new a b status
+exact_journal : (refusal : Kept → Option StoreFault) (one : Record) (old new : Option (List ℕ)) (a b : WireState) (status : ℕ) → RunsAdding refusal one old new a b status
     → IfSome old (λ octets. IsExactJournal octets status)
 exact_journal refusal one None new a b status runs = tt
 exact_journal refusal one (Some octets) new a b status runs = journal_at refusal one octets new a b status runs
 
 -- ---- all clauses of an exit
 
-pub record IsWhole (refusal : Kept → Option StoreFault) (one : Record) (old new : Option (List ℕ)) (a b : Telling) (status : ℕ) : Type 0 where
+pub record IsWhole (refusal : Kept → Option StoreFault) (one : Record) (old new : Option (List ℕ)) (a b : WireState) (status : ℕ) : Type 0 where
   pub runs : RunsAdding refusal one old new a b status
   pub exact : IfSome old (λ octets. IsExactAdding refusal octets status)
   pub journal : IfSome old (λ octets. IsExactJournal octets status)
 
-whole : (refusal : Kept → Option StoreFault) (one : Record) (old new : Option (List ℕ)) (a b : Telling) (status : ℕ) → RunsAdding refusal one old new a b status
+whole : (refusal : Kept → Option StoreFault) (one : Record) (old new : Option (List ℕ)) (a b : WireState) (status : ℕ) → RunsAdding refusal one old new a b status
     → IsWhole refusal one old new a b status
 whole refusal one old new a b status runs = record {
   runs = runs;
@@ -228,20 +228,20 @@ whole refusal one old new a b status runs = record {
   journal = exact_journal refusal one old new a b status runs;
 }
 
-pub unopened : (refusal : Kept → Option StoreFault) (one : Record) (old new : Option (List ℕ)) (a b : Telling) (met : OpenFault) (result : Result ℕ Fault) → LeavesRecords old new
+pub unopened : (refusal : Kept → Option StoreFault) (one : Record) (old new : Option (List ℕ)) (a b : WireState) (met : OpenFault) (result : Result ℕ Fault) → LeavesRecords old new
     → IfSome old (λ octets. IsJournalFault octets new met) → TellsUnopened met a b result → IsWhole refusal one old new a b (status_of result)
-unopened refusal one old new a b met result leaves is tells =
-    whole refusal one old new a b (status_of result) (unopened_by refusal one old new a b met result leaves is tells)
+unopened refusal one old new a b met result leaves is observed =
+    whole refusal one old new a b (status_of result) (unopened_by refusal one old new a b met result leaves is observed)
 
-pub added : (T : Type 0) (done : T) (refusal : Kept → Option StoreFault) (one : Record) (old opened new : Option (List ℕ)) (a : Telling) (store after : StoreState)
+pub added : (T : Type 0) (done : T) (refusal : Kept → Option StoreFault) (one : Record) (old opened new : Option (List ℕ)) (a : WireState) (store after : StoreState)
     → LeavesRecords old opened → IsFold store.kept → IfSome old (λ octets. OpensTo octets opened store.kept) → Changes {T = T} store after opened new (Ok done) (one ∷ [])
     → IsRefusedAs {T = T} (Ok done) (refusal store.kept) → IsWhole refusal one old new a a 0
 added T done refusal one old opened new a store after leaves fold opens changes free =
     whole refusal one old new a a 0 (added_by T done refusal one old opened new a store after leaves fold opens changes free)
 
-pub refused : (T : Type 0) (refusal : Kept → Option StoreFault) (one : Record) (old opened new : Option (List ℕ)) (a b : Telling) (store after : StoreState) (why : StoreFault)
+pub refused : (T : Type 0) (refusal : Kept → Option StoreFault) (one : Record) (old opened new : Option (List ℕ)) (a b : WireState) (store after : StoreState) (why : StoreFault)
     (result : Result ℕ Fault) → LeavesRecords old opened → IsFold store.kept → IfSome old (λ octets. OpensTo octets opened store.kept)
     → Changes {T = T} store after opened new (Err why) (one ∷ []) → IsRefusedAs {T = T} (Err why) (refusal store.kept) → TellsRefused why a b result
     → IsWhole refusal one old new a b (status_of result)
-refused T refusal one old opened new a b store after why result leaves fold opens changes refusal_is tells =
-    whole refusal one old new a b (status_of result) (refused_by T refusal one old opened new a b store after why result leaves fold opens changes refusal_is tells)
+refused T refusal one old opened new a b store after why result leaves fold opens changes refusal_is observed =
+    whole refusal one old new a b (status_of result) (refused_by T refusal one old opened new a b store after why result leaves fold opens changes refusal_is observed)

@@ -34,8 +34,8 @@ all_plain : (rest : List (Bor (List ℕ))) → list_all is_plain_word (map (λ s
 all_plain rest = list_all-map is_plain_word (λ (s : Bor (List ℕ)). s.now) rest
 
 -- the words behind one list's name are those behind the other's
-pub behind : (name other : List ℕ) (a b : List (List ℕ)) → name ∷ a ≡ other ∷ b → a ≡ b
-behind name other a b same = cc
+pub following : (name other : List ℕ) (a b : List (List ℕ)) → name ∷ a ≡ other ∷ b → a ≡ b
+following name other a b same = cc
 
 pub called_by : (name : List ℕ) (words rest : List (Bor (List ℕ))) (first : Bor (List ℕ)) (plain : Bool) → words ≡ first ∷ rest → first.now ≡ name
     → plain ≡ list_all (λ (s : Bor (List ℕ)). is_plain_word s.now) rest → IsTrue plain ↔ IsCalled name (map (λ s. s.now) words)
@@ -43,6 +43,6 @@ called_by name words rest first plain words_are is plain_is =
     let spelled : map (λ s. s.now) words ≡ name ∷ map (λ s. s.now) rest = ap (map (λ s. s.now)) words_are ∙ ap (λ w. w ∷ map (λ s. s.now) rest) is in (
       λ true_of. record { rest = map (λ s. s.now) rest; words_are = spelled; plain = all_plain rest ∙ sym plain_is ∙ true_is plain true_of },
       λ called.
-          let rest_is : called.rest ≡ map (λ s. s.now) rest = behind name name called.rest (map (λ s. s.now) rest) (sym called.words_are ∙ spelled) in
+          let rest_is : called.rest ≡ map (λ s. s.now) rest = following name name called.rest (map (λ s. s.now) rest) (sym called.words_are ∙ spelled) in
           plain_is ∙ sym (all_plain rest) ∙ ap (list_all is_plain_word) (sym rest_is) ∙ called.plain,
     )

@@ -25,8 +25,8 @@ rest_plain : (word : Text) (rest : List Text) → list_all is_plain_word (word �
 rest_plain word rest all = and_right (is_plain_word word) (list_all is_plain_word rest) all
 
 -- the words behind one list's name are those behind the other's
-behind : (name : Text) (a b : List Text) → name ∷ a ≡ name ∷ b → a ≡ b
-behind name a b same = cc
+following : (name : Text) (a b : List Text) → name ∷ a ≡ name ∷ b → a ≡ b
+following name a b same = cc
 
 some_same : (a b : Text) → Some a ≡ Some b → a ≡ b
 some_same a b same = cc
@@ -73,7 +73,7 @@ domain_some app words m result app_is called faultless matches is =
 domain_lacks : (words : List Text) (e : Error) → IsCalled (codes "domain") words → HasKind (fault_of domain_app words) e → (kind_of e ≡ kind.OutOfMemory → ⊥)
     → (value : Text) → words ≡ codes "domain" ∷ value ∷ [] → ⊥
 domain_lacks words e called refused other value are =
-    let rest_is : called.rest ≡ value ∷ [] = behind (codes "domain") called.rest (value ∷ []) (sym called.words_are ∙ are) in
+    let rest_is : called.rest ≡ value ∷ [] = following (codes "domain") called.rest (value ∷ []) (sym called.words_are ∙ are) in
     let plain : is_plain_word value ≡ true = first_plain value [] (subst (λ (l : List Text). list_all is_plain_word l ≡ true) rest_is called.plain) in
     taken_refused (fault_of domain_app words) e (ap (fault_of domain_app) are ∙ domain_one value plain) refused other
 
@@ -92,9 +92,9 @@ account_words (address ∷ []) plain faultless = let differs = sym (account_one 
 account_words (address ∷ password ∷ []) plain faultless =
     (address, password, refl, first_plain address (password ∷ []) plain, first_plain password [] (rest_plain address (password ∷ []) plain))
 account_words (address ∷ password ∷ next ∷ more) plain faultless =
-    let behind_first = rest_plain address (password ∷ next ∷ more) plain in
-    let differs = sym (account_more address password next more (first_plain address (password ∷ next ∷ more) plain) (first_plain password (next ∷ more) behind_first)
-    (first_plain next more (rest_plain password (next ∷ more) behind_first))) ∙ faultless in
+    let after_first = rest_plain address (password ∷ next ∷ more) plain in
+    let differs = sym (account_more address password next more (first_plain address (password ∷ next ∷ more) plain) (first_plain password (next ∷ more) after_first)
+    (first_plain next more (rest_plain password (next ∷ more) after_first))) ∙ faultless in
     absurd (cc differs)
 
 spelled : (words : List Text) (a p address password : Text) → words ≡ codes "account" ∷ a ∷ p ∷ [] → address ≡ a → password ≡ p → words ≡ codes "account" ∷ address ∷ password ∷ []
@@ -136,7 +136,7 @@ account_some app words m first second pair app_is called faultless matches is al
 account_lacks : (words : List Text) (e : Error) → IsCalled (codes "account") words → HasKind (fault_of account_app words) e → (kind_of e ≡ kind.OutOfMemory → ⊥)
     → (address password : Text) → words ≡ codes "account" ∷ address ∷ password ∷ [] → ⊥
 account_lacks words e called refused other address password are =
-    let rest_is : called.rest ≡ address ∷ password ∷ [] = behind (codes "account") called.rest (address ∷ password ∷ []) (sym called.words_are ∙ are) in
+    let rest_is : called.rest ≡ address ∷ password ∷ [] = following (codes "account") called.rest (address ∷ password ∷ []) (sym called.words_are ∙ are) in
     let plain = subst (λ (l : List Text). list_all is_plain_word l ≡ true) rest_is called.plain in
     taken_refused (fault_of account_app words) e
     (ap (fault_of account_app) are ∙ account_two address password (first_plain address (password ∷ []) plain) (first_plain password [] (rest_plain address (password ∷ []) plain))) refused other

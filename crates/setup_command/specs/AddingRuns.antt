@@ -3,7 +3,7 @@ use Rattle.std.specs.Prelude.{◌≡◌, ℕ, ◌⊎◌, List, [], ◌∷◌, �
 use Rattle.mail_wire.specs.declared.outside.Fault.{Fault}
 use Rattle.mail_wire.specs.declared.outside.Fault.TheVariants as fault
 use Rattle.mail_wire.specs.Lines.{crlf}
-use Rattle.mail_wire.specs.Telling.{Telling}
+use Rattle.mail_wire.specs.WireState.{WireState}
 use Rattle.mail_wire.specs.Moves.{Gives, GivesPrefix}
 use Rattle.mail_store.specs.declared.changing.StoreFault.{StoreFault}
 use Rattle.mail_store.specs.declared.changing.StoreFault.TheVariants as faults
@@ -29,7 +29,7 @@ IsRefusedBy faults.Keeper line = ⊥
 -- ---- `refusal` tells whether a store refuses the record
 
 -- The record was put last in the store that was opened, and in the keeper, and nothing was given.
-pub record AddsOne (refusal : Kept → Option StoreFault) (one : Record) (old new : Option (List ℕ)) (before now : Telling) : Type 0 where
+pub record AddsOne (refusal : Kept → Option StoreFault) (one : Record) (old new : Option (List ℕ)) (before now : WireState) : Type 0 where
   pub store : StoreState
   pub after : StoreState
   pub opened : Option (List ℕ)
@@ -50,7 +50,7 @@ pub record RefusesOne (refusal : Kept → Option StoreFault) (old new : Option (
 
 -- The command was broken off after the store was opened and before anything was given. The keeper opens with the store's
 -- records, and maybe the new one; it failed only in putting it last.
-pub record BreaksInAdding (refusal : Kept → Option StoreFault) (one : Record) (old new : Option (List ℕ)) (before now : Telling) (status : ℕ) : Type 0 where
+pub record BreaksInAdding (refusal : Kept → Option StoreFault) (one : Record) (old new : Option (List ℕ)) (before now : WireState) (status : ℕ) : Type 0 where
   pub store : StoreState
   pub opened : Option (List ℕ)
   pub opens : OpensStore old opened store
@@ -60,7 +60,7 @@ pub record BreaksInAdding (refusal : Kept → Option StoreFault) (one : Record) 
   pub quiet : Gives before now []
 
 -- how far the command came that was broken off and ended so
-pub data BreaksAdding (refusal : Kept → Option StoreFault) (one : Record) (old new : Option (List ℕ)) (before now : Telling) (ended : ℕ) : Type 0 where
+pub data BreaksAdding (refusal : Kept → Option StoreFault) (one : Record) (old new : Option (List ℕ)) (before now : WireState) (ended : ℕ) : Type 0 where
   -- the journal wasn't opened
   InJournal : Gives before now [] → LeavesRecords old new → BreaksAdding refusal one old new before now ended
   -- the line that tells why it can't be
@@ -71,7 +71,7 @@ pub data BreaksAdding (refusal : Kept → Option StoreFault) (one : Record) (old
   InRefusal : (line : List ℕ) → RefusesOne refusal old new line → GivesPrefix before now line → BreaksAdding refusal one old new before now ended
 
 -- what the command does, by its status
-pub data RunsAdding (refusal : Kept → Option StoreFault) (one : Record) (old new : Option (List ℕ)) (before now : Telling) (status : ℕ) : Type 0 where
+pub data RunsAdding (refusal : Kept → Option StoreFault) (one : Record) (old new : Option (List ℕ)) (before now : WireState) (status : ℕ) : Type 0 where
   Added : AddsOne refusal one old new before now → status ≡ DONE → RunsAdding refusal one old new before now status
   Refused : (line : List ℕ) → RefusesOne refusal old new line → Gives before now line → status ≡ ADDING_REFUSED → RunsAdding refusal one old new before now status
   -- the journal was told to be bad
@@ -93,24 +93,24 @@ IsExactAdding refusal octets status = (all : List Record) → HasRecords octets 
 -- ---- words of the private calls
 
 -- the line was given and this is the status, or that was broken off
-abbrev pub TellsLine : Telling → Telling → Result ℕ Fault → ℕ → List ℕ → Type 0
+abbrev pub TellsLine : WireState → WireState → Result ℕ Fault → ℕ → List ℕ → Type 0
 TellsLine before now (Ok answer) status line = Gives before now line × (answer ≡ status)
 TellsLine before now (Err fault.Wire) status line = GivesPrefix before now line
 TellsLine before now (Err fault.Memory) status line = GivesPrefix before now line
 TellsLine before now (Err fault.Keeper) status line = ⊥
 
 -- nothing was told, and this is the fault
-abbrev pub TellsNothing : Telling → Telling → Result ℕ Fault → Fault → Type 0
+abbrev pub TellsNothing : WireState → WireState → Result ℕ Fault → Fault → Type 0
 TellsNothing before now result met = (now ≡ before) × (result ≡ Err met)
 
 -- why the journal wasn't opened was told
-abbrev pub TellsUnopened : OpenFault → Telling → Telling → Result ℕ Fault → Type 0
+abbrev pub TellsUnopened : OpenFault → WireState → WireState → Result ℕ Fault → Type 0
 TellsUnopened opening.Keeper before now result = TellsNothing before now result fault.Keeper
 TellsUnopened (opening.BadJournal at) before now result = TellsLine before now result BAD_JOURNAL (place_line (codes "bad journal at ") at)
 TellsUnopened opening.Memory before now result = TellsNothing before now result fault.Memory
 
 -- why the record was refused was told
-abbrev pub TellsRefused : StoreFault → Telling → Telling → Result ℕ Fault → Type 0
+abbrev pub TellsRefused : StoreFault → WireState → WireState → Result ℕ Fault → Type 0
 TellsRefused faults.Exists before now result = TellsLine before now result ADDING_REFUSED (codes "exists" ++ crlf)
 TellsRefused faults.NoSuch before now result = TellsLine before now result ADDING_REFUSED (codes "no such domain" ++ crlf)
 TellsRefused faults.TooLarge before now result = TellsLine before now result ADDING_REFUSED (codes "too large" ++ crlf)

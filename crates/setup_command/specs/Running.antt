@@ -1,8 +1,8 @@
 -- What a call that opens the journal of a keeper does to its wire and its keeper, by its status.
 use Rattle.std.specs.Prelude.{◌≡◌, ℕ, ◌≤◌, ◌⊎◌, List, ◌++◌, codes, decimal, Option, IfSome, IsTrue}
 use Rattle.mail_wire.specs.Lines.{crlf}
-use Rattle.mail_wire.specs.Telling.{Telling}
-use Rattle.mail_wire.specs.KeeperTelling.{KeeperTelling}
+use Rattle.mail_wire.specs.WireState.{WireState}
+use Rattle.mail_wire.specs.KeeperState.{KeeperState}
 use Rattle.mail_wire.specs.Causes.{Rose}
 use Rattle.mail_store.specs.declared.opening.OpenFault.{OpenFault}
 use Rattle.mail_store.specs.declared.opening.OpenFault.TheVariants as faults
@@ -65,7 +65,7 @@ IsExactJournal octets status = (at : ℕ) → IsBadAt octets at → (status ≡ 
 
 -- No count of faults falls. The wire's fault is told only where its count rose, the keeper's only where its own did, and neither where it tells
 -- that it never fails.
-pub record HasStatusCause (before now : Telling) (keeper kept : KeeperTelling) (status : ℕ) : Type 0 where
+pub record HasStatusCause (before now : WireState) (keeper kept : KeeperState) (status : ℕ) : Type 0 where
   pub later : before.faults ≤ now.faults
   pub wire_rose : status ≡ WIRE_FAULT → Rose before.faults now.faults
   pub wire_sure : IsTrue before.never_fails → IsTrue now.never_fails × ¬ (status ≡ WIRE_FAULT)

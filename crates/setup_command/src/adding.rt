@@ -28,11 +28,11 @@ pub fn run_domain<W: Wire, J: Keeper>(
 ) -> Result<u8, Fault>
     requires { normal_form domain.now ≢ None }
     ensures runs { RunsAdding (λ kept. domain_refusal kept domain.now) (records.Domain (compared_form domain.now))
-        (J.tells keeper.old).octets (J.tells keeper.new).octets (W.tells wire.old) (W.tells wire.new) (status_of result) }
+        (J.observed keeper.old).octets (J.observed keeper.new).octets (W.observed wire.old) (W.observed wire.new) (status_of result) }
     // What the store refuses is told, and nothing else; and a bad journal.
-    ensures exact { IfSome (J.tells keeper.old).octets (λ octets. IsExactAdding (λ kept. domain_refusal kept domain.now) octets (status_of result)) }
-    ensures journal { IfSome (J.tells keeper.old).octets (λ octets. IsExactJournal octets (status_of result)) }
-    ensures cause { HasStatusCause (W.tells wire.old) (W.tells wire.new) (J.tells keeper.old) (J.tells keeper.new) (status_of result) }
+    ensures exact { IfSome (J.observed keeper.old).octets (λ octets. IsExactAdding (λ kept. domain_refusal kept domain.now) octets (status_of result)) }
+    ensures journal { IfSome (J.observed keeper.old).octets (λ octets. IsExactJournal octets (status_of result)) }
+    ensures cause { HasStatusCause (W.observed wire.old) (W.observed wire.new) (J.observed keeper.old) (J.observed keeper.new) (status_of result) }
 {
     let mut store = match Store::open(alloc, keeper, MESSAGE_MAX) {
         Ok(store) => store,
@@ -56,12 +56,12 @@ pub fn run_account<W: Wire, J: Keeper>(
     requires address { IsSendable address.now }
     requires password { length password.now ≤ TEXT_MAX }
     ensures runs { WithPaths (λ path_of. RunsAdding (λ kept. account_refusal path_of kept address.now) (records.Account (address_text address.now) password.now)
-        (J.tells keeper.old).octets (J.tells keeper.new).octets (W.tells wire.old) (W.tells wire.new) (status_of result)) }
+        (J.observed keeper.old).octets (J.observed keeper.new).octets (W.observed wire.old) (W.observed wire.new) (status_of result)) }
     // What the store refuses is told, and nothing else; and a bad journal.
-    ensures exact { WithPaths (λ path_of. IfSome (J.tells keeper.old).octets (λ octets.
+    ensures exact { WithPaths (λ path_of. IfSome (J.observed keeper.old).octets (λ octets.
         IsExactAdding (λ kept. account_refusal path_of kept address.now) octets (status_of result))) }
-    ensures journal { IfSome (J.tells keeper.old).octets (λ octets. IsExactJournal octets (status_of result)) }
-    ensures cause { HasStatusCause (W.tells wire.old) (W.tells wire.new) (J.tells keeper.old) (J.tells keeper.new) (status_of result) }
+    ensures journal { IfSome (J.observed keeper.old).octets (λ octets. IsExactJournal octets (status_of result)) }
+    ensures cause { HasStatusCause (W.observed wire.old) (W.observed wire.new) (J.observed keeper.old) (J.observed keeper.new) (status_of result) }
 {
     let mut store = match Store::open(alloc, keeper, MESSAGE_MAX) {
         Ok(store) => store,

@@ -70,8 +70,8 @@ fn help_text(alloc: Global) -> Result<String, Memory> {
 
 /// Gives the text of `help`, which begins with the version.
 pub fn run_help<W: Wire>(alloc: Global, wire: &mut W) -> Result<u8, Fault>
-    ensures gives { (text : List ℕ) × TellsLine (W.tells wire.old) (W.tells wire.new) result DONE text }
-    ensures cause { HasWireCause (W.tells wire.old) (W.tells wire.new) result Fault.Wire }
+    ensures gives { (text : List ℕ) × TellsLine (W.observed wire.old) (W.observed wire.new) result DONE text }
+    ensures cause { HasWireCause (W.observed wire.old) (W.observed wire.new) result Fault.Wire }
 {
     let text = help_text(alloc)?;
     tell(wire, DONE, text.as_str().as_bytes())

@@ -11,8 +11,8 @@ use std::alloc::Global;
 
 /// Gives octets, and answers the status.
 pub fn tell<W: Wire>(wire: &mut W, status: u8, line: &[u8]) -> Result<u8, Fault>
-    ensures tells { TellsLine (W.tells wire.old) (W.tells wire.new) result status line.now }
-    ensures cause { HasWireCause (W.tells wire.old) (W.tells wire.new) result Fault.Wire }
+    ensures observed { TellsLine (W.observed wire.old) (W.observed wire.new) result status line.now }
+    ensures cause { HasWireCause (W.observed wire.old) (W.observed wire.new) result Fault.Wire }
 {
     give_all(wire, line)?;
     Ok(status)
@@ -20,8 +20,8 @@ pub fn tell<W: Wire>(wire: &mut W, status: u8, line: &[u8]) -> Result<u8, Fault>
 
 /// Tells why a journal isn't opened: `BAD_JOURNAL`. Want of memory and a fault of the keeper are only answered.
 pub fn tell_unopened<W: Wire>(alloc: Global, fault: OpenFault, wire: &mut W) -> Result<u8, Fault>
-    ensures tells { TellsUnopened fault (W.tells wire.old) (W.tells wire.new) result }
-    ensures cause { HasWireCause (W.tells wire.old) (W.tells wire.new) result Fault.Wire }
+    ensures observed { TellsUnopened fault (W.observed wire.old) (W.observed wire.new) result }
+    ensures cause { HasWireCause (W.observed wire.old) (W.observed wire.new) result Fault.Wire }
 {
     match fault {
         OpenFault::BadJournal { at } => {
@@ -35,8 +35,8 @@ pub fn tell_unopened<W: Wire>(alloc: Global, fault: OpenFault, wire: &mut W) -> 
 
 /// Tells why a record is refused: `ADDING_REFUSED`. Want of memory and a fault of the keeper are only answered.
 pub fn tell_refused<W: Wire>(why: StoreFault, wire: &mut W) -> Result<u8, Fault>
-    ensures tells { TellsRefused why (W.tells wire.old) (W.tells wire.new) result }
-    ensures cause { HasWireCause (W.tells wire.old) (W.tells wire.new) result Fault.Wire }
+    ensures observed { TellsRefused why (W.observed wire.old) (W.observed wire.new) result }
+    ensures cause { HasWireCause (W.observed wire.old) (W.observed wire.new) result Fault.Wire }
 {
     match why {
         StoreFault::Exists => tell(wire, ADDING_REFUSED, b"exists\r\n"),

@@ -12,7 +12,7 @@ use Rattle.mail_wire.specs.Message.{IsEnded}
 use Rattle.mail_wire.proofs.FirstLine.{is_crlf_true, lines_of-crlf, lines_of-other}
 use Rattle.mail_wire.proofs.FirstLineLemmas.{unput}
 use Rattle.mail_wire.proofs.LineLemmas.{is_crlf_parts, first_line, concat_lines_of}
-use Rattle.smtp_grammar.specs.Data.{data_end, end_cut, behind_command, data_cut}
+use Rattle.smtp_grammar.specs.Data.{data_end, end_cut, following_command, data_cut}
 
 -- ---- the end, octet by octet
 
@@ -107,26 +107,26 @@ end_cut-parts (x ∷ rest) cut h = parts_by x rest cut h (λ next found. end_cut
 -- what the end of the data, behind the CRLF of the command, shows of them
 record IsDataOf (octets : List ℕ) (cut whole : Cut) : Type 0 where
   found : end_cut (13 ∷ 10 ∷ octets) ≡ Some whole
-  cut_is : behind_command whole ≡ cut
+  cut_is : following_command whole ≡ cut
 
 -- data have a cut behind the CRLF of the command
 data_of : (octets : List ℕ) (cut : Cut) → data_cut octets ≡ Some cut → (whole : Cut) × IsDataOf octets cut whole
 data_of octets cut h = unmapped (end_cut (13 ∷ 10 ∷ octets)) refl h
   where
-    unmapped : (found : Option Cut) → end_cut (13 ∷ 10 ∷ octets) ≡ found → option_map behind_command found ≡ Some cut → (whole : Cut) × IsDataOf octets cut whole
+    unmapped : (found : Option Cut) → end_cut (13 ∷ 10 ∷ octets) ≡ found → option_map following_command found ≡ Some cut → (whole : Cut) × IsDataOf octets cut whole
     unmapped None is h = cc
     unmapped (Some whole) is h = (whole, record { found = is; cut_is = unsome h })
 
 -- CRLF is the last of octets that it also begins
-record HasBehind (octets line : List ℕ) : Type 0 where
+record HasAfter (octets line : List ℕ) : Type 0 where
   begins : line ≡ 13 ∷ 10 ∷ drop 2 line
   ended : IsEnded (drop 2 line)
 
 -- octets that begin with CRLF and end with it are CRLF alone, or have both
-behind_front : (octets front rest : List ℕ) → 13 ∷ 10 ∷ octets ≡ (front ++ crlf) ++ rest → HasBehind octets (front ++ crlf)
-behind_front octets [] rest h = record { begins = refl; ended = inl refl }
-behind_front octets (x ∷ []) rest h = let cr : x ≡ 13 = cc in let lf : ◌≡◌ {A = ℕ} 13 10 = cc in absurd (omega arith)
-behind_front octets (x ∷ y ∷ front) rest h =
+after_front : (octets front rest : List ℕ) → 13 ∷ 10 ∷ octets ≡ (front ++ crlf) ++ rest → HasAfter octets (front ++ crlf)
+after_front octets [] rest h = record { begins = refl; ended = inl refl }
+after_front octets (x ∷ []) rest h = let cr : x ≡ 13 = cc in let lf : ◌≡◌ {A = ℕ} 13 10 = cc in absurd (omega arith)
+after_front octets (x ∷ y ∷ front) rest h =
     let cr : x ≡ 13 = cc in
     let lf : y ≡ 10 = cc in
     record { begins = rw (cr, lf) refl; ended = inr (front, refl) }
@@ -144,15 +144,15 @@ data_cut-parts octets cut h =
     let whole = (data_of octets cut h).0 in
     let is = (data_of octets cut h).1 in
     let found = end_cut-parts (13 ∷ 10 ∷ octets) whole is.found in
-    let behind : HasBehind octets whole.line = rw found.line_is (behind_front octets found.front (46 ∷ 13 ∷ 10 ∷ whole.rest) (rw found.line_is at found.parts)) in
+    let following : HasAfter octets whole.line = rw found.line_is (after_front octets found.front (46 ∷ 13 ∷ 10 ∷ whole.rest) (rw found.line_is at found.parts)) in
     let parts : 13 ∷ 10 ∷ octets ≡ (13 ∷ 10 ∷ drop 2 whole.line) ++ (46 ∷ 13 ∷ 10 ∷ whole.rest) =
-    found.parts ∙ ap (λ line. line ++ (46 ∷ 13 ∷ 10 ∷ whole.rest)) behind.begins in
+    found.parts ∙ ap (λ line. line ++ (46 ∷ 13 ∷ 10 ∷ whole.rest)) following.begins in
     let with_line : List ℕ → Option Cut = λ line. Some (record { line = line; rest = whole.rest }) in
     rw (← is.cut_is) (record {
-      ended = behind.ended;
-      whole = is.found ∙ ap with_line behind.begins;
+      ended = following.ended;
+      whole = is.found ∙ ap with_line following.begins;
       parts = ap (drop 2) parts;
-      longer = λ more. ap (option_map behind_command) (found.longer more);
+      longer = λ more. ap (option_map following_command) (found.longer more);
     })
 
 -- more octets stay behind the data
@@ -181,30 +181,30 @@ put_before-ended x [] some ended = absurd (omega arith)
 put_before-ended x (line ∷ lines) some ended = ((x ∷ ended.0.0, ap (λ line. x ∷ line) ended.0.1), ended.1)
 
 -- behind a CRLF no octets are left, or they end with CRLF
-pub ended_behind-crlf : (x y : ℕ) (rest front : List ℕ) → is_crlf x y ≡ true → x ∷ y ∷ rest ≡ front ++ crlf → IsEnded rest
-ended_behind-crlf x y rest [] both h = inl cc
-ended_behind-crlf x y rest (a ∷ []) both h =
+pub ended_after-crlf : (x y : ℕ) (rest front : List ℕ) → is_crlf x y ≡ true → x ∷ y ∷ rest ≡ front ++ crlf → IsEnded rest
+ended_after-crlf x y rest [] both h = inl cc
+ended_after-crlf x y rest (a ∷ []) both h =
     let lf : y ≡ 10 = (is_crlf_parts x y both).1 in
     let cr : y ≡ 13 = cc in
     absurd (omega arith)
-ended_behind-crlf x y rest (a ∷ b ∷ front) both h = inr (front, cc)
+ended_after-crlf x y rest (a ∷ b ∷ front) both h = inr (front, cc)
 
 -- behind an octet with which no CRLF begins the octets end with CRLF
-pub ended_behind-other : (x y : ℕ) (rest front : List ℕ) → is_crlf x y ≡ false → x ∷ y ∷ rest ≡ front ++ crlf → IsEnded (y ∷ rest)
-ended_behind-other x y rest [] other h =
+pub ended_after-other : (x y : ℕ) (rest front : List ℕ) → is_crlf x y ≡ false → x ∷ y ∷ rest ≡ front ++ crlf → IsEnded (y ∷ rest)
+ended_after-other x y rest [] other h =
     let cr : x ≡ 13 = cc in
     let lf : y ≡ 10 = cc in
     let both = is_crlf_true x y cr lf in
     cc
-ended_behind-other x y rest (a ∷ front) other h = inr (front, cc)
+ended_after-other x y rest (a ∷ front) other h = inr (front, cc)
 
 -- the lines, by whether CRLF comes first
 ended_by : (x y : ℕ) (rest : List ℕ) → IsEnded (x ∷ y ∷ rest) → (IsEnded rest → AreEnded (lines_of rest)) → (IsEnded (y ∷ rest) → AreEnded (lines_of (y ∷ rest)))
     → (b : Bool) → is_crlf x y ≡ b → AreEnded (lines_of (x ∷ y ∷ rest))
-ended_by x y rest (inl nothing) behind next b is = cc
-ended_by x y rest (inr ended) behind next true is = rw (lines_of-crlf x y rest is) (([], refl), behind (ended_behind-crlf x y rest ended.0 is ended.1))
-ended_by x y rest (inr ended) behind next false is =
-    rw (lines_of-other x y rest is) (put_before-ended x (lines_of (y ∷ rest)) (some_lines y rest) (next (ended_behind-other x y rest ended.0 is ended.1)))
+ended_by x y rest (inl nothing) following next b is = cc
+ended_by x y rest (inr ended) following next true is = rw (lines_of-crlf x y rest is) (([], refl), following (ended_after-crlf x y rest ended.0 is ended.1))
+ended_by x y rest (inr ended) following next false is =
+    rw (lines_of-other x y rest is) (put_before-ended x (lines_of (y ∷ rest)) (some_lines y rest) (next (ended_after-other x y rest ended.0 is ended.1)))
 
 -- the lines of octets that end with CRLF
 lines_ended : (octets : List ℕ) → IsEnded octets → AreEnded (lines_of octets)
@@ -229,11 +229,11 @@ cut_later x rest line left some h false is =
     cut_of cut line rest line_is rest_is = rw (line_is, rest_is) refl
 
 -- the same behind several octets
-cut_behind : (front rest line left : List ℕ) → 2 ≤ length line → end_cut (front ++ rest) ≡ Some (record { line = front ++ line; rest = left })
+cut_after : (front rest line left : List ℕ) → 2 ≤ length line → end_cut (front ++ rest) ≡ Some (record { line = front ++ line; rest = left })
     → end_cut rest ≡ Some (record { line = line; rest = left })
-cut_behind [] rest line left some h = h
-cut_behind (x ∷ front) rest line left some h =
-    cut_behind front rest line left some
+cut_after [] rest line left some h = h
+cut_after (x ∷ front) rest line left some h =
+    cut_after front rest line left some
     (cut_later x (front ++ rest) (front ++ line) left (omega (arith, some, length-append front line)) h (ends_here (x ∷ (front ++ rest))) refl)
 
 -- none of the lines is a dot alone
@@ -241,20 +241,20 @@ abbrev LackDots : List (List ℕ) → Type 0
 LackDots lines = AllByRecursion (λ line. line ≢ 46 ∷ 13 ∷ 10 ∷ []) lines
 
 -- no line before the end is a dot alone
-lines_dots : (lines : List (List ℕ)) (behind left : List ℕ) → AreEnded lines
-    → end_cut (13 ∷ 10 ∷ (concat lines ++ behind)) ≡ Some (record { line = 13 ∷ 10 ∷ concat lines; rest = left }) → LackDots lines
-lines_dots [] behind left ended h = tt
-lines_dots (line ∷ lines) behind left ended h = (
+lines_dots : (lines : List (List ℕ)) (following left : List ℕ) → AreEnded lines
+    → end_cut (13 ∷ 10 ∷ (concat lines ++ following)) ≡ Some (record { line = 13 ∷ 10 ∷ concat lines; rest = left }) → LackDots lines
+lines_dots [] following left ended h = tt
+lines_dots (line ∷ lines) following left ended h = (
   λ dot.
-      let first : end_cut (13 ∷ 10 ∷ ((line ++ concat lines) ++ behind)) ≡ Some (record { line = crlf; rest = concat lines ++ behind }) =
-      ap (λ line. end_cut (13 ∷ 10 ∷ ((line ++ concat lines) ++ behind))) dot ∙ end_cut-here (concat lines ++ behind) in
+      let first : end_cut (13 ∷ 10 ∷ ((line ++ concat lines) ++ following)) ≡ Some (record { line = crlf; rest = concat lines ++ following }) =
+      ap (λ line. end_cut (13 ∷ 10 ∷ ((line ++ concat lines) ++ following))) dot ∙ end_cut-here (concat lines ++ following) in
       let same = ap (λ (cut : Cut). length cut.line) (unsome (sym first ∙ h)) in
       let count : length line ≡ 3 = ap length dot in
       absurd (omega (arith, same, count, length-append line (concat lines))),
-  lines_dots lines behind left ended.1
+  lines_dots lines following left ended.1
       (let front = ended.0.0 in
-      let shown = rw (ended.0.1, append_assoc front crlf (concat lines), append_assoc front (crlf ++ concat lines) behind) at h in
-      cut_behind (13 ∷ 10 ∷ front) (13 ∷ 10 ∷ (concat lines ++ behind)) (13 ∷ 10 ∷ concat lines) left (omega arith) shown),
+      let shown = rw (ended.0.1, append_assoc front crlf (concat lines), append_assoc front (crlf ++ concat lines) following) at h in
+      cut_after (13 ∷ 10 ∷ front) (13 ∷ 10 ∷ (concat lines ++ following)) (13 ∷ 10 ∷ concat lines) left (omega arith) shown),
 )
 
 -- no line of the data is a dot alone

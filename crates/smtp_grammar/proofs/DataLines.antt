@@ -9,7 +9,7 @@ use Rattle.mail_wire.specs.Lines.{Cut, begun_with, crlf, first_line, is_crlf, li
 use Rattle.mail_wire.proofs.FirstLine.{lines_of-crlf, lines_of-other}
 use Rattle.mail_wire.proofs.FirstLineLemmas.{put, first_line-crlf, first_line-other, first_line-cut, put_nothing, put_more}
 use Rattle.mail_wire.proofs.LineLemmas.{is_crlf_parts}
-use Rattle.smtp_grammar.specs.Data.{end_cut, behind_command, data_cut}
+use Rattle.smtp_grammar.specs.Data.{end_cut, following_command, data_cut}
 use Rattle.smtp_grammar.specs.Reading.{IsDataLine}
 use Rattle.smtp_grammar.proofs.DataLemmas.{ends_here, ends_here-false, end_cut-here, end_cut-other, data_cut-parts}
 use Rattle.smtp_grammar.proofs.SentLines.{two_other}
@@ -52,9 +52,9 @@ first_crlf x y rest is =
     }
 
 -- two octets at least
-two_at_least : (line front : List ℕ) → line ≡ front ++ crlf → (y : ℕ) (rest behind : List ℕ) → y ∷ rest ≡ line ++ behind → (others : List ℕ) × (line ≡ y ∷ others)
-two_at_least [] front is y rest behind h = let long = ap length is in absurd (omega (arith, long, length-append front crlf))
-two_at_least (x ∷ others) front is y rest behind h = let same : y ≡ x = cc in (others, rw same refl)
+two_at_least : (line front : List ℕ) → line ≡ front ++ crlf → (y : ℕ) (rest following : List ℕ) → y ∷ rest ≡ line ++ following → (others : List ℕ) × (line ≡ y ∷ others)
+two_at_least [] front is y rest following h = let long = ap length is in absurd (omega (arith, long, length-append front crlf))
+two_at_least (x ∷ others) front is y rest following h = let same : y ≡ x = cc in (others, rw same refl)
 
 -- the line goes on behind its first octet
 first_later : (x y : ℕ) (rest : List ℕ) (next : Cut) → is_crlf x y ≡ false → first_line (y ∷ rest) ≡ Some next → IsFirst (y ∷ rest) next
@@ -138,38 +138,38 @@ begins_last (x ∷ y ∷ z ∷ rest) h =
 pub data_cut-none : (octets : List ℕ) → first_line octets ≡ None → data_cut octets ≡ None
 data_cut-none octets none =
     let passed = passes_command octets (λ first. let found = begins_last octets first in cc) in
-    ap (option_map behind_command) (passed ∙ ap (λ (found : Option Cut). option_map (begun_with 13) (option_map (begun_with 10) found)) (end_cut-no_line octets none))
+    ap (option_map following_command) (passed ∙ ap (λ (found : Option Cut). option_map (begun_with 13) (option_map (begun_with 10) found)) (end_cut-no_line octets none))
 
 -- the last line comes first
 pub data_cut-last : (octets rest : List ℕ) → first_line octets ≡ Some (record { line = last_line; rest = rest }) → data_cut octets ≡ Some (record { line = []; rest = rest })
 data_cut-last octets rest found =
     let parts : octets ≡ 46 ∷ 13 ∷ 10 ∷ rest = (first_line-cut octets (record { line = last_line; rest = rest }) found).parts in
-    ap data_cut parts ∙ ap (option_map behind_command) (end_cut-here rest)
+    ap data_cut parts ∙ ap (option_map following_command) (end_cut-here rest)
 
 -- the end behind the command's CRLF, from the data behind it
-end_behind : (octets : List ℕ) (found : Option Cut) → data_cut octets ≡ found → end_cut (13 ∷ 10 ∷ octets) ≡ option_map (put (13 ∷ 10 ∷ [])) found
-end_behind octets None is = unmapped (end_cut (13 ∷ 10 ∷ octets)) is
+end_following : (octets : List ℕ) (found : Option Cut) → data_cut octets ≡ found → end_cut (13 ∷ 10 ∷ octets) ≡ option_map (put (13 ∷ 10 ∷ [])) found
+end_following octets None is = unmapped (end_cut (13 ∷ 10 ∷ octets)) is
   where
-    unmapped : (found : Option Cut) → option_map behind_command found ≡ None → found ≡ None
+    unmapped : (found : Option Cut) → option_map following_command found ≡ None → found ≡ None
     unmapped None h = refl
     unmapped (Some cut) h = cc
-end_behind octets (Some cut) is = (data_cut-parts octets cut is).whole
+end_following octets (Some cut) is = (data_cut-parts octets cut is).whole
 
 -- a line before data, where the line before them ended with CRLF
-behind_line : (front : List ℕ) (found : Option Cut)
-    → option_map behind_command (option_map (begun_with 13) (option_map (begun_with 10) (option_map (put front) (option_map (put (13 ∷ 10 ∷ [])) found))))
+following_line : (front : List ℕ) (found : Option Cut)
+    → option_map following_command (option_map (begun_with 13) (option_map (begun_with 10) (option_map (put front) (option_map (put (13 ∷ 10 ∷ [])) found))))
     ≡ option_map (put (front ++ crlf)) found
-behind_line front None = refl
-behind_line front (Some cut) = ap (λ line. Some (record { line = line; rest = cut.rest })) (sym (append_assoc front crlf cut.line))
+following_line front None = refl
+following_line front (Some cut) = ap (λ line. Some (record { line = line; rest = cut.rest })) (sym (append_assoc front crlf cut.line))
 
 -- another line comes first
 pub data_cut-next : (octets : List ℕ) (cut : Cut) → first_line octets ≡ Some cut → cut.line ≢ last_line → data_cut octets ≡ option_map (put cut.line) (data_cut cut.rest)
 data_cut-next octets cut found differs =
     let first = is_first octets cut found in
     let passed = passes_command octets (λ last. differs (same_line (begins_last octets last))) in
-    let behind = end_behind cut.rest (data_cut cut.rest) refl in
-    ap (option_map behind_command) (passed ∙ ap (λ (at : Option Cut). option_map (begun_with 13) (option_map (begun_with 10) at)) (first.end ∙ ap (option_map (put first.front)) behind))
-    ∙ behind_line first.front (data_cut cut.rest) ∙ ap (λ line. option_map (put line) (data_cut cut.rest)) (sym first.line_is)
+    let following = end_following cut.rest (data_cut cut.rest) refl in
+    ap (option_map following_command) (passed ∙ ap (λ (at : Option Cut). option_map (begun_with 13) (option_map (begun_with 10) at)) (first.end ∙ ap (option_map (put first.front)) following))
+    ∙ following_line first.front (data_cut cut.rest) ∙ ap (λ line. option_map (put line) (data_cut cut.rest)) (sym first.line_is)
   where
     same_line : first_line octets ≡ Some (record { line = last_line; rest = drop 3 octets }) → cut.line ≡ last_line
     same_line h = let both : Some cut ≡ Some (record { line = last_line; rest = drop 3 octets }) = sym found ∙ h in cc
@@ -231,12 +231,12 @@ unstuffed_line-short (x ∷ rest) = by (x == 46)
 says_line : (octets : List ℕ) (line next : Cut) → first_line octets ≡ Some line → line.line ≢ last_line → data_cut octets ≡ Some next
     → length line.line ≤ length (unstuffed next.line) + 1
 says_line octets line next found differs is =
-    let behind = unput line.line next (data_cut line.rest) (sym (data_cut-next octets line found differs) ∙ is) in
+    let following = unput line.line next (data_cut line.rest) (sym (data_cut-next octets line found differs) ∙ is) in
     let are : AreDataLines (line.line ∷ []) = (record { whole = (is_first octets line found).alone; not_last = differs }, tt) in
-    let says : unstuffed ((line.line ++ []) ++ behind.0.line) ≡ (unstuffed_line line.line ++ []) ++ unstuffed behind.0.line = unstuffed-lines (line.line ∷ []) behind.0.line are in
+    let says : unstuffed ((line.line ++ []) ++ following.0.line) ≡ (unstuffed_line line.line ++ []) ++ unstuffed following.0.line = unstuffed-lines (line.line ∷ []) following.0.line are in
     let count = ap length (rw (append-nil line.line, append-nil (unstuffed_line line.line)) at says) in
     let short = unstuffed_line-short line.line in
-    rw behind.2 (omega (arith, count, short, length-append (unstuffed_line line.line) (unstuffed behind.0.line)))
+    rw following.2 (omega (arith, count, short, length-append (unstuffed_line line.line) (unstuffed following.0.line)))
 
 -- Data that begin with three octets at least of an unfinished line say as many octets.
 pub says_front : (front more : List ℕ) (next : Cut) → first_line front ≡ None → 3 ≤ length front → data_cut (front ++ more) ≡ Some next → length front ≤ length (unstuffed next.line)

@@ -17,9 +17,9 @@ use Rattle.address_grammar.specs.private.Lexemes.{are_blank, are_dotted, is_blan
 use Rattle.address_grammar.specs.Paths.{IsPathOf, in_angles}
 use Rattle.address_grammar.proofs.WritingLemmas.{mark_is}
 use Rattle.smtp_grammar.specs.declared.command.Place.TheVariants as place
-use Rattle.smtp_grammar.specs.Commands.{path_behind, path_len, stands_apart}
+use Rattle.smtp_grammar.specs.Commands.{path_after, path_len, ends_word}
 use Rattle.smtp_grammar.specs.Paths.{IsPathText}
-use Rattle.smtp_grammar.proofs.PathOctets.{Passes, atoms_go, found_behind, found_spaced, goes_on, passes_both, passes_literal, passes_none, passes_octet, passes_octets, passes_one, written_len}
+use Rattle.smtp_grammar.proofs.PathOctets.{Passes, atoms_go, found_after, found_spaced, goes_on, passes_both, passes_literal, passes_none, passes_octet, passes_octets, passes_one, written_len}
 
 -- ---- tokens
 
@@ -207,10 +207,10 @@ between_angles : (text : List ℕ) (open_mark close : TokenValue) (inner : List 
 between_angles text open_mark close inner are opens closes may =
     let octets : open_mark.octets ≡ 60 ∷ [] = ap (λ (t : TokenValue). t.octets) (mark_is 60 open_mark opens) in
     let parts = parted inner (close ∷ []) are.0 are.3 may in
-    let behind : are.0 ≡ parts.front ++ 62 ∷ [] = parts.whole ∙ ap (λ back. parts.front ++ back) (last_close close parts.rest closes parts.are) in
+    let following : are.0 ≡ parts.front ++ 62 ∷ [] = parts.whole ∙ ap (λ back. parts.front ++ back) (last_close close parts.rest closes parts.are) in
     record {
       inner = parts.front;
-      whole = are.1 ∙ ap (λ front. front ++ are.0) octets ∙ ap (λ back. 60 ∷ back) behind;
+      whole = are.1 ∙ ap (λ front. front ++ are.0) octets ∙ ap (λ back. 60 ∷ back) following;
       passes = parts.passes;
     }
 
@@ -220,12 +220,12 @@ path_angles text answer is =
     let angled = path.angled in
     let tokens : is.path.tokens ≡ angled.open_mark ∷ (path.inner ++ angled.close_mark ∷ []) =
     angled.whole ∙ ap (λ before. before ++ angled.open_mark ∷ (path.inner ++ angled.close_mark ∷ angled.after)) is.before
-    ∙ ap (λ after. angled.open_mark ∷ (path.inner ++ angled.close_mark ∷ after)) is.behind in
+    ∙ ap (λ after. angled.open_mark ∷ (path.inner ++ angled.close_mark ∷ after)) is.following in
     let all : list_all (λ t. not (is_comment t.kind)) (angled.open_mark ∷ (path.inner ++ angled.close_mark ∷ [])) ≡ true = rw tokens at is.plain in
-    let behind = (and_parts (not (is_comment angled.open_mark.kind)) (list_all (λ t. not (is_comment t.kind)) (path.inner ++ angled.close_mark ∷ [])) all).1 in
+    let following = (and_parts (not (is_comment angled.open_mark.kind)) (list_all (λ t. not (is_comment t.kind)) (path.inner ++ angled.close_mark ∷ [])) all).1 in
     let plain =
     (and_parts (list_all (λ t. not (is_comment t.kind)) path.inner) (list_all (λ t. not (is_comment t.kind)) (angled.close_mark ∷ []))
-    (sym (list_all-append (λ t. not (is_comment t.kind)) path.inner (angled.close_mark ∷ [])) ∙ behind)).0 in
+    (sym (list_all-append (λ t. not (is_comment t.kind)) path.inner (angled.close_mark ∷ [])) ∙ following)).0 in
     between_angles text angled.open_mark angled.close_mark path.inner (subst (λ (ts : List TokenValue). AreTokens Mail ts text) tokens is.path.has_tokens.are_tokens) angled.opens angled.closes
     (all_stand path.inner (inner_fits path.inner answer path.holds) plain)
 
@@ -236,15 +236,15 @@ path_len-whole text answer is rest =
     rw angles.whole (written_len angles.inner rest angles.passes)
 
 -- it is found whole behind a word
-pub path_found-behind : (word text : List ℕ) (answer : Option Address) → IsPathText text answer → (rest : List ℕ) → stands_apart rest ≡ true
-    → path_behind word (word ++ (text ++ rest)) ≡ Some (record { path = text; rest = rest })
-path_found-behind word text answer is rest apart =
+pub path_found-following : (word text : List ℕ) (answer : Option Address) → IsPathText text answer → (rest : List ℕ) → ends_word rest ≡ true
+    → path_after word (word ++ (text ++ rest)) ≡ Some (record { path = text; rest = rest })
+path_found-following word text answer is rest apart =
     let angles = path_angles text answer is in
-    rw angles.whole (found_behind word angles.inner rest angles.passes apart)
+    rw angles.whole (found_after word angles.inner rest angles.passes apart)
 
 -- and behind a word and a space
-pub path_found-spaced : (word text : List ℕ) (answer : Option Address) → IsPathText text answer → (rest : List ℕ) → stands_apart rest ≡ true
-    → path_behind word (word ++ 32 ∷ (text ++ rest)) ≡ Some (record { path = text; rest = rest })
+pub path_found-spaced : (word text : List ℕ) (answer : Option Address) → IsPathText text answer → (rest : List ℕ) → ends_word rest ≡ true
+    → path_after word (word ++ 32 ∷ (text ++ rest)) ≡ Some (record { path = text; rest = rest })
 path_found-spaced word text answer is rest apart =
     let angles = path_angles text answer is in
     rw angles.whole (found_spaced word angles.inner rest angles.passes apart)

@@ -123,7 +123,7 @@ whole_word : (word : List ℕ) → list_any is_white word ≡ false → slice_sp
 whole_word [] none = refl
 whole_word (x ∷ word) none = elim (cases_Bool (is_white x)) [
   | inl white ↦ absurd (cc (rw white at none))
-  | inr black ↦ slice_split-cons_no is_white x word black ∙ ap (onto_first x) (whole_word word (rw black at none))
+  | inr nonwhite ↦ slice_split-cons_no is_white x word nonwhite ∙ ap (onto_first x) (whole_word word (rw nonwhite at none))
 ]
 
 lone_by : (x : ℕ) (word : List ℕ) → is_white x ≡ true → (length word == 0) ≡ false → list_any is_white word ≡ false → white_words (x ∷ word) ≡ word ∷ []

@@ -7,7 +7,7 @@ use Rattle.std.specs.Char.{to_ascii_lowercase}
 use Rattle.std.proofs.lemmas.List.{at_drop_more, at_drop_all, length-map, length-take}
 use Rattle.mail_wire.specs.Octets.{same_name}
 use Rattle.smtp_grammar.specs.declared.command.Place.{Place}
-use Rattle.smtp_grammar.specs.Commands.{path_len, stands_plain, path_place_after, behind_word}
+use Rattle.smtp_grammar.specs.Commands.{path_len, stands_plain, path_place_after, after_word}
 
 -- more octets before a length
 map-map : (n : ℕ) (o : Option ℕ) → option_map (λ m. m + n) (option_map (λ m. m + 1) o) ≡ option_map (λ m. m + (n + 1)) o
@@ -56,7 +56,7 @@ turn-none whole n at place text so_far all =
     sym (so_far ∙ at_drop_all (λ (rest : List ℕ). option_map (λ m. m + n) (path_len place rest)) text at all ∙ len-nil n place)
 
 -- a text that is shorter than a word doesn't begin with it
-pub behind_word-short : (word text : List ℕ) → length text < length word → None ≡ behind_word word text
+pub after_word-short : (word text : List ℕ) → length text < length word → None ≡ after_word word text
 unfolding same_name
-behind_word-short word text short =
+after_word-short word text short =
     rw (unequal nat_eq (map to_ascii_lowercase (take (length word) text)) (map to_ascii_lowercase word) (λ same. omega (arith, simp length-map at same, length-take (length word) text))) refl

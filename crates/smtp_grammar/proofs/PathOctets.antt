@@ -27,7 +27,7 @@ use Rattle.address_grammar.proofs.SoundLemmas.{IsSound, Shape, contents-words, s
 use Rattle.address_grammar.proofs.WritingLemmas.{mark_is}
 use Rattle.smtp_grammar.specs.declared.command.Place.{Place}
 use Rattle.smtp_grammar.specs.declared.command.Place.TheVariants as place
-use Rattle.smtp_grammar.specs.Commands.{behind_word, path_and_rest, path_behind, path_in, path_len, path_place_after, stands_apart, stands_plain}
+use Rattle.smtp_grammar.specs.Commands.{after_word, path_and_rest, path_after, path_in, path_len, path_place_after, ends_word, stands_plain}
 use Rattle.field_tokens.specs.Squeezed.{is_atom_kind, words_of}
 
 -- ---- octets that a path goes on with
@@ -250,8 +250,8 @@ passes_address address comes =
     let path = comes.1 in
     let sound = tokens_sound path.tokens comes.0 path.has_tokens.are_tokens path.has_tokens.is_line in
     let angled = path.is_path.angled in
-    let behind = (sound_rest path.is_path.before (angled.open_mark ∷ (path.is_path.inner ++ angled.close_mark ∷ angled.after)) (rw angled.whole at sound)).1 in
-    passes_tokens path.is_path.inner address (sound_front path.is_path.inner (angled.close_mark ∷ angled.after) behind) path.is_path.holds
+    let following = (sound_rest path.is_path.before (angled.open_mark ∷ (path.is_path.inner ++ angled.close_mark ∷ angled.after)) (rw angled.whole at sound)).1 in
+    passes_tokens path.is_path.inner address (sound_front path.is_path.inner (angled.close_mark ∷ angled.after) following) path.is_path.holds
 
 -- a path ends with this `>`
 ends_here : (rest : List ℕ) → path_len place.Plain (62 ∷ rest) ≡ Some 1
@@ -266,11 +266,11 @@ written_len octets rest passes =
     ∙ ap (option_map (λ n. n + length (60 ∷ octets))) (ends_here rest) ∙ ap Some (omega (arith, length-append octets (62 ∷ [])))
 
 -- what stands before the place where the path ends, and behind it
-found_at : (path rest : List ℕ) → stands_apart rest ≡ true → path_and_rest (path ++ rest) (length path) ≡ Some (record { path = path; rest = rest })
+found_at : (path rest : List ℕ) → ends_word rest ≡ true → path_and_rest (path ++ rest) (length path) ≡ Some (record { path = path; rest = rest })
 found_at path rest apart = rw (drop_at path rest (length path) refl, take_at path rest (length path) refl, apart) refl
 
 -- the path is found whole
-octets_found : (octets rest : List ℕ) → PassesPlain octets → stands_apart rest ≡ true
+octets_found : (octets rest : List ℕ) → PassesPlain octets → ends_word rest ≡ true
     → path_in (in_angles octets ++ rest) ≡ Some (record { path = in_angles octets; rest = rest })
 octets_found octets rest passes apart =
     ap (option_and_then (path_and_rest (in_angles octets ++ rest))) (written_len octets rest passes) ∙ found_at (in_angles octets) rest apart
@@ -282,25 +282,25 @@ same_itself : (xs : List ℕ) → bytes_eq xs xs ≡ true
 same_itself xs = (bytes_eq-Decides xs xs).1 refl
 
 -- a word is followed by what stands behind it
-follows_word : (word text : List ℕ) → behind_word word (word ++ 60 ∷ text) ≡ Some (60 ∷ text)
+follows_word : (word text : List ℕ) → after_word word (word ++ 60 ∷ text) ≡ Some (60 ∷ text)
 unfolding same_name
 follows_word word text =
     rw (take_at word (60 ∷ text) (length word) refl, drop_at word (60 ∷ text) (length word) refl, same_itself (map to_ascii_lowercase word)) refl
 
 -- and so it is where a space stands between
-follows_space : (word text : List ℕ) → behind_word word (word ++ 32 ∷ text) ≡ Some text
+follows_space : (word text : List ℕ) → after_word word (word ++ 32 ∷ text) ≡ Some text
 unfolding same_name
 follows_space word text =
     rw (take_at word (32 ∷ text) (length word) refl, drop_at word (32 ∷ text) (length word) refl, same_itself (map to_ascii_lowercase word)) refl
 
 -- the path is found behind a word
-pub found_behind : (word octets rest : List ℕ) → PassesPlain octets → stands_apart rest ≡ true
-    → path_behind word (word ++ (in_angles octets ++ rest)) ≡ Some (record { path = in_angles octets; rest = rest })
-found_behind word octets rest passes apart =
+pub found_after : (word octets rest : List ℕ) → PassesPlain octets → ends_word rest ≡ true
+    → path_after word (word ++ (in_angles octets ++ rest)) ≡ Some (record { path = in_angles octets; rest = rest })
+found_after word octets rest passes apart =
     ap (option_and_then path_in) (follows_word word ((octets ++ 62 ∷ []) ++ rest)) ∙ octets_found octets rest passes apart
 
 -- and behind a word and a space
-pub found_spaced : (word octets rest : List ℕ) → PassesPlain octets → stands_apart rest ≡ true
-    → path_behind word (word ++ 32 ∷ (in_angles octets ++ rest)) ≡ Some (record { path = in_angles octets; rest = rest })
+pub found_spaced : (word octets rest : List ℕ) → PassesPlain octets → ends_word rest ≡ true
+    → path_after word (word ++ 32 ∷ (in_angles octets ++ rest)) ≡ Some (record { path = in_angles octets; rest = rest })
 found_spaced word octets rest passes apart =
     ap (option_and_then path_in) (follows_space word (in_angles octets ++ rest)) ∙ octets_found octets rest passes apart

@@ -23,7 +23,7 @@ use Rattle.smtp_grammar.proofs.DataLines.{AreDataLines, data_cut-last, data_cut-
 
 -- a test that failed
 pub not_so : (P : Type 0) (b : Bool) → (IsTrue b ↔ P) → b ≡ false → P → ⊥
-not_so P b tells is holds = let yes_it_is : IsTrue b = tells.1 holds in cc
+not_so P b observed is holds = let yes_it_is : IsTrue b = observed.1 holds in cc
 
 -- ---- the last four octets
 
@@ -37,8 +37,8 @@ four_of_many : (octets : List ℕ) → 4 ≤ length octets → length (last_four
 four_of_many octets many = omega (arith, length-drop (length octets - 4) octets)
 
 -- octets that were left out make no difference
-four_behind : (front octets : List ℕ) → 4 ≤ length octets → last_four (front ++ octets) ≡ last_four octets
-four_behind front octets many =
+four_after : (front octets : List ℕ) → 4 ≤ length octets → last_four (front ++ octets) ≡ last_four octets
+four_after front octets many =
     let place : length (front ++ octets) - 4 ≡ length front + (length octets - 4) = omega (arith, length-append front octets) in
     rw place (sym (drop-drop (length octets - 4) (length front) (front ++ octets)) ∙ ap (drop (length octets - 4)) (drop_at front octets (length front) refl))
 
@@ -56,7 +56,7 @@ four_left front more = elim (cases_lt (length front) 4) [
   | inl few ↦ ap (λ octets. last_four (octets ++ more)) (few_all front (omega arith))
   | inr many ↦
       let four = four_of_many front many in
-      sym (four_behind (before_four front) (last_four front ++ more) (omega (arith, four, length-append (last_four front) more)))
+      sym (four_after (before_four front) (last_four front ++ more) (omega (arith, four, length-append (last_four front) more)))
       ∙ ap last_four (sym (append_assoc (before_four front) (last_four front) more)) ∙ ap (λ octets. last_four (octets ++ more)) (parted front)
 ]
 
@@ -66,8 +66,8 @@ four_right front more = elim (cases_lt (length more) 4) [
   | inl few ↦ ap (λ octets. last_four (front ++ octets)) (few_all more (omega arith))
   | inr many ↦
       let four = four_of_many more many in
-      four_behind front (last_four more) (omega (arith, four)) ∙ sym (four_behind (before_four more) (last_four more) (omega (arith, four))) ∙ ap last_four (parted more)
-      ∙ sym (four_behind front more many)
+      four_after front (last_four more) (omega (arith, four)) ∙ sym (four_after (before_four more) (last_four more) (omega (arith, four))) ∙ ap last_four (parted more)
+      ∙ sym (four_after front more many)
 ]
 
 pub four_joined : (front more : List ℕ) → last_four (last_four front ++ last_four more) ≡ last_four (front ++ more)
@@ -76,22 +76,22 @@ four_joined front more = four_right (last_four front) more ∙ four_left front m
 -- ---- a line of which the last octets are known
 
 -- a line behind octets that have none
-line_behind : (front tail more : List ℕ) → first_line (front ++ tail) ≡ None → 0 < length tail → first_line (front ++ (tail ++ more)) ≡ option_map (put front) (first_line (tail ++ more))
-line_behind [] tail more none some = put_nothing (first_line (tail ++ more))
-line_behind (x ∷ []) [] more none some = absurd (omega (arith, some))
-line_behind (x ∷ []) (y ∷ tail) more none some = first_line-other x y (tail ++ more) (none_first x y tail none (is_crlf x y) refl).0
-line_behind (x ∷ z ∷ front) tail more none some =
+line_after : (front tail more : List ℕ) → first_line (front ++ tail) ≡ None → 0 < length tail → first_line (front ++ (tail ++ more)) ≡ option_map (put front) (first_line (tail ++ more))
+line_after [] tail more none some = put_nothing (first_line (tail ++ more))
+line_after (x ∷ []) [] more none some = absurd (omega (arith, some))
+line_after (x ∷ []) (y ∷ tail) more none some = first_line-other x y (tail ++ more) (none_first x y tail none (is_crlf x y) refl).0
+line_after (x ∷ z ∷ front) tail more none some =
     let parts = none_first x z (front ++ tail) none (is_crlf x z) refl in
-    first_line-other x z (front ++ (tail ++ more)) parts.0 ∙ ap (option_map (begun_with x)) (line_behind (z ∷ front) tail more parts.1 some)
+    first_line-other x z (front ++ (tail ++ more)) parts.0 ∙ ap (option_map (begun_with x)) (line_after (z ∷ front) tail more parts.1 some)
     ∙ put_more x (z ∷ front) (first_line (tail ++ more))
 
 -- where octets have no line, the last ones of them have none
-none_behind : (front tail : List ℕ) → first_line (front ++ tail) ≡ None → first_line tail ≡ None
+none_following : (front tail : List ℕ) → first_line (front ++ tail) ≡ None → first_line tail ≡ None
 unfolding first_line
-none_behind [] tail none = none
-none_behind (x ∷ []) [] none = refl
-none_behind (x ∷ []) (y ∷ tail) none = (none_first x y tail none (is_crlf x y) refl).1
-none_behind (x ∷ z ∷ front) tail none = none_behind (z ∷ front) tail (none_first x z (front ++ tail) none (is_crlf x z) refl).1
+none_following [] tail none = none
+none_following (x ∷ []) [] none = refl
+none_following (x ∷ []) (y ∷ tail) none = (none_first x y tail none (is_crlf x y) refl).1
+none_following (x ∷ z ∷ front) tail none = none_following (z ∷ front) tail (none_first x z (front ++ tail) none (is_crlf x z) refl).1
 
 -- the octets are kept, or their last four
 abbrev IsKeptAs : (line front : List ℕ) → Type 0
@@ -109,11 +109,11 @@ with_more (x ∷ rest) more none =
     let octets = x ∷ rest in
     let whole = parted octets in
     ap (λ (all : List ℕ). first_line (all ++ more)) (sym whole) ∙ ap first_line (append_assoc (before_four octets) (last_four octets) more)
-    ∙ line_behind (before_four octets) (last_four octets) more (ap first_line whole ∙ none) (omega (arith, length-drop (length octets - 4) octets))
+    ∙ line_after (before_four octets) (last_four octets) more (ap first_line whole ∙ none) (omega (arith, length-drop (length octets - 4) octets))
 
 pub none_kept : (line front : List ℕ) → first_line front ≡ None → IsKeptAs line front → first_line line ≡ None
 none_kept line front none (inl is) = rw is none
-none_kept line front none (inr is) = rw is (none_behind (before_four front) (last_four front) (ap first_line (parted front) ∙ none))
+none_kept line front none (inr is) = rw is (none_following (before_four front) (last_four front) (ap first_line (parted front) ∙ none))
 
 none_with : (line front more : List ℕ) → first_line front ≡ None → IsKeptAs line front → first_line (line ++ more) ≡ None → first_line (front ++ more) ≡ None
 none_with line front more none (inl is) found = rw is at found
@@ -152,38 +152,38 @@ not_last_kept line front part (inr is) differs last =
 
 -- what is said of octets is said with more behind them
 too_much_on : (limit : ℕ) (octets more : List ℕ) → SayTooMuch limit octets → SayTooMuch limit (octets ++ more)
-too_much_on limit octets more long behind cut is = long (more ++ behind) cut (ap data_cut (sym (append_assoc octets more behind)) ∙ is)
+too_much_on limit octets more long following cut is = long (more ++ following) cut (ap data_cut (sym (append_assoc octets more following)) ∙ is)
 
 -- the cut of data behind lines
-record IsBehind (lines : List (List ℕ)) (more : List ℕ) (cut : Cut) : Type 0 where
+record IsAfter (lines : List (List ℕ)) (more : List ℕ) (cut : Cut) : Type 0 where
   next : Cut
   found : data_cut more ≡ Some next
   says : length (unstuffed cut.line) ≡ length (unstuffed (concat lines)) + length (unstuffed next.line)
 
-behind_lines : (lines : List (List ℕ)) (more : List ℕ) (cut : Cut) → AreDataLines lines → data_cut (concat lines ++ more) ≡ Some cut → IsBehind lines more cut
-behind_lines lines more cut are is =
-    let behind = unput (concat lines) cut (data_cut more) (sym (data_cut-lines lines more are) ∙ is) in
-    let said = ap length (ap (λ (c : Cut). unstuffed c.line) behind.2 ∙ unstuffed-lines lines behind.0.line are) in
+after_lines : (lines : List (List ℕ)) (more : List ℕ) (cut : Cut) → AreDataLines lines → data_cut (concat lines ++ more) ≡ Some cut → IsAfter lines more cut
+after_lines lines more cut are is =
+    let following = unput (concat lines) cut (data_cut more) (sym (data_cut-lines lines more are) ∙ is) in
+    let said = ap length (ap (λ (c : Cut). unstuffed c.line) following.2 ∙ unstuffed-lines lines following.0.line are) in
     let whole = ap length (unstuffed-concat lines are) in
     record {
-      next = behind.0;
-      found = behind.1;
-      says = omega (arith, said, whole, length-append (flat_map unstuffed_line lines) (unstuffed behind.0.line));
+      next = following.0;
+      found = following.1;
+      says = omega (arith, said, whole, length-append (flat_map unstuffed_line lines) (unstuffed following.0.line));
     }
 
 -- the whole lines say too much
 long_lines : (limit : ℕ) (lines : List (List ℕ)) (front : List ℕ) → AreDataLines lines → limit < length (unstuffed (concat lines)) → SayTooMuch limit (concat lines ++ front)
 long_lines limit lines front are long more cut is =
-    let behind = behind_lines lines (front ++ more) cut are (ap data_cut (sym (append_assoc (concat lines) front more)) ∙ is) in
-    omega (arith, long, behind.says)
+    let following = after_lines lines (front ++ more) cut are (ap data_cut (sym (append_assoc (concat lines) front more)) ∙ is) in
+    omega (arith, long, following.says)
 
 -- the front of the next line says too much
 long_front : (limit : ℕ) (lines : List (List ℕ)) (front : List ℕ) → AreDataLines lines → first_line front ≡ None → length (unstuffed (concat lines)) ≤ limit
     → limit + 2 < length (unstuffed (concat lines)) + length front → SayTooMuch limit (concat lines ++ front)
 long_front limit lines front are none short long more cut is =
-    let behind = behind_lines lines (front ++ more) cut are (ap data_cut (sym (append_assoc (concat lines) front more)) ∙ is) in
-    let says = says_front front more behind.next none (omega (arith, short, long)) behind.found in
-    omega (arith, long, says, behind.says)
+    let following = after_lines lines (front ++ more) cut are (ap data_cut (sym (append_assoc (concat lines) front more)) ∙ is) in
+    let says = says_front front more following.next none (omega (arith, short, long)) following.found in
+    omega (arith, long, says, following.says)
 
 -- ---- what a reader has read
 
@@ -249,14 +249,14 @@ ended_line reader octets part read ends differs = record {
   not_last = not_last_kept reader.line read.front part (kept reader octets read) differs;
 }
 
-part_behind : (reader : DataReader) (octets part : List ℕ) (read : HasRead reader octets) → octets ++ part ≡ concat read.lines ++ (read.front ++ part)
-part_behind reader octets part read = ap (λ all. all ++ part) read.octets_are ∙ append_assoc (concat read.lines) read.front part
+part_after : (reader : DataReader) (octets part : List ℕ) (read : HasRead reader octets) → octets ++ part ≡ concat read.lines ++ (read.front ++ part)
+part_after reader octets part read = ap (λ all. all ++ part) read.octets_are ∙ append_assoc (concat read.lines) read.front part
 
 -- the lines that were read, and the one that a part ends
 more_lines : (reader : DataReader) (octets part : List ℕ) (read : HasRead reader octets) → EndsLine reader part → (reader.line ++ part ≡ last_line → ⊥)
     → HasLine read.lines (read.front ++ part) (octets ++ part)
 more_lines reader octets part read ends differs =
-    rw (part_behind reader octets part read) (has_line read.lines (read.front ++ part) read.are_lines (ended_line reader octets part read ends differs))
+    rw (part_after reader octets part read) (has_line read.lines (read.front ++ part) read.are_lines (ended_line reader octets part read ends differs))
 
 -- a reader that has read whole lines alone
 read_lines : (reader : DataReader) (lines : List (List ℕ)) (line octets : List ℕ) → HasLine lines line octets → KeepsAs reader.dropped reader (lines ++ line ∷ []) [] → IsBounded reader
@@ -294,9 +294,9 @@ part_dropped old new octets part same dropped still content read ends differs =
     (omega (arith, bounded, limit, none, kept_len))
 
 -- what the lines say behind a part, where none of the data were dropped
-said_behind : (old : DataReader) (octets part : List ℕ) (read : HasRead old octets) → EndsLine old part → (old.line ++ part ≡ last_line → ⊥) → old.dropped ≡ false
+said_after : (old : DataReader) (octets part : List ℕ) (read : HasRead old octets) → EndsLine old part → (old.line ++ part ≡ last_line → ⊥) → old.dropped ≡ false
     → unstuffed (concat (read.lines ++ (read.front ++ part) ∷ [])) ≡ old.content ++ unstuffed_line (old.line ++ part)
-said_behind old octets part read ends differs dropped =
+said_after old octets part read ends differs dropped =
     let has = more_lines old octets part read ends differs in
     let keeps = keeps_as old read.lines read.front false old.dropped (sym dropped) read.keeps in
     has.said ∙ ap (λ front. front ++ unstuffed_line (read.front ++ part)) (sym keeps.content) ∙ ap (λ line. old.content ++ unstuffed_line (line ++ part)) (sym keeps.line)
@@ -307,7 +307,7 @@ pub part_too_long : (old new : DataReader) (octets part : List ℕ) → HasNoLin
 part_too_long old new octets part same dropped now content long read ends differs =
     let has = more_lines old octets part read ends differs in
     let lines = read.lines ++ (read.front ++ part) ∷ [] in
-    let said = ap length (said_behind old octets part read ends differs dropped) in
+    let said = ap length (said_after old octets part read ends differs dropped) in
     let limit = same.limit in
     let none = ap length same.line in
     let kept_len = ap length content in
@@ -322,7 +322,7 @@ pub part_kept : (old new : DataReader) (octets part : List ℕ) → HasNoLine ol
 part_kept old new octets part same dropped still content short read ends differs =
     let has = more_lines old octets part read ends differs in
     let lines = read.lines ++ (read.front ++ part) ∷ [] in
-    let said = said_behind old octets part read ends differs dropped in
+    let said = said_after old octets part read ends differs dropped in
     let limit = same.limit in
     let none = ap length same.line in
     read_lines new read.lines (read.front ++ part) (octets ++ part) has
@@ -339,7 +339,7 @@ read_front old new octets more read none keeps bounded = record {
   are_lines = read.are_lines;
   front = read.front ++ more;
   unended = none_with old.line read.front more read.unended (kept old octets read) none;
-  octets_are = part_behind old octets more read;
+  octets_are = part_after old octets more read;
   keeps = keeps;
   bounded = bounded;
 }
@@ -403,7 +403,7 @@ part_last reader octets part last read ends =
     let is_last = last_kept reader.line read.front part (kept reader octets read) last in
     let found : first_line (read.front ++ part) ≡ Some (record { line = last_line; rest = [] }) = whole ∙ ap (λ line. Some (record { line = line; rest = [] })) is_last in
     let cut : data_cut (octets ++ part) ≡ Some (record { line = concat read.lines; rest = [] }) =
-    ap data_cut (part_behind reader octets part read) ∙ data_cut-lines read.lines (read.front ++ part) (lines_are reader octets read)
+    ap data_cut (part_after reader octets part read) ∙ data_cut-lines read.lines (read.front ++ part) (lines_are reader octets read)
     ∙ ap (option_map (put (concat read.lines))) (data_cut-last (read.front ++ part) [] found)
     ∙ ap (λ line. Some (record { line = line; rest = [] })) (append-nil (concat read.lines)) in
     (concat read.lines, cut, ended_by reader octets part read cut reader.dropped refl)
@@ -456,10 +456,10 @@ pub taken_front : (old reader new : DataReader) (piece rest : List ℕ) (used : 
     → ((octets : List ℕ) → HasRead reader octets → first_line (reader.line ++ rest) ≡ None → HasRead new (octets ++ rest)) → (octets : List ℕ) → HasRead old octets → TakesOfPiece new octets piece None
 taken_front old reader new piece rest used is taken finds takes octets read =
     let before = taken.read octets read in
-    let behind = takes (octets ++ take used piece) before (finds (line_unended reader (octets ++ take used piece) before)) in
+    let following = takes (octets ++ take used piece) before (finds (line_unended reader (octets ++ take used piece) before)) in
     let whole : octets ++ take used piece ++ rest ≡ octets ++ piece =
     append_assoc octets (take used piece) rest ∙ ap (λ back. octets ++ (take used piece ++ back)) is ∙ ap (λ all. octets ++ all) (take-append-drop used piece) in
-    let here : HasRead new (octets ++ piece) = rw whole at behind in
+    let here : HasRead new (octets ++ piece) = rw whole at following in
     (read_unended new (octets ++ piece) here, here)
 
 -- the last line was taken
@@ -487,12 +487,12 @@ taken_end old reader new piece rest used end is taken finds some fits takes octe
 -- a line in two parts is the last one, where it begins as that does and goes on so
 pub is_last_by : (line part rest : List ℕ) (b : Bool) → bytes_eq (take (length line) last_line) line ≡ true → rest ≡ drop (length line) last_line → b ≡ bytes_eq rest part
     → (IsTrue b → line ++ part ≡ last_line) × (line ++ part ≡ last_line → IsTrue b)
-is_last_by line part rest b begins is tells =
+is_last_by line part rest b begins is observed =
     let front : take (length line) last_line ≡ line = (bytes_eq-Decides (take (length line) last_line) line).0 begins in
     let whole : line ++ rest ≡ last_line = ap (λ back. line ++ back) is ∙ ap (λ first. first ++ drop (length line) last_line) (sym front) ∙ take-append-drop (length line) last_line in
     let same = bytes_eq-Decides rest part in (
-      λ yes_it_is. ap (λ back. line ++ back) (sym (same.0 (sym tells ∙ yes_it_is))) ∙ whole,
-      λ last. tells ∙ same.1 (append_cancel_left line rest part (whole ∙ sym last)),
+      λ yes_it_is. ap (λ back. line ++ back) (sym (same.0 (sym observed ∙ yes_it_is))) ∙ whole,
+      λ last. observed ∙ same.1 (append_cancel_left line rest part (whole ∙ sym last)),
     )
 
 -- a part of more octets is not of the line that ends the data

@@ -9,8 +9,8 @@ use Rattle.mail_wire.specs.Message.{IsEnded}
 use Rattle.mail_wire.proofs.DotLemmas.{others_stuffed}
 use Rattle.mail_wire.proofs.FirstLine.{lines_of-crlf, lines_of-other}
 use Rattle.mail_wire.proofs.LineLemmas.{begins}
-use Rattle.smtp_grammar.specs.Data.{behind_command, data_cut, end_cut, sent}
-use Rattle.smtp_grammar.proofs.DataLemmas.{end_cut-here, end_cut-other, ended_behind-crlf, ended_behind-other, ends_here}
+use Rattle.smtp_grammar.specs.Data.{following_command, data_cut, end_cut, sent}
+use Rattle.smtp_grammar.proofs.DataLemmas.{end_cut-here, end_cut-other, ended_after-crlf, ended_after-other, ends_here}
 
 -- ---- the end
 
@@ -49,9 +49,9 @@ crlf_found : (octets rest : List ℕ) (lines : List (List ℕ)) → lines_of oct
     → end_cut (13 ∷ 10 ∷ (flat_map stuffed_line lines ++ ended_by rest)) ≡ Some (record { line = 13 ∷ 10 ∷ flat_map stuffed_line lines; rest = rest }) → AreFound octets rest
 unfolding ends_here
 crlf_found octets rest lines is found =
-    let lines_behind = flat_map stuffed_line lines in
+    let lines_after = flat_map stuffed_line lines in
     record {
-      start = rw is (crlf_passed (13 ∷ 10 ∷ (lines_behind ++ ended_by rest)) (13 ∷ 10 ∷ lines_behind) rest refl found);
+      start = rw is (crlf_passed (13 ∷ 10 ∷ (lines_after ++ ended_by rest)) (13 ∷ 10 ∷ lines_after) rest refl found);
       within = λ some. rw is found;
     }
 
@@ -69,24 +69,24 @@ line_found x line others rest whole false is =
     rw is (crlf_passed (x ∷ ((line ++ others) ++ ended_by rest)) (x ∷ (line ++ others)) rest (rw is refl) whole)
 
 -- the octets don't begin with CRLF
-other_found : (x y : ℕ) (behind line rest : List ℕ) (lines : List (List ℕ)) → is_crlf x y ≡ false → lines_of (y ∷ behind) ≡ (y ∷ line) ∷ lines
-    → lines_of (x ∷ y ∷ behind) ≡ (x ∷ y ∷ line) ∷ lines → AreFound (y ∷ behind) rest → AreFound (x ∷ y ∷ behind) rest
-other_found x y behind line rest lines apart here longer next =
+other_found : (x y : ℕ) (following line rest : List ℕ) (lines : List (List ℕ)) → is_crlf x y ≡ false → lines_of (y ∷ following) ≡ (y ∷ line) ∷ lines
+    → lines_of (x ∷ y ∷ following) ≡ (x ∷ y ∷ line) ∷ lines → AreFound (y ∷ following) rest → AreFound (x ∷ y ∷ following) rest
+other_found x y following line rest lines apart here longer next =
     let others = flat_map stuffed_line lines in
     let later : end_cut (y ∷ ((line ++ others) ++ ended_by rest)) ≡ Some (record { line = y ∷ (line ++ others); rest = rest }) = rw here at (next.within (omega arith)) in
     let whole = passed x (y ∷ ((line ++ others) ++ ended_by rest)) (y ∷ (line ++ others)) rest (two_other x y ((line ++ others) ++ ended_by rest) apart (x == 13) refl) later in
     record { start = rw longer (line_found x (y ∷ line) others rest whole (x == 46) refl); within = λ some. rw longer whole }
 
 -- from the second octet on, and from the third on
-found_by : (x y : ℕ) (behind rest : List ℕ) → IsEnded (x ∷ y ∷ behind) → (IsEnded (y ∷ behind) → AreFound (y ∷ behind) rest) → (IsEnded behind → AreFound behind rest)
-    → (b : Bool) → is_crlf x y ≡ b → AreFound (x ∷ y ∷ behind) rest
-found_by x y behind rest (inl nothing) next after b is = cc
-found_by x y behind rest (inr ended) next after true is =
-    crlf_found (x ∷ y ∷ behind) rest (lines_of behind) (lines_of-crlf x y behind is) (after (ended_behind-crlf x y behind ended.0 is ended.1)).start
-found_by x y behind rest (inr ended) next after false is =
-    let first = begins y behind in
-    other_found x y behind first.line rest first.lines is first.split (lines_of-other x y behind is ∙ ap (put_before x) first.split)
-    (next (ended_behind-other x y behind ended.0 is ended.1))
+found_by : (x y : ℕ) (following rest : List ℕ) → IsEnded (x ∷ y ∷ following) → (IsEnded (y ∷ following) → AreFound (y ∷ following) rest) → (IsEnded following → AreFound following rest)
+    → (b : Bool) → is_crlf x y ≡ b → AreFound (x ∷ y ∷ following) rest
+found_by x y following rest (inl nothing) next after b is = cc
+found_by x y following rest (inr ended) next after true is =
+    crlf_found (x ∷ y ∷ following) rest (lines_of following) (lines_of-crlf x y following is) (after (ended_after-crlf x y following ended.0 is ended.1)).start
+found_by x y following rest (inr ended) next after false is =
+    let first = begins y following in
+    other_found x y following first.line rest first.lines is first.split (lines_of-other x y following is ∙ ap (put_before x) first.split)
+    (next (ended_after-other x y following ended.0 is ended.1))
 
 are_found : (octets rest : List ℕ) → IsEnded octets → AreFound octets rest
 are_found [] rest ended = none_found rest
@@ -94,9 +94,9 @@ are_found (x ∷ []) rest (inl nothing) = cc
 are_found (x ∷ []) rest (inr ([], is)) = cc
 are_found (x ∷ []) rest (inr (a ∷ [], is)) = cc
 are_found (x ∷ []) rest (inr (a ∷ b ∷ front, is)) = cc
-are_found (x ∷ y ∷ behind) rest ended = found_by x y behind rest ended (are_found (y ∷ behind) rest) (are_found behind rest) (is_crlf x y) refl
+are_found (x ∷ y ∷ following) rest ended = found_by x y following rest ended (are_found (y ∷ following) rest) (are_found following rest) (is_crlf x y) refl
 
 -- data that were sent are found whole
 pub sent_found : (octets : List ℕ) → IsEnded octets → (rest : List ℕ) → data_cut (sent octets rest) ≡ Some (record { line = stuffed octets; rest = rest })
 unfolding stuffed
-sent_found octets ended rest = ap (option_map behind_command) (are_found octets rest ended).start
+sent_found octets ended rest = ap (option_map following_command) (are_found octets rest ended).start

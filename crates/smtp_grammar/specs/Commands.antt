@@ -4,9 +4,10 @@ use Rattle.std.specs.Option.{option_map, option_and_then}
 use Rattle.std.specs.List.{before_first, list_all, list_any, slice_split, position_or_len, suffix_len}
 use Rattle.std.specs.Str.{bytes_eq}
 use Rattle.std.specs.Char.{to_ascii_lowercase, is_ascii_alphanumeric}
+use Rattle.mail_wire.specs.Characters.{space, quote, left_parenthesis, less_than, equals_sign, greater_than, left_bracket, backslash, right_bracket}
 use Rattle.mail_wire.specs.Numbers.{number_of}
 use Rattle.mail_wire.specs.Tables.{Named, said_by}
-use Rattle.mail_wire.specs.Octets.{is_white, is_black, same_name}
+use Rattle.mail_wire.specs.Octets.{is_white, is_nonwhite, same_name}
 use Rattle.smtp_grammar.specs.declared.command.Verb.{Verb}
 use Rattle.smtp_grammar.specs.declared.command.Verb.TheVariants as verb
 use Rattle.smtp_grammar.specs.declared.command.Place.{Place}
@@ -18,7 +19,7 @@ use Rattle.smtp_grammar.specs.declared.command.Parameter.TheVariants as paramete
 
 -- without the white that it begins with
 abbrev pub after_white : List ℕ → List ℕ
-after_white text = drop (position_or_len is_black text) text
+after_white text = drop (position_or_len is_nonwhite text) text
 
 -- without the white that it ends with
 abbrev pub before_white : List ℕ → List ℕ
@@ -72,13 +73,12 @@ is_client name = nat_lt 0 (length name) && nat_le (length name) 255 && list_all 
 
 -- ---- the path of MAIL and RCPT
 
--- The place behind an octet: 34 is a quote, 91 and 93 are the brackets of a literal, and 92 is a backslash, which takes the next octet with it
--- in quotes and in a literal.
+-- The place behind an octet. Brackets enclose a literal; a backslash takes the next octet with it in quotes and in a literal.
 abbrev pub path_place_after : Place → ℕ → Place
-path_place_after place.Plain x = if x == 34 then place.Quoted else (if x == 91 then place.Literal else place.Plain)
-path_place_after place.Quoted x = if x == 34 then place.Plain else (if x == 92 then place.QuotedPair else place.Quoted)
+path_place_after place.Plain x = if x == quote then place.Quoted else (if x == left_bracket then place.Literal else place.Plain)
+path_place_after place.Quoted x = if x == quote then place.Plain else (if x == backslash then place.QuotedPair else place.Quoted)
 path_place_after place.QuotedPair x = place.Quoted
-path_place_after place.Literal x = if x == 93 then place.Plain else (if x == 92 then place.LiteralPair else place.Literal)
+path_place_after place.Literal x = if x == right_bracket then place.Plain else (if x == backslash then place.LiteralPair else place.Literal)
 path_place_after place.LiteralPair x = place.Literal
 
 -- The octet stands at this place, outside of quotes and of a literal.
@@ -89,22 +89,22 @@ stands_plain octet place.QuotedPair x = false
 stands_plain octet place.Literal x = false
 stands_plain octet place.LiteralPair x = false
 
--- How long a text is up to the first `>` (62) outside of quotes and of a literal, where no comment begins before it by `(` (40).
+-- How long a text is up to the first `>` outside of quotes and of a literal, where no comment begins before it by `(`.
 unfoldable pub path_len : Place → List ℕ → Option ℕ
 path_len place [] = None
 path_len place (x ∷ rest) =
-    if stands_plain 62 place x then Some 1
-    else if stands_plain 40 place x then None
+    if stands_plain greater_than place x then Some 1
+    else if stands_plain left_parenthesis place x then None
     else option_map (λ n. n + 1) (path_len (path_place_after place x) rest)
 
 -- without one space in front, if there is one
-abbrev pub behind_space : List ℕ → List ℕ
-behind_space [] = []
-behind_space (x ∷ rest) = if x == 32 then rest else x ∷ rest
+abbrev pub after_space : List ℕ → List ℕ
+after_space [] = []
+after_space (x ∷ rest) = if x == space then rest else x ∷ rest
 
 -- what follows a word, which may be in any case, and one space, if there is one
-abbrev pub behind_word : List ℕ → List ℕ → Option (List ℕ)
-behind_word word text = if same_name (take (length word) text) word then Some (behind_space (drop (length word) text)) else None
+abbrev pub after_word : List ℕ → List ℕ → Option (List ℕ)
+after_word word text = if same_name (take (length word) text) word then Some (after_space (drop (length word) text)) else None
 
 -- the words that white divides
 abbrev pub white_words : List ℕ → List (List ℕ)
@@ -116,32 +116,32 @@ pub record PathAndRest : Type 0 where
   pub rest : List ℕ
 
 -- nothing follows, or white does
-abbrev pub stands_apart : List ℕ → Bool
-stands_apart [] = true
-stands_apart (x ∷ rest) = is_white x
+abbrev pub ends_word : List ℕ → Bool
+ends_word [] = true
+ends_word (x ∷ rest) = is_white x
 
 -- The text begins with `<`, as a path does (RFC 5321, 4.1.2).
 abbrev pub begins_path : List ℕ → Bool
 begins_path [] = false
-begins_path (x ∷ rest) = x == 60
+begins_path (x ∷ rest) = x == less_than
 
 -- A path of so many octets and what follows it, where this is nothing or begins with white.
 abbrev pub path_and_rest : List ℕ → ℕ → Option PathAndRest
-path_and_rest text n = if stands_apart (drop n text) then Some (record { path = take n text; rest = drop n text }) else None
+path_and_rest text n = if ends_word (drop n text) then Some (record { path = take n text; rest = drop n text }) else None
 
 -- the path that a text begins with
 abbrev pub path_in : List ℕ → Option PathAndRest
 path_in text = if begins_path text then option_and_then (path_and_rest text) (path_len place.Plain text) else None
 
 -- the path behind a word, such as `FROM:`, and one space, if there is one
-abbrev pub path_behind : List ℕ → List ℕ → Option PathAndRest
-path_behind word argument = option_and_then path_in (behind_word word argument)
+abbrev pub path_after : List ℕ → List ℕ → Option PathAndRest
+path_after word argument = option_and_then path_in (after_word word argument)
 
 -- ---- the parameters of MAIL (RFC 1870, 3; RFC 6152, 2; RFC 6531, 3.4)
 
 -- The `=` between the keyword of a parameter and its value (RFC 5321, 4.1.2).
 abbrev pub is_sign : ℕ → Bool
-is_sign x = x == 61
+is_sign x = x == equals_sign
 
 -- what stands before the first `=`, or all where none is there, in lower case
 abbrev pub parameter_keyword : List ℕ → List ℕ

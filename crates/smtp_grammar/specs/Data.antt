@@ -18,12 +18,12 @@ end_cut (x ∷ rest) =
     else option_map (begun_with x) (end_cut rest)
 
 -- Data without the CRLF before them, which is that of the command DATA (RFC 5321, 4.1.1.4).
-abbrev pub behind_command : Cut → Cut
-behind_command cut = record { line = drop 2 cut.line; rest = cut.rest }
+abbrev pub following_command : Cut → Cut
+following_command cut = record { line = drop 2 cut.line; rest = cut.rest }
 
 -- The data, each line with its CRLF, and what follows the line that ends them. The CRLF before the data is that of the command.
 abbrev pub data_cut : List ℕ → Option Cut
-data_cut octets = option_map behind_command (end_cut (crlf ++ octets))
+data_cut octets = option_map following_command (end_cut (crlf ++ octets))
 
 -- ---- what a client sends
 

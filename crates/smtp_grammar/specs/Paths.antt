@@ -9,5 +9,5 @@ use Rattle.address_grammar.specs.Paths.{HasPath}
 pub record IsPathText (text : List ℕ) (answer : Option Address) : Type 0 where
   pub path : HasPath text answer
   pub before : path.is_path.before ≡ []
-  pub behind : path.is_path.angled.after ≡ []
+  pub following : path.is_path.angled.after ≡ []
   pub plain : list_all (λ t. not (is_comment t.kind)) path.tokens ≡ true

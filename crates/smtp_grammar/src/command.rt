@@ -2,9 +2,9 @@
 ghost use Rattle.std.specs.Prelude.{◌≡◌, ◌≤◌, ◌+◌, ◌-◌, ◌^◌, ◌||◌, ◌∷◌, [], drop, None, Some, IfOk, IfSome, MatchOption, length, min, not, position};
 ghost use Rattle.std.specs.List.{list_any, list_all, position_or_len, before_first, sum_by};
 ghost use Rattle.std.specs.Option.{option_copied};
-ghost use Rattle.mail_wire.specs.Octets.{is_white, is_black};
+ghost use Rattle.mail_wire.specs.Octets.{is_white, is_nonwhite};
 ghost use Rattle.smtp_grammar.specs.declared.command.Place.TheVariants.{Plain};
-ghost use Rattle.smtp_grammar.specs.Commands.{command_of, verb_of, before_white, after_white, is_client as is_client_of, is_client_octet, path_place_after, stands_plain, path_len, behind_word, behind_space, begins_path, stands_apart, path_behind as path_behind_of, white_words, are_malformed, is_malformed, is_unknown, is_smtputf8, is_sign, parameter_value, size_said as size_said_of, size_parameter, body_parameter, parameter_of, announced};
+ghost use Rattle.smtp_grammar.specs.Commands.{command_of, verb_of, before_white, after_white, is_client as is_client_of, is_client_octet, path_place_after, stands_plain, path_len, after_word, after_space, begins_path, ends_word, path_after as path_after_of, white_words, are_malformed, is_malformed, is_unknown, is_smtputf8, is_sign, parameter_value, size_said as size_said_of, size_parameter, body_parameter, parameter_of, announced};
 
 use mail_wire::{Memory, TableWord, find_word, is_same_name, is_white, read_number};
 use std::alloc::Global;
@@ -38,8 +38,8 @@ fn find_white(text: &[u8]) -> Option<usize>
     text.iter().position(|octet| is_white(*octet))
 }
 
-fn find_black(text: &[u8]) -> Option<usize>
-    ensures { result ≡ position is_black text.now }
+fn find_nonwhite(text: &[u8]) -> Option<usize>
+    ensures { result ≡ position is_nonwhite text.now }
 {
     text.iter().position(|octet| !is_white(*octet))
 }
@@ -55,7 +55,7 @@ fn split_word(text: &[u8]) -> (&[u8], &[u8])
 fn after_white(text: &[u8]) -> &[u8]
     ensures { result.now ≡ after_white text.now }
 {
-    let (_, rest) = text.split_at(find_black(text).unwrap_or(text.len()));
+    let (_, rest) = text.split_at(find_nonwhite(text).unwrap_or(text.len()));
     rest
 }
 
@@ -190,8 +190,8 @@ pub struct PathAndRest<'a> {
 }
 
 // The text without one space in front, if there is one.
-fn behind_space(text: &[u8]) -> &[u8]
-    ensures { result.now ≡ behind_space text.now }
+fn after_space(text: &[u8]) -> &[u8]
+    ensures { result.now ≡ after_space text.now }
 {
     match text {
         [b' ', rest @ ..] => rest,
@@ -200,12 +200,12 @@ fn behind_space(text: &[u8]) -> &[u8]
 }
 
 // What follows a word and one space, if there is one.
-fn behind_word<'a>(word: &[u8], text: &'a [u8]) -> Option<&'a [u8]>
-    ensures { option_copied result ≡ behind_word word.now text.now }
+fn after_word<'a>(word: &[u8], text: &'a [u8]) -> Option<&'a [u8]>
+    ensures { option_copied result ≡ after_word word.now text.now }
 {
     let (front, rest) = text.split_at_checked(word.len())?;
     if is_same_name(front, word) {
-        Some(behind_space(rest))
+        Some(after_space(rest))
     } else {
         None
     }
@@ -217,8 +217,8 @@ fn begins_path(text: &[u8]) -> bool
     matches!(text, [b'<', ..])
 }
 
-fn stands_apart(text: &[u8]) -> bool
-    ensures { result ≡ stands_apart text.now }
+fn ends_word(text: &[u8]) -> bool
+    ensures { result ≡ ends_word text.now }
 {
     match text {
         [] => true,
@@ -227,16 +227,16 @@ fn stands_apart(text: &[u8]) -> bool
 }
 
 /// The path that stands behind a word, such as `FROM:`, and one space, if there is one.
-pub fn path_behind<'a>(word: &[u8], argument: &'a [u8]) -> Option<PathAndRest<'a>>
-    ensures { MatchOption result (path_behind_of word.now argument.now ≡ None)
-        (λ found. path_behind_of word.now argument.now ≡ Some (record { path = found.path.now; rest = found.rest.now })) }
+pub fn path_after<'a>(word: &[u8], argument: &'a [u8]) -> Option<PathAndRest<'a>>
+    ensures { MatchOption result (path_after_of word.now argument.now ≡ None)
+        (λ found. path_after_of word.now argument.now ≡ Some (record { path = found.path.now; rest = found.rest.now })) }
 {
-    let text = behind_word(word, argument)?;
+    let text = after_word(word, argument)?;
     if !begins_path(text) {
         return None;
     }
     let (path, rest) = text.split_at(path_len(text)?);
-    if stands_apart(rest) {
+    if ends_word(rest) {
         Some(PathAndRest { path, rest })
     } else {
         None

@@ -5,7 +5,7 @@ ghost use Rattle.mail_wire.specs.Dots.{stuffed, unstuffed};
 ghost use Rattle.mail_wire.specs.Lines.{Cut, lines_of};
 ghost use Rattle.mail_wire.specs.Message.{IsEnded};
 ghost use Rattle.address_grammar.specs.declared.Address.{Address};
-ghost use Rattle.smtp_grammar.specs.Commands.{path_behind, path_len, stands_apart};
+ghost use Rattle.smtp_grammar.specs.Commands.{path_after, path_len, ends_word};
 ghost use Rattle.smtp_grammar.specs.Data.{data_cut, sent};
 ghost use Rattle.smtp_grammar.specs.Paths.{IsPathText};
 ghost use Rattle.smtp_grammar.specs.declared.command.Place.TheVariants.{Plain};
@@ -26,8 +26,8 @@ pub fn sent_data_are_found()
 /// where a space stands between, and where nothing follows or white does.
 pub fn grammar_paths_are_found()
     ensures whole { (text : List ℕ) (answer : Option Address) → IsPathText text answer → (rest : List ℕ) → path_len Plain (text ++ rest) ≡ Some (length text) }
-    ensures behind { (word text : List ℕ) (answer : Option Address) → IsPathText text answer → (rest : List ℕ) → stands_apart rest ≡ true
-        → path_behind word (word ++ (text ++ rest)) ≡ Some (record { path = text; rest = rest }) }
-    ensures spaced { (word text : List ℕ) (answer : Option Address) → IsPathText text answer → (rest : List ℕ) → stands_apart rest ≡ true
-        → path_behind word (word ++ 32 ∷ (text ++ rest)) ≡ Some (record { path = text; rest = rest }) }
+    ensures following { (word text : List ℕ) (answer : Option Address) → IsPathText text answer → (rest : List ℕ) → ends_word rest ≡ true
+        → path_after word (word ++ (text ++ rest)) ≡ Some (record { path = text; rest = rest }) }
+    ensures spaced { (word text : List ℕ) (answer : Option Address) → IsPathText text answer → (rest : List ℕ) → ends_word rest ≡ true
+        → path_after word (word ++ 32 ∷ (text ++ rest)) ≡ Some (record { path = text; rest = rest }) }
 {}

@@ -7,6 +7,6 @@ mod data;
 pub mod laws;
 
 pub use command::{
-    Command, Parameters, PathAndRest, Verb, is_client, path_behind, read_command, read_parameters,
+    Command, Parameters, PathAndRest, Verb, is_client, path_after, read_command, read_parameters,
 };
 pub use data::DataReader;

@@ -12,7 +12,7 @@ use Rattle.kept_mail.specs.Deliveries.{has_large_octets}
 use Rattle.mail_store.specs.StoreState.{StoreState}
 use Rattle.session_core.specs.Around.{Around}
 use Rattle.session_core.specs.Doing.{Does}
-use Rattle.session_core.specs.Meanings.{Meanings, WithMeanings}
+use Rattle.session_core.specs.Oracles.{Oracles, WithOracles}
 use Rattle.session_core.specs.Moments.{IsTold, Moment}
 use Rattle.session_core.specs.Steps.{Steps}
 use Rattle.session_core.specs.declared.desk.Desk.{Desk}
@@ -30,7 +30,7 @@ use Rattle.smtp_session.specs.Machine.{Step, acts_in, delivery_of, end_data, gre
 use Rattle.smtp_session.specs.Session.{Machine, SmtpStands, after_step, data_turn, line_octets, machine_of, next_turn, smtp_protocol}
 use Rattle.smtp_session.specs.laws.SmtpLaws.{framed_by}
 use Rattle.smtp_session.specs.private.Steps.{IsFirst}
-use Rattle.smtp_session.proofs.LineSteps.{store_behind}
+use Rattle.smtp_session.proofs.LineSteps.{store_after}
 
 -- a session that takes data
 abbrev pub taking : Smtp Data → DataReader → SmtpMachine
@@ -44,16 +44,16 @@ takes_as reader next piece found other same takes octets read = subst (λ (f : O
 -- ---- the turn of data
 
 -- what data bring that say these octets
-abbrev pub finished : Meanings → Smtp Data → StoreState → Moment → List ℕ → Step
-finished meanings session store moment octets = end_data meanings store session.state.client session.state.envelope moment octets
+abbrev pub finished : Oracles → Smtp Data → StoreState → Moment → List ℕ → Step
+finished oracles session store moment octets = end_data oracles store session.state.client session.state.envelope moment octets
 
 -- data are read up to their end
-head_turn : (meanings : Meanings) (session : Smtp Data) (reader : DataReader) (desk : Desk) (moments : List Moment) (machine : Machine) (kept octets rest : List ℕ) (cut : Cut)
+head_turn : (oracles : Oracles) (session : Smtp Data) (reader : DataReader) (desk : Desk) (moments : List Moment) (machine : Machine) (kept octets rest : List ℕ) (cut : Cut)
     → SmtpStands moments (taking session reader) kept desk machine rest → data_cut octets ≡ Some cut
-    → next_turn meanings machine octets ≡ Some (data_turn meanings (machine_of (taking session reader) desk moments) session.state.client session.state.envelope cut)
+    → next_turn oracles machine octets ≡ Some (data_turn oracles (machine_of (taking session reader) desk moments) session.state.client session.state.envelope cut)
 unfolding next_turn
-head_turn meanings session reader desk moments machine kept octets rest cut stands is =
-    rw stands.machine_is (ap (option_map (data_turn meanings (machine_of (taking session reader) desk moments) session.state.client session.state.envelope)) is)
+head_turn oracles session reader desk moments machine kept octets rest cut stands is =
+    rw stands.machine_is (ap (option_map (data_turn oracles (machine_of (taking session reader) desk moments) session.state.client session.state.envelope)) is)
 
 -- whatever becomes of data the client stands greeted
 greeted_by : (client : Client) (large message refused : Bool) (text : List ℕ) (stored : Step) → stored.state ≡ greeted client
@@ -64,49 +64,49 @@ greeted_by client false true true text stored is = refl
 greeted_by client false true false text stored is = is
 
 -- behind data the client stands greeted
-finished_greeted : (meanings : Meanings) (session : Smtp Data) (store : StoreState) (moment : Moment) (octets : List ℕ)
-    → (finished meanings session store moment octets).state ≡ greeted session.state.client
-finished_greeted meanings session store moment octets =
+finished_greeted : (oracles : Oracles) (session : Smtp Data) (store : StoreState) (moment : Moment) (octets : List ℕ)
+    → (finished oracles session store moment octets).state ≡ greeted session.state.client
+finished_greeted oracles session store moment octets =
     let delivery = delivery_of store session.state.client session.state.envelope moment octets in
-    greeted_by session.state.client (has_large_octets store.message_max delivery) (meanings.has_tree octets) (is_some (delivery_refusal store delivery)) (codes "554 5.6.0 not a message") _ refl
+    greeted_by session.state.client (has_large_octets store.message_max delivery) (oracles.has_tree octets) (is_some (delivery_refusal store delivery)) (codes "554 5.6.0 not a message") _ refl
 
 -- ---- steps
 
 -- data whose end was carried out
 pub Steps-data : (a b : Around) (session : Smtp Data) (reader ended : DataReader) (kept keeps piece : List ℕ) (n : ℕ) (moment : Moment) (greets : Smtp Greeted) (next : SmtpMachine) → IsTold a.clock moment
     → ((octets : List ℕ) → HasRead reader octets → TakesOfPiece ended octets piece (Some n))
-    → WithMeanings (λ meanings. (lines : List ℕ) → DataHaveEnded ended lines → Does line_octets a b None (acts_in (finished meanings session a.desk.store moment (unstuffed lines))))
+    → WithOracles (λ oracles. (lines : List ℕ) → DataHaveEnded ended lines → Does line_octets a b None (acts_in (finished oracles session a.desk.store moment (unstuffed lines))))
     → greets.state.client ≡ session.state.client → next.state ≡ smtp.Greeted greets → IsFirst next b.desk → keeps ≡ []
     → Steps smtp_protocol SmtpStands a b (taking session reader) kept keeps piece (Ok (record { next = Some next; used = n }))
 Steps-data a b session reader ended kept keeps piece n moment greets next told takes does client state_is first nothing = rw nothing (record {
   told = moment ∷ [];
   are_told = All-from_recursion (IsTold a.clock) (moment ∷ []) (told, tt);
-  steps = λ meanings are more machine rest has.
+  steps = λ oracles are more machine rest has.
       let found = takes rest has.has in
-      let taken = finished meanings session a.desk.store moment (unstuffed found.line) in
-      let done = does meanings are found.line found.ended in
-      let store = store_behind a b taken done in
-      StepsBy-turn smtp_protocol SmtpStands meanings (framed_by meanings) a b (record { next = Some next; used = n }) [] piece more [] machine (rest ++ piece)
+      let taken = finished oracles session a.desk.store moment (unstuffed found.line) in
+      let done = does oracles are found.line found.ended in
+      let store = store_after a b taken done in
+      StepsBy-turn smtp_protocol SmtpStands oracles (framed_by oracles) a b (record { next = Some next; used = n }) [] piece more [] machine (rest ++ piece)
       (record { parts = acts_in taken; after = after_step a.desk.store more taken; rest = drop n piece })
-      (head_turn meanings session reader a.desk (moment ∷ more) machine kept (rest ++ piece) rest (record { line = found.line; rest = drop n piece }) has found.cut) done
-      (record { machine_is = rw (finished_greeted meanings session a.desk.store moment (unstuffed found.line), state_is, client, store) refl; has = first.has }) refl;
+      (head_turn oracles session reader a.desk (moment ∷ more) machine kept (rest ++ piece) rest (record { line = found.line; rest = drop n piece }) has found.cut) done
+      (record { machine_is = rw (finished_greeted oracles session a.desk.store moment (unstuffed found.line), state_is, client, store) refl; has = first.has }) refl;
 })
 
 -- data in whose end a fault was met
 pub Steps-data_fails : (a b : Around) (session : Smtp Data) (reader ended : DataReader) (kept keeps piece : List ℕ) (n : ℕ) (moment : Moment) (met : Fault) → IsTold a.clock moment
     → ((octets : List ℕ) → HasRead reader octets → TakesOfPiece ended octets piece (Some n))
-    → WithMeanings (λ meanings. (lines : List ℕ) → DataHaveEnded ended lines → Does line_octets a b (Some met) (acts_in (finished meanings session a.desk.store moment (unstuffed lines))))
+    → WithOracles (λ oracles. (lines : List ℕ) → DataHaveEnded ended lines → Does line_octets a b (Some met) (acts_in (finished oracles session a.desk.store moment (unstuffed lines))))
     → Steps smtp_protocol SmtpStands a b (taking session reader) kept keeps piece (Err met)
 Steps-data_fails a b session reader ended kept keeps piece n moment met told takes does = record {
   told = moment ∷ [];
   are_told = All-from_recursion (IsTold a.clock) (moment ∷ []) (told, tt);
-  steps = λ meanings are more machine rest has.
+  steps = λ oracles are more machine rest has.
       let found = takes rest has.has in
-      let taken = finished meanings session a.desk.store moment (unstuffed found.line) in
-      StepsBy-fails smtp_protocol SmtpStands meanings (framed_by meanings) a b keeps piece more met machine (rest ++ piece)
+      let taken = finished oracles session a.desk.store moment (unstuffed found.line) in
+      StepsBy-fails smtp_protocol SmtpStands oracles (framed_by oracles) a b keeps piece more met machine (rest ++ piece)
       (record { parts = acts_in taken; after = after_step a.desk.store more taken; rest = drop n piece })
-      (head_turn meanings session reader a.desk (moment ∷ more) machine kept (rest ++ piece) rest (record { line = found.line; rest = drop n piece }) has found.cut)
-      (does meanings are found.line found.ended);
+      (head_turn oracles session reader a.desk (moment ∷ more) machine kept (rest ++ piece) rest (record { line = found.line; rest = drop n piece }) has found.cut)
+      (does oracles are found.line found.ended);
 }
 
 -- no end: the reader has what is needed
@@ -115,7 +115,7 @@ pub Steps-data_wait : (a : Around) (session : Smtp Data) (reader next : DataRead
 Steps-data_wait a session reader next kept keeps piece takes = record {
   told = [];
   are_told = All-nil (IsTold a.clock);
-  steps = λ meanings are more machine rest has.
-      StepsBy-waits smtp_protocol SmtpStands meanings a (record { next = Some (taking session next); used = length piece }) keeps piece more (rest ++ piece) machine (rest ++ piece)
+  steps = λ oracles are more machine rest has.
+      StepsBy-waits smtp_protocol SmtpStands oracles a (record { next = Some (taking session next); used = length piece }) keeps piece more (rest ++ piece) machine (rest ++ piece)
       (record { machine_is = has.machine_is; has = (takes rest has.has).1 }) (rw (drop-length piece, append-nil (rest ++ piece)) refl);
 }

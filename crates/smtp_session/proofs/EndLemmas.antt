@@ -13,7 +13,7 @@ use Rattle.kept_mail.specs.declared.delivery.Delivery.{Delivery}
 use Rattle.session_core.specs.Around.{Around}
 use Rattle.session_core.specs.Desks.{IsStoreName}
 use Rattle.session_core.specs.Doing.{Does, Makes, Replies}
-use Rattle.session_core.specs.Meanings.{Meanings}
+use Rattle.session_core.specs.Oracles.{Oracles}
 use Rattle.session_core.specs.Moments.{IsMoment, Moment}
 use Rattle.session_core.proofs.DoingLemmas.{Does-changes, Does-replies}
 use Rattle.smtp_grammar.specs.Reading.{DataSay}
@@ -39,27 +39,27 @@ large_by locals remotes max a b some first second =
     one_of (suc l) r more = let p : (suc l == 0) ≡ false = grind (arith, nat_tests) in rw p refl
 
 -- more octets are behind a front
-longer_behind : (front octets : List ℕ) (max : ℕ) → max < length octets → max < length (front ++ octets)
-longer_behind front octets max long = rw (length-append front octets) (omega (arith, long))
+longer_after : (front octets : List ℕ) (max : ℕ) → max < length octets → max < length (front ++ octets)
+longer_after front octets max long = rw (length-append front octets) (omega (arith, long))
 
 -- the first of two steps by a test
 first_of : (large : Bool) (a b : Step) → large ≡ true → cond large a b ≡ a
 first_of large a b p = rw p refl
 
 -- data that say more octets than the limit are too large
-too_large_is : (meanings : Meanings) (store : StoreState) (client : Client) (envelope : Envelope) (moment : Moment) (octets : List ℕ)
-    → 0 < envelope_recipient_count envelope → store.message_max < length octets → end_data meanings store client envelope moment octets ≡ too_large (greeted client)
-too_large_is meanings store client envelope moment octets some long =
+too_large_is : (oracles : Oracles) (store : StoreState) (client : Client) (envelope : Envelope) (moment : Moment) (octets : List ℕ)
+    → 0 < envelope_recipient_count envelope → store.message_max < length octets → end_data oracles store client envelope moment octets ≡ too_large (greeted client)
+too_large_is oracles store client envelope moment octets some long =
     let from = trace store client envelope moment in
     first_of (has_large_octets store.message_max (delivery_of store client envelope moment octets)) _ _
     (large_by (length envelope.local) (length envelope.remote) store.message_max _ _ some
-    (longer_behind (return_path envelope.path) (from ++ octets) store.message_max (longer_behind from octets store.message_max long)) (longer_behind from octets store.message_max long))
+    (longer_after (return_path envelope.path) (from ++ octets) store.message_max (longer_after from octets store.message_max long)) (longer_after from octets store.message_max long))
 
 -- what was dropped is refused
-pub dropped_is : (meanings : Meanings) (limit : ℕ) (store : StoreState) (client : Client) (envelope : Envelope) (moment : Moment) (lines : List ℕ) → KnowsState store (collecting client envelope)
-    → limit ≡ store.message_max → DataSay limit lines None → end_data meanings store client envelope moment (unstuffed lines) ≡ too_large (greeted client)
-dropped_is meanings limit store client envelope moment lines knows same says =
-    let long = says in too_large_is meanings store client envelope moment (unstuffed lines) knows.2 (omega (arith, same, long))
+pub dropped_is : (oracles : Oracles) (limit : ℕ) (store : StoreState) (client : Client) (envelope : Envelope) (moment : Moment) (lines : List ℕ) → KnowsState store (collecting client envelope)
+    → limit ≡ store.message_max → DataSay limit lines None → end_data oracles store client envelope moment (unstuffed lines) ≡ too_large (greeted client)
+dropped_is oracles limit store client envelope moment lines knows same says =
+    let long = says in too_large_is oracles store client envelope moment (unstuffed lines) knows.2 (omega (arith, same, long))
 
 -- what was read of data that were dropped
 pub said_none : (limit : ℕ) (lines : List ℕ) (found : Option (List ℕ)) → ((content : List ℕ) → found ≡ Some content → ⊥) → DataSay limit lines found → DataSay limit lines None
@@ -83,10 +83,10 @@ pub Does-same : (a b : Around) (met : Option Fault) (first taken : Step) → fir
 Does-same a b met first taken is does = rw (← is) does
 
 -- what is delivered is what is due at the end of the data
-pub end_is : (meanings : Meanings) (limit : ℕ) (store : StoreState) (client : Client) (envelope : Envelope) (moment : Moment) (lines content octets : List ℕ) (delivery : Delivery)
+pub end_is : (oracles : Oracles) (limit : ℕ) (store : StoreState) (client : Client) (envelope : Envelope) (moment : Moment) (lines content octets : List ℕ) (delivery : Delivery)
     → DataSay limit lines (Some content) → octets ≡ content → delivery ≡ delivery_of store client envelope moment content
-    → end_by (meanings.has_tree octets) store client delivery ≡ end_data meanings store client envelope moment (unstuffed lines)
-end_is meanings limit store client envelope moment lines content octets delivery says same made = rw (← says.0, same, made) refl
+    → end_by (oracles.has_tree octets) store client delivery ≡ end_data oracles store client envelope moment (unstuffed lines)
+end_is oracles limit store client envelope moment lines content octets delivery says same made = rw (← says.0, same, made) refl
 
 -- and may be delivered
 pub end_deliverable : (store : StoreState) (client : Client) (envelope : Envelope) (moment : Moment) (octets : List ℕ) (delivery : Delivery) → KnowsState store (collecting client envelope)

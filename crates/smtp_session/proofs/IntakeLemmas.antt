@@ -25,7 +25,7 @@ use Rattle.smtp_session.specs.declared.states.Client.{Client}
 use Rattle.smtp_session.specs.declared.states.Envelope.{Envelope}
 use Rattle.smtp_session.specs.Intake.{AreRecipients, HasOneMore, IsKeptOnce, acceptance, entries_for, kept_after, messages_in}
 use Rattle.smtp_session.specs.Machine.{Step, delivery_of, end_by, end_data, greeted, is_same_remote}
-use Rattle.session_core.specs.Meanings.{Meanings}
+use Rattle.session_core.specs.Oracles.{Oracles}
 use Rattle.session_core.specs.Moments.{Moment}
 use Rattle.smtp_session.proofs.RowLemmas.{not_zero}
 
@@ -230,7 +230,7 @@ same_elsewhere kept delivery folder none =
 -- a delivery is kept once for each recipient
 delivery_once : (kept : Kept) (delivery : Delivery) → All (λ account. IsSome (inbox_of kept account)) delivery.local → IsDistinct (λ a b. a == b) delivery.local
     → IsDistinct is_same_remote delivery.remote → IsKeptOnce kept (with_delivery kept delivery) delivery
-delivery_once kept delivery have distinct apart =
+delivery_once kept delivery have local_distinct remote_distinct =
     let date = delivery.date in
     let octets = delivery.local_octets in
     let all = recursion_from_All (λ account. IsSome (inbox_of kept account)) delivery.local have in
@@ -239,12 +239,12 @@ delivery_once kept delivery have distinct apart =
           All-weaker (HasOneCopy kept date octets (copies kept date octets delivery.local))
           (λ account. IsSomeAnd (inbox_of kept account) (HasOneMore kept (with_delivery kept delivery) date octets))
           (λ account. more_in_inbox kept delivery (inbox_of kept account)) delivery.local
-          (All-from_recursion (HasOneCopy kept date octets (copies kept date octets delivery.local)) delivery.local (one_copy kept date octets delivery.local all distinct));
+          (All-from_recursion (HasOneCopy kept date octets (copies kept date octets delivery.local)) delivery.local (one_copy kept date octets delivery.local all local_distinct));
       others = λ folder others.
           same_elsewhere kept delivery folder
           (no_copy kept date octets folder delivery.local all (recursion_from_All (λ account. inbox_of kept account ≢ Some folder) delivery.local others));
       remote = refl;
-      apart = apart;
+      distinct = remote_distinct;
       accounts = refl;
       domains = refl;
       folders = refl;
@@ -301,18 +301,18 @@ delivered_once kept delivery envelope local remote have are =
 
 -- ---- the law
 
-pub accepted_kept_once : (meanings : Meanings) (store : StoreState) (client : Client) (envelope : Envelope) (moment : Moment) (octets : List ℕ)
-    → IsFold store.kept → AreRecipients store.kept envelope → (end_data meanings store client envelope moment octets).reply ≡ acceptance
-    → IsKeptOnce store.kept (kept_after store (end_data meanings store client envelope moment octets)) (delivery_of store client envelope moment octets)
-accepted_kept_once meanings store client envelope moment octets fold are accepted =
+pub accepted_kept_once : (oracles : Oracles) (store : StoreState) (client : Client) (envelope : Envelope) (moment : Moment) (octets : List ℕ)
+    → IsFold store.kept → AreRecipients store.kept envelope → (end_data oracles store client envelope moment octets).reply ≡ acceptance
+    → IsKeptOnce store.kept (kept_after store (end_data oracles store client envelope moment octets)) (delivery_of store client envelope moment octets)
+accepted_kept_once oracles store client envelope moment octets fold are accepted =
     let delivery = delivery_of store client envelope moment octets in
-    let made = accepted_is (meanings.has_tree octets) store client delivery accepted in
+    let made = accepted_is (oracles.has_tree octets) store client delivery accepted in
     rw made (rw (append-nil (delivered store.kept delivery)) (delivered_once store.kept delivery envelope refl refl (have_inboxes store.kept fold) are))
 
-pub refused_kept_none : (meanings : Meanings) (store : StoreState) (client : Client) (envelope : Envelope) (moment : Moment) (octets : List ℕ)
-    → (end_data meanings store client envelope moment octets).reply ≢ acceptance → (end_data meanings store client envelope moment octets).changes ≡ []
-refused_kept_none meanings store client envelope moment octets = refused_is (meanings.has_tree octets) store client (delivery_of store client envelope moment octets)
+pub refused_kept_none : (oracles : Oracles) (store : StoreState) (client : Client) (envelope : Envelope) (moment : Moment) (octets : List ℕ)
+    → (end_data oracles store client envelope moment octets).reply ≢ acceptance → (end_data oracles store client envelope moment octets).changes ≡ []
+refused_kept_none oracles store client envelope moment octets = refused_is (oracles.has_tree octets) store client (delivery_of store client envelope moment octets)
 
-pub data_forget : (meanings : Meanings) (store : StoreState) (client : Client) (envelope : Envelope) (moment : Moment) (octets : List ℕ)
-    → (end_data meanings store client envelope moment octets).state ≡ greeted client
-data_forget meanings store client envelope moment octets = left_is (meanings.has_tree octets) store client (delivery_of store client envelope moment octets)
+pub data_forget : (oracles : Oracles) (store : StoreState) (client : Client) (envelope : Envelope) (moment : Moment) (octets : List ℕ)
+    → (end_data oracles store client envelope moment octets).state ≡ greeted client
+data_forget oracles store client envelope moment octets = left_is (oracles.has_tree octets) store client (delivery_of store client envelope moment octets)

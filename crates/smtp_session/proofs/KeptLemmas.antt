@@ -86,8 +86,8 @@ plain_text : (text : List ℕ) → IsPrinted text → IsPlain text
 plain_text text is = record { utf8 = IsUtf8-from_ascii text (all_ascii text is.octets); octets = pass-weaker is_printed is_plain printed_plain text is.octets }
 
 -- texts that are printed, one behind another
-behind : {xs ys : List ℕ} → IsPrinted xs → IsPrinted ys → IsPrinted (xs ++ ys)
-behind {xs} {ys} first second = record { octets = pass-append is_printed xs ys first.octets second.octets }
+following : {xs ys : List ℕ} → IsPrinted xs → IsPrinted ys → IsPrinted (xs ++ ys)
+following {xs} {ys} first second = record { octets = pass-append is_printed xs ys first.octets second.octets }
 
 -- the first octets of a printed text
 printed_first : {xs : List ℕ} → (n : ℕ) → IsPrinted xs → IsPrinted (take n xs)
@@ -211,9 +211,9 @@ moment_printed day month d year hour min sec of_day of_month short =
     let space = printed (codes " ") refl in
     let colon = printed (codes ":") refl in
     let numbers = two_printed d short.d_short in
-    let years = behind (two_printed (year / 100) (omega (arith, short.year_short))) (two_printed (year % 100) (omega arith)) in
-    let times = behind (behind (behind (behind (two_printed hour short.hour_short) colon) (two_printed min short.min_short)) colon) (two_printed sec short.sec_short) in
-    behind (behind (behind (behind (behind (behind (behind (behind (behind of_day (printed (codes ", ") refl)) numbers) space) of_month) space) years) space) times) (printed (codes " GMT") refl)
+    let years = following (two_printed (year / 100) (omega (arith, short.year_short))) (two_printed (year % 100) (omega arith)) in
+    let times = following (following (following (following (two_printed hour short.hour_short) colon) (two_printed min short.min_short)) colon) (two_printed sec short.sec_short) in
+    following (following (following (following (following (following (following (following (following of_day (printed (codes ", ") refl)) numbers) space) of_month) space) years) space) times) (printed (codes " GMT") refl)
 
 -- so is that of a field
 date_printed : (seconds : ℕ) (text : List ℕ) → IsDateText seconds text → IsPrinted text
@@ -222,25 +222,25 @@ date_printed seconds text p =
     let parts = date.parts in
     let all = moment_printed (day_letters parts.wday) (month_letters parts.mon) parts.day parts.year parts.hour parts.min parts.sec
     (day_printed parts.wday (omega (arith, date.right_day)) (omega (arith, date.right_day))) (month_printed parts.mon date.civil.1.0 date.civil.1.1) (numbers_short parts.day parts.year parts.hour parts.min parts.sec _ _ _ date.civil.2.1 date.civil.0.1 date.time.0 date.time.1 date.time.2) in
-    rw p.spelled (behind (printed_first 26 all) (printed (codes "+0000") refl))
+    rw p.spelled (following (printed_first 26 all) (printed (codes "+0000") refl))
 
 -- the field of where a message came from is another field
 pub received-other : (client name date : List ℕ) (seconds : ℕ) → is_client client ≡ true → IsStoreName name → IsDateText seconds date → (smtputf8 extended : Bool)
     → IsOtherField (received client name (protocol smtputf8 extended) date)
 received-other client name date seconds of_client of_name of_date smtputf8 extended =
     let way = protocol smtputf8 extended in
-    let front = behind (printed (codes " from ") refl) (client_printed client of_client) in
-    let by_name = behind (behind front (printed (codes " by ") refl)) (name_printed name of_name) in
-    let by_way = behind (behind by_name (printed (codes " with ") refl)) (protocol_printed smtputf8 extended) in
-    let all = behind (behind by_way (printed (codes "; ") refl)) (date_printed seconds date of_date) in
+    let front = following (printed (codes " from ") refl) (client_printed client of_client) in
+    let by_name = following (following front (printed (codes " by ") refl)) (name_printed name of_name) in
+    let by_way = following (following by_name (printed (codes " with ") refl)) (protocol_printed smtputf8 extended) in
+    let all = following (following by_way (printed (codes "; ") refl)) (date_printed seconds date of_date) in
     let body : List ℕ = codes " from " ++ client ++ codes " by " ++ name ++ codes " with " ++ way ++ codes "; " ++ date in
     other_field (codes "Received") body received_name (plain_text body all)
 
 -- ---- what is kept
 
 -- octets that may be kept may be kept behind another field
-pub behind_field : (field octets : List ℕ) → IsOtherField field → IsStored octets → IsStored (field ++ octets)
-behind_field field octets other stored =
+pub after_field : (field octets : List ℕ) → IsOtherField field → IsStored octets → IsStored (field ++ octets)
+after_field field octets other stored =
     let found = fields_before octets (field ∷ []) stored.entities stored.tree (All-from_recursion IsOtherField (field ∷ []) (other, tt)) in
     record { entities = found.0; tree = rw (append-nil field) at found.1 }
 
@@ -248,11 +248,11 @@ behind_field field octets other stored =
 pub kept-stored : (client name date octets : List ℕ) (seconds : ℕ) → is_client client ≡ true → IsStoreName name → IsDateText seconds date → IsStored octets → (smtputf8 extended : Bool)
     → IsStored (received client name (protocol smtputf8 extended) date ++ octets)
 kept-stored client name date octets seconds of_client of_name of_date stored smtputf8 extended =
-    behind_field (received client name (protocol smtputf8 extended) date) octets (received-other client name date seconds of_client of_name of_date smtputf8 extended) stored
+    after_field (received client name (protocol smtputf8 extended) date) octets (received-other client name date seconds of_client of_name of_date smtputf8 extended) stored
 
 -- and what local accounts get
 pub kept-with_path : (path : Option Address) (octets : List ℕ) → IfSome path ComesInPath → IsStored octets → IsStored (return_path path ++ octets)
-kept-with_path path octets comes stored = behind_field (return_path path) octets (return_path-other path comes) stored
+kept-with_path path octets comes stored = after_field (return_path path) octets (return_path-other path comes) stored
 
 -- an address that may be sent to stands in some path
 path_comes : (path : Option Address) → IfSome path IsSendable → IfSome path ComesInPath

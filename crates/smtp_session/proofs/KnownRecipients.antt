@@ -11,12 +11,12 @@ use Rattle.kept_mail.specs.Kept.{Kept, find_account, first_account, is_account_o
 use Rattle.mail_store.specs.StoreState.{StoreState}
 use Rattle.smtp_grammar.specs.declared.command.Verb.{Verb}
 use Rattle.smtp_grammar.specs.declared.command.Verb.TheVariants as verb
-use Rattle.smtp_grammar.specs.Commands.{announced, are_malformed, is_client, is_smtputf8, is_unknown, parameter_of, path_behind}
+use Rattle.smtp_grammar.specs.Commands.{announced, are_malformed, is_client, is_smtputf8, is_unknown, parameter_of, path_after}
 use Rattle.smtp_session.specs.declared.states.Client.{Client}
 use Rattle.smtp_session.specs.declared.states.Envelope.{Envelope}
 use Rattle.smtp_session.specs.Intake.{AreRecipients, KnowsRecipients}
-use Rattle.smtp_session.specs.Machine.{State, Step, alone, collecting, data_step, ended, envelope_of, fresh, greeted, is_same_remote, lacks_smtputf8, mail, mail_by, mail_step, mail_to, path_read, rcpt_local, rcpt_remote, rcpt_step, rcpt_to, envelope_recipient_count, reset, step, with_room, words_behind}
-use Rattle.session_core.specs.Meanings.{Meanings}
+use Rattle.smtp_session.specs.Machine.{State, Step, alone, collecting, data_step, ended, envelope_of, fresh, greeted, is_same_remote, lacks_smtputf8, mail, mail_by, mail_step, mail_to, path_read, rcpt_local, rcpt_remote, rcpt_step, rcpt_to, envelope_recipient_count, reset, step, with_room, words_after}
+use Rattle.session_core.specs.Oracles.{Oracles}
 
 -- ---- one more recipient
 
@@ -76,22 +76,22 @@ remote-known kept client envelope address known =
       remote = distinct_push is_same_remote envelope.remote address known.remote new;
     })
 
-rcpt_to-known : (meanings : Meanings) (client : Client) (envelope : Envelope) (store : StoreState) (path : Option (Option Address)) → AreRecipients store.kept envelope
-    → KnowsRecipients store.kept (rcpt_to meanings client envelope store path).state
-rcpt_to-known meanings client envelope store None known = known
-rcpt_to-known meanings client envelope store (Some None) known = known
-rcpt_to-known meanings client envelope store (Some (Some address)) known =
+rcpt_to-known : (oracles : Oracles) (client : Client) (envelope : Envelope) (store : StoreState) (path : Option (Option Address)) → AreRecipients store.kept envelope
+    → KnowsRecipients store.kept (rcpt_to oracles client envelope store path).state
+rcpt_to-known oracles client envelope store None known = known
+rcpt_to-known oracles client envelope store (Some None) known = known
+rcpt_to-known oracles client envelope store (Some (Some address)) known =
     let P : Step → Type 0 = λ taken. KnowsRecipients store.kept taken.state in
     cond_both (lacks_smtputf8 envelope.smtputf8 (Some address)) _ _ P (λ lacks. known) (λ has. cond_both (is_local store.kept address.domain) _ _ P
-    (λ here. local-known store.kept client envelope (find_account meanings.path_of store.kept address) known (found_there meanings.path_of store.kept address))
+    (λ here. local-known store.kept client envelope (find_account oracles.path_of store.kept address) known (found_there oracles.path_of store.kept address))
     (λ elsewhere. remote-known store.kept client envelope address known))
 
-rcpt-known : (meanings : Meanings) (state : State) (store : StoreState) (argument : List ℕ) → KnowsRecipients store.kept state → KnowsRecipients store.kept (rcpt_step meanings state store argument).state
-rcpt-known meanings (mail client envelope) store argument known = rcpt_to-known meanings client envelope store (path_read meanings (alone (path_behind (codes "TO:") argument))) known
-rcpt-known meanings fresh store argument known = tt
-rcpt-known meanings (greeted client) store argument known = tt
-rcpt-known meanings (collecting client envelope) store argument known = known
-rcpt-known meanings ended store argument known = tt
+rcpt-known : (oracles : Oracles) (state : State) (store : StoreState) (argument : List ℕ) → KnowsRecipients store.kept state → KnowsRecipients store.kept (rcpt_step oracles state store argument).state
+rcpt-known oracles (mail client envelope) store argument known = rcpt_to-known oracles client envelope store (path_read oracles (alone (path_after (codes "TO:") argument))) known
+rcpt-known oracles fresh store argument known = tt
+rcpt-known oracles (greeted client) store argument known = tt
+rcpt-known oracles (collecting client envelope) store argument known = known
+rcpt-known oracles ended store argument known = tt
 
 -- ---- MAIL
 
@@ -112,14 +112,14 @@ mail_by-known : (kept : Kept) (client : Client) (store : StoreState) (path : Opt
 mail_by-known kept client store None words = tt
 mail_by-known kept client store (Some path) words = mail_to-known kept client store (list_any (λ word. is_smtputf8 (parameter_of word)) words) path words
 
-mail-known : (meanings : Meanings) (state : State) (store : StoreState) (argument : List ℕ) → KnowsRecipients store.kept state → KnowsRecipients store.kept (mail_step meanings state store argument).state
-mail-known meanings (greeted client) store argument known =
-    let given = path_behind (codes "FROM:") argument in
-    mail_by-known store.kept client store (path_read meanings given) (words_behind given)
-mail-known meanings fresh store argument known = tt
-mail-known meanings (mail client envelope) store argument known = known
-mail-known meanings (collecting client envelope) store argument known = known
-mail-known meanings ended store argument known = tt
+mail-known : (oracles : Oracles) (state : State) (store : StoreState) (argument : List ℕ) → KnowsRecipients store.kept state → KnowsRecipients store.kept (mail_step oracles state store argument).state
+mail-known oracles (greeted client) store argument known =
+    let given = path_after (codes "FROM:") argument in
+    mail_by-known store.kept client store (path_read oracles given) (words_after given)
+mail-known oracles fresh store argument known = tt
+mail-known oracles (mail client envelope) store argument known = known
+mail-known oracles (collecting client envelope) store argument known = known
+mail-known oracles ended store argument known = tt
 
 -- ---- the other commands
 
@@ -144,16 +144,16 @@ greeting-known : (kept : Kept) (test : Bool) (a b : Step) → KnowsRecipients ke
 greeting-known kept test a b first second = cond_both test a b (λ taken. KnowsRecipients kept taken.state) (λ is. first) (λ other. second)
 
 -- each command leaves them so
-pub step-recipients : (meanings : Meanings) (state : State) (store : StoreState) (word : Verb) (argument : List ℕ) → KnowsRecipients store.kept state
-    → KnowsRecipients store.kept (step meanings state store word argument).state
+pub step-recipients : (oracles : Oracles) (state : State) (store : StoreState) (word : Verb) (argument : List ℕ) → KnowsRecipients store.kept state
+    → KnowsRecipients store.kept (step oracles state store word argument).state
 unfolding step
-step-recipients meanings state store verb.Ehlo argument known = greeting-known store.kept (is_client argument) _ _ tt known
-step-recipients meanings state store verb.Helo argument known = greeting-known store.kept (is_client argument) _ _ tt known
-step-recipients meanings state store verb.Mail argument known = mail-known meanings state store argument known
-step-recipients meanings state store verb.Rcpt argument known = rcpt-known meanings state store argument known
-step-recipients meanings state store verb.Data argument known = data-known store.kept state known
-step-recipients meanings state store verb.Rset argument known = reset-known store.kept state known
-step-recipients meanings state store verb.Noop argument known = known
-step-recipients meanings state store verb.Vrfy argument known = known
-step-recipients meanings state store verb.Quit argument known = tt
-step-recipients meanings state store verb.Other argument known = known
+step-recipients oracles state store verb.Ehlo argument known = greeting-known store.kept (is_client argument) _ _ tt known
+step-recipients oracles state store verb.Helo argument known = greeting-known store.kept (is_client argument) _ _ tt known
+step-recipients oracles state store verb.Mail argument known = mail-known oracles state store argument known
+step-recipients oracles state store verb.Rcpt argument known = rcpt-known oracles state store argument known
+step-recipients oracles state store verb.Data argument known = data-known store.kept state known
+step-recipients oracles state store verb.Rset argument known = reset-known store.kept state known
+step-recipients oracles state store verb.Noop argument known = known
+step-recipients oracles state store verb.Vrfy argument known = known
+step-recipients oracles state store verb.Quit argument known = tt
+step-recipients oracles state store verb.Other argument known = known

@@ -11,7 +11,7 @@ use Rattle.mail_store.specs.StoreState.{StoreState, with_records}
 use Rattle.session_core.specs.Acts.{acts_of}
 use Rattle.session_core.specs.Around.{Around}
 use Rattle.session_core.specs.Doing.{Does, DoesAll, Replies}
-use Rattle.session_core.specs.Meanings.{Meanings, WithMeanings}
+use Rattle.session_core.specs.Oracles.{Oracles, WithOracles}
 use Rattle.session_core.specs.Moments.{Moment, IsTold}
 use Rattle.session_core.specs.Steps.{Begins, StandsAfter, Steps}
 use Rattle.session_core.specs.declared.desk.Desk.{Desk}
@@ -28,7 +28,7 @@ use Rattle.smtp_session.specs.declared.states.SmtpState.TheVariants as smtp
 use Rattle.smtp_session.specs.Machine.{Step, acts_in, ended}
 use Rattle.smtp_session.specs.Session.{HasRest, IsUnfinished, KnowsState, Machine, SmtpStands, after_step, greeting, line_octets, line_too_long, line_turn, machine_of, next_turn, reply_octets, smtp_protocol, state_of, state_or_ended}
 use Rattle.smtp_session.specs.laws.SmtpLaws.{framed_by, step-changes}
-use Rattle.smtp_session.specs.private.Steps.{IsFirst, IsFirstNext, ReadsLines, state_behind, stepped}
+use Rattle.smtp_session.specs.private.Steps.{IsFirst, IsFirstNext, ReadsLines, state_after, stepped}
 
 -- ---- states that read lines
 
@@ -77,90 +77,90 @@ first_of session desk read limit known = record {
 
 -- want of memory before the greeting
 pub Begins-stop : (a : Around) → Begins smtp_protocol SmtpStands a a (Err fault.Memory)
-Begins-stop a = record { does = λ meanings are. DoesFirst-none line_octets a fault.Memory (acts_of [] (greeting (name_of a.desk.store.kept))) (λ bad. cc); stands_for = tt }
+Begins-stop a = record { does = λ oracles are. DoesFirst-none line_octets a fault.Memory (acts_of [] (greeting (name_of a.desk.store.kept))) (λ bad. cc); stands_for = tt }
 
 -- the greeting wasn't given whole
 pub Begins-fails : (a b : Around) (met : Fault) (octets : List ℕ) → octets ≡ reply_octets (greeting (name_of a.desk.store.kept)) → Replies a b (Some met) octets
     → Begins smtp_protocol SmtpStands a b (Err met)
 Begins-fails a b met octets is replies =
-    record { does = λ meanings are. Does-replies line_octets a b (Some met) (greeting (name_of a.desk.store.kept)) (rw (← is) replies); stands_for = tt }
+    record { does = λ oracles are. Does-replies line_octets a b (Some met) (greeting (name_of a.desk.store.kept)) (rw (← is) replies); stands_for = tt }
 
 -- ---- the turn of a line
 
 abbrev machine_at : SmtpState → StoreState → List Moment → Machine
 machine_at state store moments = record { state = state_of state; store = store; moments = moments }
 
-reads : (meanings : Meanings) (state : SmtpState) (store : StoreState) (moments : List Moment) (octets : List ℕ) → ReadsLines state
-    → next_turn meanings (machine_at state store moments) octets ≡ line_turn meanings (machine_at state store moments) (next_line octets)
+reads : (oracles : Oracles) (state : SmtpState) (store : StoreState) (moments : List Moment) (octets : List ℕ) → ReadsLines state
+    → next_turn oracles (machine_at state store moments) octets ≡ line_turn oracles (machine_at state store moments) (next_line octets)
 unfolding next_turn
-reads meanings (smtp.Fresh s) store moments octets lines = refl
-reads meanings (smtp.Greeted s) store moments octets lines = refl
-reads meanings (smtp.Mail s) store moments octets lines = refl
-reads meanings (smtp.Data s) store moments octets lines = absurd lines
+reads oracles (smtp.Fresh s) store moments octets lines = refl
+reads oracles (smtp.Greeted s) store moments octets lines = refl
+reads oracles (smtp.Mail s) store moments octets lines = refl
+reads oracles (smtp.Data s) store moments octets lines = absurd lines
 
 -- the turn at the head of what was kept and the piece
-head_turn : (meanings : Meanings) (session : SmtpMachine) (desk : Desk) (moments : List Moment) (machine : Machine) (kept piece rest : List ℕ) (framed : Framed) → ReadsLines session.state
-    → SmtpStands moments session kept desk machine rest → next_line (kept ++ piece) ≡ framed → next_turn meanings machine (rest ++ piece) ≡ line_turn meanings (machine_of session desk moments) framed
-head_turn meanings session desk moments machine kept piece rest framed lines stands is =
+head_turn : (oracles : Oracles) (session : SmtpMachine) (desk : Desk) (moments : List Moment) (machine : Machine) (kept piece rest : List ℕ) (framed : Framed) → ReadsLines session.state
+    → SmtpStands moments session kept desk machine rest → next_line (kept ++ piece) ≡ framed → next_turn oracles machine (rest ++ piece) ≡ line_turn oracles (machine_of session desk moments) framed
+head_turn oracles session desk moments machine kept piece rest framed lines stands is =
     rw (stands.machine_is, rest_is session session.state kept rest lines stands.has)
-    (reads meanings session.state desk.store moments (kept ++ piece) lines ∙ ap (line_turn meanings (machine_of session desk moments)) is)
+    (reads oracles session.state desk.store moments (kept ++ piece) lines ∙ ap (line_turn oracles (machine_of session desk moments)) is)
 
 -- a reply that was given, or a prefix of it
 does_by : (a b : Around) (met : Option Fault) (taken : Step) (octets : List ℕ) → taken.changes ≡ [] → octets ≡ reply_octets taken.reply → Replies a b met octets → Does line_octets a b met (acts_in taken)
 does_by a b met taken octets none is replies = rw none (Does-replies line_octets a b met taken.reply (rw (← is) replies))
 
 -- the same of a line's reply
-pub Does-line : (a b : Around) (met : Option Fault) (state : SmtpState) (line octets : List ℕ) → WithMeanings (λ meanings. octets ≡ reply_octets (stepped meanings state a.desk.store line).reply)
-    → Replies a b met octets → WithMeanings (λ meanings. Does line_octets a b met (acts_in (stepped meanings state a.desk.store line)))
-Does-line a b met state line octets reply replies = λ meanings are.
+pub Does-line : (a b : Around) (met : Option Fault) (state : SmtpState) (line octets : List ℕ) → WithOracles (λ oracles. octets ≡ reply_octets (stepped oracles state a.desk.store line).reply)
+    → Replies a b met octets → WithOracles (λ oracles. Does line_octets a b met (acts_in (stepped oracles state a.desk.store line)))
+Does-line a b met state line octets reply replies = λ oracles are.
     let command = command_of line in
-    does_by a b met (stepped meanings state a.desk.store line) octets (step-changes meanings (state_of state) a.desk.store command.verb command.argument) (reply meanings are) replies
+    does_by a b met (stepped oracles state a.desk.store line) octets (step-changes oracles (state_of state) a.desk.store command.verb command.argument) (reply oracles are) replies
 
 -- nothing of it was done
 pub DoesFirst-no_line : (a : Around) (met : Fault) (state : SmtpState) (line : List ℕ) → (met ≡ fault.Keeper → ⊥)
-    → WithMeanings (λ meanings. Does line_octets a a (Some met) (acts_in (stepped meanings state a.desk.store line)))
-DoesFirst-no_line a met state line fine = λ meanings are. DoesFirst-none line_octets a met (acts_in (stepped meanings state a.desk.store line)) fine
+    → WithOracles (λ oracles. Does line_octets a a (Some met) (acts_in (stepped oracles state a.desk.store line)))
+DoesFirst-no_line a met state line fine = λ oracles are. DoesFirst-none line_octets a met (acts_in (stepped oracles state a.desk.store line)) fine
 
 -- the store behind acts that were done
-pub store_behind : (a b : Around) (taken : Step) → DoesAll line_octets a b (acts_in taken) → b.desk.store ≡ with_records a.desk.store (records_of taken.changes)
-store_behind a b taken does = rw (changes_in-acts {P = List ℕ} taken.changes taken.reply) at does.follows.store
+pub store_after : (a b : Around) (taken : Step) → DoesAll line_octets a b (acts_in taken) → b.desk.store ≡ with_records a.desk.store (records_of taken.changes)
+store_after a b taken does = rw (changes_in-acts {P = List ℕ} taken.changes taken.reply) at does.follows.store
 
 -- what is left stands for the state behind a step
-stands_behind : (a b : Around) (next : Option SmtpMachine) (taken : Step) (more : List Moment) → state_or_ended (state_behind next) ≡ taken.state → IsFirstNext next b.desk
+stands_after : (a b : Around) (next : Option SmtpMachine) (taken : Step) (more : List Moment) → state_or_ended (state_after next) ≡ taken.state → IsFirstNext next b.desk
     → b.desk.store ≡ with_records a.desk.store (records_of taken.changes) → StandsAfter smtp_protocol SmtpStands more next [] b.desk (after_step a.desk.store more taken) []
-stands_behind a b None taken more next_is first store = sym next_is
-stands_behind a b (Some session) taken more next_is first store = record { machine_is = rw (next_is, store) refl; has = first.has }
+stands_after a b None taken more next_is first store = sym next_is
+stands_after a b (Some session) taken more next_is first store = record { machine_is = rw (next_is, store) refl; has = first.has }
 
 -- ---- steps
 
 -- a whole line whose step was carried out
 pub Steps-line : (a b : Around) (session : SmtpMachine) (kept keeps piece line : List ℕ) (n : ℕ) (next : Option SmtpMachine) → ReadsLines session.state → next_line (kept ++ piece) ≡ whole line (drop n piece)
-    → WithMeanings (λ meanings. Does line_octets a b None (acts_in (stepped meanings session.state a.desk.store line)))
-    → WithMeanings (λ meanings. state_or_ended (state_behind next) ≡ (stepped meanings session.state a.desk.store line).state) → IsFirstNext next b.desk → keeps ≡ []
+    → WithOracles (λ oracles. Does line_octets a b None (acts_in (stepped oracles session.state a.desk.store line)))
+    → WithOracles (λ oracles. state_or_ended (state_after next) ≡ (stepped oracles session.state a.desk.store line).state) → IsFirstNext next b.desk → keeps ≡ []
     → Steps smtp_protocol SmtpStands a b session kept keeps piece (Ok (record { next = next; used = n }))
 Steps-line a b session kept keeps piece line n next lines is does next_is first nothing = rw nothing (record {
   told = [];
   are_told = All-nil (IsTold a.clock);
-  steps = λ meanings are more machine rest has.
-      let taken = stepped meanings session.state a.desk.store line in
-      StepsBy-turn smtp_protocol SmtpStands meanings (framed_by meanings) a b (record { next = next; used = n }) [] piece more [] machine (rest ++ piece)
+  steps = λ oracles are more machine rest has.
+      let taken = stepped oracles session.state a.desk.store line in
+      StepsBy-turn smtp_protocol SmtpStands oracles (framed_by oracles) a b (record { next = next; used = n }) [] piece more [] machine (rest ++ piece)
       (record { parts = acts_in taken; after = after_step a.desk.store more taken; rest = drop n piece })
-      (head_turn meanings session a.desk more machine kept piece rest (whole line (drop n piece)) lines has is) (does meanings are)
-      (stands_behind a b next taken more (next_is meanings are) first (store_behind a b taken (does meanings are))) refl;
+      (head_turn oracles session a.desk more machine kept piece rest (whole line (drop n piece)) lines has is) (does oracles are)
+      (stands_after a b next taken more (next_is oracles are) first (store_after a b taken (does oracles are))) refl;
 })
 
 -- a whole line in whose step a fault was met
 pub Steps-line_fails : (a b : Around) (session : SmtpMachine) (kept keeps piece line : List ℕ) (n : ℕ) (met : Fault) → ReadsLines session.state → next_line (kept ++ piece) ≡ whole line (drop n piece)
-    → WithMeanings (λ meanings. Does line_octets a b (Some met) (acts_in (stepped meanings session.state a.desk.store line)))
+    → WithOracles (λ oracles. Does line_octets a b (Some met) (acts_in (stepped oracles session.state a.desk.store line)))
     → Steps smtp_protocol SmtpStands a b session kept keeps piece (Err met)
 Steps-line_fails a b session kept keeps piece line n met lines is does = record {
   told = [];
   are_told = All-nil (IsTold a.clock);
-  steps = λ meanings are more machine rest has.
-      let taken = stepped meanings session.state a.desk.store line in
-      StepsBy-fails smtp_protocol SmtpStands meanings (framed_by meanings) a b keeps piece more met machine (rest ++ piece)
+  steps = λ oracles are more machine rest has.
+      let taken = stepped oracles session.state a.desk.store line in
+      StepsBy-fails smtp_protocol SmtpStands oracles (framed_by oracles) a b keeps piece more met machine (rest ++ piece)
       (record { parts = acts_in taken; after = after_step a.desk.store more taken; rest = drop n piece })
-      (head_turn meanings session a.desk more machine kept piece rest (whole line (drop n piece)) lines has is) (does meanings are);
+      (head_turn oracles session a.desk more machine kept piece rest (whole line (drop n piece)) lines has is) (does oracles are);
 }
 
 -- a line that is too long
@@ -169,10 +169,10 @@ pub Steps-long : (a b : Around) (session : SmtpMachine) (kept keeps piece over :
 Steps-long a b session kept keeps piece over lines is replies = record {
   told = [];
   are_told = All-nil (IsTold a.clock);
-  steps = λ meanings are more machine rest has.
-      StepsBy-turn smtp_protocol SmtpStands meanings (framed_by meanings) a b (record { next = None; used = length piece }) keeps piece more over machine (rest ++ piece)
+  steps = λ oracles are more machine rest has.
+      StepsBy-turn smtp_protocol SmtpStands oracles (framed_by oracles) a b (record { next = None; used = length piece }) keeps piece more over machine (rest ++ piece)
       (record { parts = acts_of [] line_too_long; after = record { state = ended; store = a.desk.store; moments = more }; rest = over })
-      (head_turn meanings session a.desk more machine kept piece rest (too_long over) lines has is) (Does-replies line_octets a b None line_too_long replies)
+      (head_turn oracles session a.desk more machine kept piece rest (too_long over) lines has is) (Does-replies line_octets a b None line_too_long replies)
       refl (rw (drop-length piece, append-nil over) refl);
 }
 
@@ -182,10 +182,10 @@ pub Steps-long_fails : (a b : Around) (session : SmtpMachine) (kept keeps piece 
 Steps-long_fails a b session kept keeps piece over met lines is replies = record {
   told = [];
   are_told = All-nil (IsTold a.clock);
-  steps = λ meanings are more machine rest has.
-      StepsBy-fails smtp_protocol SmtpStands meanings (framed_by meanings) a b keeps piece more met machine (rest ++ piece)
+  steps = λ oracles are more machine rest has.
+      StepsBy-fails smtp_protocol SmtpStands oracles (framed_by oracles) a b keeps piece more met machine (rest ++ piece)
       (record { parts = acts_of [] line_too_long; after = record { state = ended; store = a.desk.store; moments = more }; rest = over })
-      (head_turn meanings session a.desk more machine kept piece rest (too_long over) lines has is) (Does-replies line_octets a b (Some met) line_too_long replies);
+      (head_turn oracles session a.desk more machine kept piece rest (too_long over) lines has is) (Does-replies line_octets a b (Some met) line_too_long replies);
 }
 
 -- no whole line: all octets are kept
@@ -194,8 +194,8 @@ pub Steps-wait : (a : Around) (session : SmtpMachine) (kept keeps piece : List �
 Steps-wait a session kept keeps piece lines same = record {
   told = [];
   are_told = All-nil (IsTold a.clock);
-  steps = λ meanings are more machine rest has.
+  steps = λ oracles are more machine rest has.
       let is = rest_is session session.state kept rest lines has.has in
-      StepsBy-waits smtp_protocol SmtpStands meanings a (record { next = Some session; used = length piece }) keeps piece more keeps machine (rest ++ piece)
+      StepsBy-waits smtp_protocol SmtpStands oracles a (record { next = Some session; used = length piece }) keeps piece more keeps machine (rest ++ piece)
       (record { machine_is = has.machine_is; has = has_kept session session.state keeps lines }) (rw (drop-length piece, append-nil keeps, is, same) refl);
 }

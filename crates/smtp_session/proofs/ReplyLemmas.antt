@@ -60,9 +60,9 @@ offers_octets : (name size : List ℕ)
     → codes "250-" ++ (name ++ (codes "\r\n250-8BITMIME\r\n250-SIZE " ++ (size ++ codes "\r\n250-SMTPUTF8\r\n250 ENHANCEDSTATUSCODES\r\n")))
     ≡ reply_octets ((codes "250-" ++ name) ∷ codes "250-8BITMIME" ∷ (codes "250-SIZE " ++ size) ∷ codes "250-SMTPUTF8" ∷ codes "250 ENHANCEDSTATUSCODES" ∷ [])
 offers_octets name size =
-    let behind = codes "250-SMTPUTF8\r\n250 ENHANCEDSTATUSCODES\r\n" in
-    ap (λ t. codes "250-" ++ (name ++ (codes "\r\n250-8BITMIME\r\n250-SIZE " ++ t))) (sym (append_assoc size crlf behind))
-    ∙ ap (λ t. codes "250-" ++ t) (sym (append_assoc name crlf (codes "250-8BITMIME\r\n250-SIZE " ++ ((size ++ crlf) ++ behind))))
+    let following = codes "250-SMTPUTF8\r\n250 ENHANCEDSTATUSCODES\r\n" in
+    ap (λ t. codes "250-" ++ (name ++ (codes "\r\n250-8BITMIME\r\n250-SIZE " ++ t))) (sym (append_assoc size crlf following))
+    ∙ ap (λ t. codes "250-" ++ t) (sym (append_assoc name crlf (codes "250-8BITMIME\r\n250-SIZE " ++ ((size ++ crlf) ++ following))))
 
 -- with the name and the limit of the store it is the reply to EHLO
 offers_of_parts : (store : StoreState) (name : List ℕ) (max : ℕ) → name ≡ name_of store.kept → max ≡ store.message_max

@@ -36,12 +36,12 @@ blank_words [] = refl
 blank_words (x ∷ text) = blank_by x text (is_white x) refl (blank_words text)
 
 -- a path alone
-pub alone-blank : (behind : Option PathAndRest) (given : PathAndRest) → behind ≡ Some given → list_all is_white given.rest ≡ true → alone behind ≡ Some given
-alone-blank behind given is blank = rw (is, sym (blank_words given.rest) ∙ blank) refl
+pub alone-blank : (following : Option PathAndRest) (given : PathAndRest) → following ≡ Some given → list_all is_white given.rest ≡ true → alone following ≡ Some given
+alone-blank following given is blank = rw (is, sym (blank_words given.rest) ∙ blank) refl
 
 -- a path with something behind it
-pub alone-more : (behind : Option PathAndRest) (given : PathAndRest) → behind ≡ Some given → list_all is_white given.rest ≡ false → alone behind ≡ None
-alone-more behind given is more = rw (is, sym (blank_words given.rest) ∙ more) refl
+pub alone-more : (following : Option PathAndRest) (given : PathAndRest) → following ≡ Some given → list_all is_white given.rest ≡ false → alone following ≡ None
+alone-more following given is more = rw (is, sym (blank_words given.rest) ∙ more) refl
 
 -- a reply leaves what is known of its state
 pub says-known : (store : StoreState) (result : Result Reply Memory) (next : SmtpState) → IfOk result (λ reply. reply.next ≡ Some next) → KnowsState store (state_of next)

@@ -11,7 +11,7 @@ use Rattle.mail_wire.specs.Lines.{Cut}
 use Rattle.smtp_grammar.specs.Commands.{command_of}
 use Rattle.smtp_grammar.specs.Data.{data_cut}
 use Rattle.session_core.specs.Acts.{Act, acts_of, changes_in}
-use Rattle.session_core.specs.Meanings.{Meanings}
+use Rattle.session_core.specs.Oracles.{Oracles}
 use Rattle.session_core.specs.Turns.{Turn}
 use Rattle.session_core.proofs.DoneLemmas.{changes_in-acts}
 use Rattle.session_core.proofs.StoreTurns.{Tracks, all_track}
@@ -27,31 +27,31 @@ with_changes store made reply = ap (λ (changes : List (List Record)). with_reco
 abbrev TracksStore : Machine → Turn Machine (Act (List ℕ)) → Type 0
 TracksStore machine turn = Tracks (λ (m : Machine). m.store) machine turn
 
-line_tracks : (meanings : Meanings) (machine : Machine) (framed : Framed) (turn : Turn Machine (Act (List ℕ))) → line_turn meanings machine framed ≡ Some turn → TracksStore machine turn
-line_tracks meanings machine waiting turn is = cc
-line_tracks meanings machine (whole text rest) turn is =
-    let taken = step meanings machine.state machine.store (command_of text).verb (command_of text).argument in
+line_tracks : (oracles : Oracles) (machine : Machine) (framed : Framed) (turn : Turn Machine (Act (List ℕ))) → line_turn oracles machine framed ≡ Some turn → TracksStore machine turn
+line_tracks oracles machine waiting turn is = cc
+line_tracks oracles machine (whole text rest) turn is =
+    let taken = step oracles machine.state machine.store (command_of text).verb (command_of text).argument in
     subst (TracksStore machine) (same_Some _ _ is) (with_changes machine.store taken.changes taken.reply)
-line_tracks meanings machine (too_long rest) turn is = subst (TracksStore machine) (same_Some _ _ is) (with_changes machine.store [] line_too_long)
+line_tracks oracles machine (too_long rest) turn is = subst (TracksStore machine) (same_Some _ _ is) (with_changes machine.store [] line_too_long)
 
-data_tracks : (meanings : Meanings) (machine : Machine) (client : Client) (envelope : Envelope) (found : Option Cut) (turn : Turn Machine (Act (List ℕ)))
-    → option_map (data_turn meanings machine client envelope) found ≡ Some turn → TracksStore machine turn
-data_tracks meanings machine client envelope None turn is = cc
-data_tracks meanings machine client envelope (Some cut) turn is =
-    let taken = end_data meanings machine.store client envelope (next_moment machine.moments) (unstuffed cut.line) in
+data_tracks : (oracles : Oracles) (machine : Machine) (client : Client) (envelope : Envelope) (found : Option Cut) (turn : Turn Machine (Act (List ℕ)))
+    → option_map (data_turn oracles machine client envelope) found ≡ Some turn → TracksStore machine turn
+data_tracks oracles machine client envelope None turn is = cc
+data_tracks oracles machine client envelope (Some cut) turn is =
+    let taken = end_data oracles machine.store client envelope (next_moment machine.moments) (unstuffed cut.line) in
     subst (TracksStore machine) (same_Some _ _ is) (with_changes machine.store taken.changes taken.reply)
 
-turn_tracks : (meanings : Meanings) (state : State) (machine : Machine) (octets : List ℕ) (turn : Turn Machine (Act (List ℕ))) → turn_from meanings state machine octets ≡ Some turn → TracksStore machine turn
-turn_tracks meanings fresh machine octets turn is = line_tracks meanings machine (next_line octets) turn is
-turn_tracks meanings (greeted client) machine octets turn is = line_tracks meanings machine (next_line octets) turn is
-turn_tracks meanings (mail client envelope) machine octets turn is = line_tracks meanings machine (next_line octets) turn is
-turn_tracks meanings (collecting client envelope) machine octets turn is = data_tracks meanings machine client envelope (data_cut octets) turn is
-turn_tracks meanings ended machine octets turn is = cc
+turn_tracks : (oracles : Oracles) (state : State) (machine : Machine) (octets : List ℕ) (turn : Turn Machine (Act (List ℕ))) → turn_from oracles state machine octets ≡ Some turn → TracksStore machine turn
+turn_tracks oracles fresh machine octets turn is = line_tracks oracles machine (next_line octets) turn is
+turn_tracks oracles (greeted client) machine octets turn is = line_tracks oracles machine (next_line octets) turn is
+turn_tracks oracles (mail client envelope) machine octets turn is = line_tracks oracles machine (next_line octets) turn is
+turn_tracks oracles (collecting client envelope) machine octets turn is = data_tracks oracles machine client envelope (data_cut octets) turn is
+turn_tracks oracles ended machine octets turn is = cc
 
-next_tracks : (meanings : Meanings) (machine : Machine) (octets : List ℕ) (turn : Turn Machine (Act (List ℕ))) → next_turn meanings machine octets ≡ Some turn → TracksStore machine turn
+next_tracks : (oracles : Oracles) (machine : Machine) (octets : List ℕ) (turn : Turn Machine (Act (List ℕ))) → next_turn oracles machine octets ≡ Some turn → TracksStore machine turn
 unfolding next_turn
-next_tracks meanings machine octets turn is = turn_tracks meanings machine.state machine octets turn is
+next_tracks oracles machine octets turn is = turn_tracks oracles machine.state machine octets turn is
 
-pub stream_store : (meanings : Meanings) (machine : Machine) (octets : List ℕ)
-    → (turns_of meanings machine octets).after.store ≡ with_records machine.store (records_of (changes_in (turns_of meanings machine octets).parts))
-stream_store meanings machine octets = all_track (next_turn meanings) (λ (m : Machine). m.store) (next_tracks meanings) machine octets
+pub stream_store : (oracles : Oracles) (machine : Machine) (octets : List ℕ)
+    → (turns_of oracles machine octets).after.store ≡ with_records machine.store (records_of (changes_in (turns_of oracles machine octets).parts))
+stream_store oracles machine octets = all_track (next_turn oracles) (λ (m : Machine). m.store) (next_tracks oracles) machine octets

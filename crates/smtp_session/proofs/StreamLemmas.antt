@@ -27,7 +27,7 @@ use Rattle.smtp_session.specs.declared.states.Client.{Client}
 use Rattle.smtp_session.specs.declared.states.Envelope.{Envelope}
 use Rattle.smtp_session.specs.Intake.{AreRecipients, IsKeptOnce, KeepsAccepted, KnowsRecipients, Keeps, NoMore, Says, acceptance, stored_line}
 use Rattle.smtp_session.specs.Machine.{State, fresh, greeted, mail, collecting, ended, Step, acts_in, delivery_of, end_by, end_data, step}
-use Rattle.session_core.specs.Meanings.{Meanings}
+use Rattle.session_core.specs.Oracles.{Oracles}
 use Rattle.smtp_session.specs.Session.{Machine, after_step, data_turn, later_moments, line_too_long, line_turn, next_moment, next_turn, start_of, turn_from, turns_of}
 use Rattle.session_core.specs.Desks.{IsStoreName}
 use Rattle.session_core.specs.Moments.{Moment}
@@ -96,29 +96,29 @@ record IsTurn (store : StoreState) (turn : Turn Machine (Act (List ℕ))) : Type
   stays : Stays turn.after
 
 -- a command
-command_turn : (meanings : Meanings) (machine : Machine) (word : Verb) (argument rest : List ℕ) → Stays machine
-    → let taken = step meanings machine.state machine.store word argument in
+command_turn : (oracles : Oracles) (machine : Machine) (word : Verb) (argument rest : List ℕ) → Stays machine
+    → let taken = step oracles machine.state machine.store word argument in
     IsTurn machine.store (record { parts = acts_in taken; after = after_step machine.store machine.moments taken; rest = rest })
-command_turn meanings machine word argument rest stays =
-    let taken = step meanings machine.state machine.store word argument in
-    let none = step-changes meanings machine.state machine.store word argument in
+command_turn oracles machine word argument rest stays =
+    let taken = step oracles machine.state machine.store word argument in
+    let none = step-changes oracles machine.state machine.store word argument in
     rw none
     (record {
-      brings = Answers taken.reply (step_said IsOther meanings machine.state machine.store word argument (other_lines machine.store stays.named)) refl refl;
+      brings = Answers taken.reply (step_said IsOther oracles machine.state machine.store word argument (other_lines machine.store stays.named)) refl refl;
       stays = record {
         inboxes = stays.inboxes;
-        recipients = step-recipients meanings machine.state machine.store word argument stays.recipients;
+        recipients = step-recipients oracles machine.state machine.store word argument stays.recipients;
         named = stays.named;
       };
     })
 
 -- a line
-line_brings : (meanings : Meanings) (machine : Machine) (framed : Framed) (turn : Turn Machine (Act (List ℕ))) → Stays machine → line_turn meanings machine framed ≡ Some turn
+line_brings : (oracles : Oracles) (machine : Machine) (framed : Framed) (turn : Turn Machine (Act (List ℕ))) → Stays machine → line_turn oracles machine framed ≡ Some turn
     → IsTurn machine.store turn
-line_brings meanings machine waiting turn stays is = absurd (none-some _ is)
-line_brings meanings machine (whole text rest) turn stays is =
-    subst (IsTurn machine.store) (same_Some _ _ is) (command_turn meanings machine (command_of text).verb (command_of text).argument rest stays)
-line_brings meanings machine (too_long rest) turn stays is =
+line_brings oracles machine waiting turn stays is = absurd (none-some _ is)
+line_brings oracles machine (whole text rest) turn stays is =
+    subst (IsTurn machine.store) (same_Some _ _ is) (command_turn oracles machine (command_of text).verb (command_of text).argument rest stays)
+line_brings oracles machine (too_long rest) turn stays is =
     subst (IsTurn machine.store) (same_Some _ _ is)
     (record {
       brings = Answers line_too_long (differs_at 0 _ refl, tt) refl refl;
@@ -160,59 +160,59 @@ end_turn store client delivery envelope moments rest taken local remote have are
       stays = record { inboxes = have; recipients = tt; named = named };
     })
 
-data_brings : (meanings : Meanings) (machine : Machine) (client : Client) (envelope : Envelope) (found : Option Cut) (turn : Turn Machine (Act (List ℕ))) → Stays machine
-    → AreRecipients machine.store.kept envelope → option_map (data_turn meanings machine client envelope) found ≡ Some turn → IsTurn machine.store turn
-data_brings meanings machine client envelope None turn stays are is = absurd (none-some _ is)
-data_brings meanings machine client envelope (Some cut) turn stays are is =
+data_brings : (oracles : Oracles) (machine : Machine) (client : Client) (envelope : Envelope) (found : Option Cut) (turn : Turn Machine (Act (List ℕ))) → Stays machine
+    → AreRecipients machine.store.kept envelope → option_map (data_turn oracles machine client envelope) found ≡ Some turn → IsTurn machine.store turn
+data_brings oracles machine client envelope None turn stays are is = absurd (none-some _ is)
+data_brings oracles machine client envelope (Some cut) turn stays are is =
     let moment = next_moment machine.moments in
     let delivery = delivery_of machine.store client envelope moment (unstuffed cut.line) in
     subst (IsTurn machine.store) (same_Some _ _ is)
-    (end_turn machine.store client delivery envelope (later_moments machine.moments) cut.rest (end_data meanings machine.store client envelope moment (unstuffed cut.line)) refl refl
-    stays.inboxes are stays.named (ends_by (meanings.has_tree (unstuffed cut.line)) machine.store client delivery))
+    (end_turn machine.store client delivery envelope (later_moments machine.moments) cut.rest (end_data oracles machine.store client envelope moment (unstuffed cut.line)) refl refl
+    stays.inboxes are stays.named (ends_by (oracles.has_tree (unstuffed cut.line)) machine.store client delivery))
 
-turn_brings : (meanings : Meanings) (state : State) (machine : Machine) (octets : List ℕ) (turn : Turn Machine (Act (List ℕ))) → Stays machine
-    → KnowsRecipients machine.store.kept state → turn_from meanings state machine octets ≡ Some turn → IsTurn machine.store turn
-turn_brings meanings fresh machine octets turn stays known is = line_brings meanings machine (next_line octets) turn stays is
-turn_brings meanings (greeted client) machine octets turn stays known is = line_brings meanings machine (next_line octets) turn stays is
-turn_brings meanings (mail client envelope) machine octets turn stays known is = line_brings meanings machine (next_line octets) turn stays is
-turn_brings meanings (collecting client envelope) machine octets turn stays known is = data_brings meanings machine client envelope (data_cut octets) turn stays known is
-turn_brings meanings ended machine octets turn stays known is = absurd (none-some _ is)
+turn_brings : (oracles : Oracles) (state : State) (machine : Machine) (octets : List ℕ) (turn : Turn Machine (Act (List ℕ))) → Stays machine
+    → KnowsRecipients machine.store.kept state → turn_from oracles state machine octets ≡ Some turn → IsTurn machine.store turn
+turn_brings oracles fresh machine octets turn stays known is = line_brings oracles machine (next_line octets) turn stays is
+turn_brings oracles (greeted client) machine octets turn stays known is = line_brings oracles machine (next_line octets) turn stays is
+turn_brings oracles (mail client envelope) machine octets turn stays known is = line_brings oracles machine (next_line octets) turn stays is
+turn_brings oracles (collecting client envelope) machine octets turn stays known is = data_brings oracles machine client envelope (data_cut octets) turn stays known is
+turn_brings oracles ended machine octets turn stays known is = absurd (none-some _ is)
 
-next_brings : (meanings : Meanings) (machine : Machine) (octets : List ℕ) (turn : Turn Machine (Act (List ℕ))) → Stays machine → next_turn meanings machine octets ≡ Some turn
+next_brings : (oracles : Oracles) (machine : Machine) (octets : List ℕ) (turn : Turn Machine (Act (List ℕ))) → Stays machine → next_turn oracles machine octets ≡ Some turn
     → IsTurn machine.store turn
 unfolding next_turn
-next_brings meanings machine octets turn stays is = turn_brings meanings machine.state machine octets turn stays stays.recipients is
+next_brings oracles machine octets turn stays is = turn_brings oracles machine.state machine octets turn stays stays.recipients is
 
 -- ---- all turns
 
 -- a reply in front
-behind_reply : (store : StoreState) (reply : List (List ℕ)) (more : List (Act (List ℕ))) → AllByRecursion IsOther reply → KeepsAccepted store more
+after_reply : (store : StoreState) (reply : List (List ℕ)) (more : List (Act (List ℕ))) → AllByRecursion IsOther reply → KeepsAccepted store more
     → KeepsAccepted store (acts_of [] reply ++ more)
-behind_reply store [] more others keeps = keeps
-behind_reply store (line ∷ reply) more others keeps = Says store line (acts_of [] reply ++ more) others.0 (behind_reply store reply more others.1 keeps)
+after_reply store [] more others keeps = keeps
+after_reply store (line ∷ reply) more others keeps = Says store line (acts_of [] reply ++ more) others.0 (after_reply store reply more others.1 keeps)
 
 -- a turn in front
-behind_turn : (store : StoreState) (turn : Turn Machine (Act (List ℕ))) (more : List (Act (List ℕ))) → Brings store turn → KeepsAccepted turn.after.store more
+after_turn : (store : StoreState) (turn : Turn Machine (Act (List ℕ))) (more : List (Act (List ℕ))) → Brings store turn → KeepsAccepted turn.after.store more
     → KeepsAccepted store (turn.parts ++ more)
-behind_turn store turn more (Answers reply others parts same) keeps =
-    rw parts (behind_reply store reply more others (subst (λ (s : StoreState). KeepsAccepted s more) same keeps))
-behind_turn store turn more (Stores delivery records once parts same) keeps =
+after_turn store turn more (Answers reply others parts same) keeps =
+    rw parts (after_reply store reply more others (subst (λ (s : StoreState). KeepsAccepted s more) same keeps))
+after_turn store turn more (Stores delivery records once parts same) keeps =
     rw parts (Keeps store delivery records more once (subst (λ (s : StoreState). KeepsAccepted s more) same keeps))
 
-turns_keep : (meanings : Meanings) (n : ℕ) (machine : Machine) (octets : List ℕ) → length octets ≤ n → Stays machine → (found : Option (Turn Machine (Act (List ℕ))))
-    → next_turn meanings machine octets ≡ found → KeepsAccepted machine.store (all_turns (next_turn meanings) machine octets).parts
-turns_keep meanings n machine octets low stays None is = rw (all_turns-stop (next_turn meanings) machine octets is) (NoMore machine.store)
-turns_keep meanings zero machine octets low stays (Some turn) is =
-    let shorter = (framed_by meanings).shorter machine octets turn is in
+turns_keep : (oracles : Oracles) (n : ℕ) (machine : Machine) (octets : List ℕ) → length octets ≤ n → Stays machine → (found : Option (Turn Machine (Act (List ℕ))))
+    → next_turn oracles machine octets ≡ found → KeepsAccepted machine.store (all_turns (next_turn oracles) machine octets).parts
+turns_keep oracles n machine octets low stays None is = rw (all_turns-stop (next_turn oracles) machine octets is) (NoMore machine.store)
+turns_keep oracles zero machine octets low stays (Some turn) is =
+    let shorter = (framed_by oracles).shorter machine octets turn is in
     absurd (omega (arith, shorter, low))
-turns_keep meanings (suc n) machine octets low stays (Some turn) is =
-    let shorter = (framed_by meanings).shorter machine octets turn is in
-    let one = next_brings meanings machine octets turn stays is in
-    let later_moments = turns_keep meanings n turn.after turn.rest (omega (arith, shorter, low)) one.stays (next_turn meanings turn.after turn.rest) refl in
-    rw (all_turns-go (next_turn meanings) (framed_by meanings) machine octets turn is) (behind_turn machine.store turn _ one.brings later_moments)
+turns_keep oracles (suc n) machine octets low stays (Some turn) is =
+    let shorter = (framed_by oracles).shorter machine octets turn is in
+    let one = next_brings oracles machine octets turn stays is in
+    let later_moments = turns_keep oracles n turn.after turn.rest (omega (arith, shorter, low)) one.stays (next_turn oracles turn.after turn.rest) refl in
+    rw (all_turns-go (next_turn oracles) (framed_by oracles) machine octets turn is) (after_turn machine.store turn _ one.brings later_moments)
 
-pub stream_kept : (meanings : Meanings) (store : StoreState) (moments : List Moment) (octets : List ℕ) → IsFold store.kept → IsStoreName (name_of store.kept)
-    → KeepsAccepted store (turns_of meanings (start_of store moments) octets).parts
-stream_kept meanings store moments octets fold named =
+pub stream_kept : (oracles : Oracles) (store : StoreState) (moments : List Moment) (octets : List ℕ) → IsFold store.kept → IsStoreName (name_of store.kept)
+    → KeepsAccepted store (turns_of oracles (start_of store moments) octets).parts
+stream_kept oracles store moments octets fold named =
     let start = start_of store moments in
-    turns_keep meanings (length octets) start octets (omega arith) (record { inboxes = have_inboxes store.kept fold; recipients = tt; named = named }) (next_turn meanings start octets) refl
+    turns_keep oracles (length octets) start octets (omega arith) (record { inboxes = have_inboxes store.kept fold; recipients = tt; named = named }) (next_turn oracles start octets) refl

@@ -5,7 +5,7 @@ use Rattle.std.specs.Option.{option_map}
 use Rattle.std.proofs.lemmas.Bool.Decides.{nat_tests}
 use Rattle.mail_wire.specs.Lines.{Cut}
 use Rattle.mail_wire.specs.Message.{IsEnded}
-use Rattle.session_core.specs.Turns.{Turn, behind}
+use Rattle.session_core.specs.Turns.{Turn, following}
 use Rattle.session_core.proofs.TurnsLemmas.{all_turns-go}
 use Rattle.mail_wire.specs.Dots.{stuffed}
 use Rattle.mail_store.specs.declared.changing.StoreFault.{StoreFault}
@@ -27,7 +27,7 @@ use Rattle.smtp_session.specs.declared.states.Client.{Client}
 use Rattle.smtp_session.specs.declared.states.Envelope.{Envelope}
 use Rattle.smtp_session.specs.Intake.{acceptance, stored_line}
 use Rattle.smtp_session.specs.Machine.{Step, acts_in, collecting, delivery_of, end_by, end_data, greeted, mail, envelope_recipient_count, says, step}
-use Rattle.session_core.specs.Meanings.{Meanings, TellsTrees}
+use Rattle.session_core.specs.Oracles.{Oracles, TellsTrees}
 use Rattle.smtp_session.specs.Room.{IsWithinLimits}
 use Rattle.smtp_session.specs.Session.{Machine, after_step, data_turn, later_moments, next_moment, next_turn, turns_of}
 use Rattle.session_core.specs.Moments.{Moment}
@@ -76,7 +76,7 @@ not_refused large many first second = rw (first, second) refl
 
 -- octets that may be kept are told so
 tells_true : (has_tree : List ℕ → Bool) (octets : List ℕ) → TellsTrees has_tree → IsStored octets → has_tree octets ≡ true
-tells_true has_tree octets tells stored = let t = (tells octets).1 stored in search rules
+tells_true has_tree octets observed stored = let t = (observed octets).1 stored in search rules
 
 -- the last of four steps by three tests
 last_of : (large is_message : Bool) (refusal : Option StoreFault) (a b c d : Step) → large ≡ false → is_message ≡ true → refusal ≡ None
@@ -94,17 +94,17 @@ kept_by is_message store client delivery is within =
     last_of (has_large_octets store.message_max delivery) is_message (delivery_refusal store delivery) _ _ _ (keeping store client delivery) large is
     (not_refused (has_large_octets store.message_max delivery) (has_many_things store.kept delivery) large (not_many store delivery within))
 
-data_kept : (meanings : Meanings) (store : StoreState) (client : Client) (envelope : Envelope) (moment : Moment) (octets : List ℕ)
-    → TellsTrees meanings.has_tree → IsStored octets → IsWithinLimits store (delivery_of store client envelope moment octets)
-    → end_data meanings store client envelope moment octets ≡ keeping store client (delivery_of store client envelope moment octets)
-data_kept meanings store client envelope moment octets tells tree within =
-    kept_by (meanings.has_tree octets) store client (delivery_of store client envelope moment octets) (tells_true meanings.has_tree octets tells tree) within
+data_kept : (oracles : Oracles) (store : StoreState) (client : Client) (envelope : Envelope) (moment : Moment) (octets : List ℕ)
+    → TellsTrees oracles.has_tree → IsStored octets → IsWithinLimits store (delivery_of store client envelope moment octets)
+    → end_data oracles store client envelope moment octets ≡ keeping store client (delivery_of store client envelope moment octets)
+data_kept oracles store client envelope moment octets observed tree within =
+    kept_by (oracles.has_tree octets) store client (delivery_of store client envelope moment octets) (tells_true oracles.has_tree octets observed tree) within
 
-pub data_accepted : (meanings : Meanings) (store : StoreState) (client : Client) (envelope : Envelope) (moment : Moment) (octets : List ℕ)
-    → TellsTrees meanings.has_tree → IsStored octets → IsWithinLimits store (delivery_of store client envelope moment octets)
-    → (end_data meanings store client envelope moment octets).reply ≡ acceptance
-data_accepted meanings store client envelope moment octets tells tree within =
-    ap (λ (taken : Step). taken.reply) (data_kept meanings store client envelope moment octets tells tree within)
+pub data_accepted : (oracles : Oracles) (store : StoreState) (client : Client) (envelope : Envelope) (moment : Moment) (octets : List ℕ)
+    → TellsTrees oracles.has_tree → IsStored octets → IsWithinLimits store (delivery_of store client envelope moment octets)
+    → (end_data oracles store client envelope moment octets).reply ≡ acceptance
+data_accepted oracles store client envelope moment octets observed tree within =
+    ap (λ (taken : Step). taken.reply) (data_kept oracles store client envelope moment octets observed tree within)
 
 -- ---- the stream
 
@@ -112,38 +112,38 @@ data_accepted meanings store client envelope moment octets tells tree within =
 some_recipients : (count : ℕ) → 0 < count → (count == 0) ≡ false
 some_recipients count some = grind (arith, nat_tests)
 
-pub data_begin : (meanings : Meanings) (client : Client) (envelope : Envelope) (store : StoreState) (argument : List ℕ) → 0 < envelope_recipient_count envelope
-    → step meanings (mail client envelope) store verb.Data argument ≡ says (codes "354 go ahead") (collecting client envelope)
+pub data_begin : (oracles : Oracles) (client : Client) (envelope : Envelope) (store : StoreState) (argument : List ℕ) → 0 < envelope_recipient_count envelope
+    → step oracles (mail client envelope) store verb.Data argument ≡ says (codes "354 go ahead") (collecting client envelope)
 unfolding step
-data_begin meanings client envelope store argument some = rw (some_recipients (envelope_recipient_count envelope) some) refl
+data_begin oracles client envelope store argument some = rw (some_recipients (envelope_recipient_count envelope) some) refl
 
 -- the data are read up to their end
-first_turn : (meanings : Meanings) (store : StoreState) (client : Client) (envelope : Envelope) (moments : List Moment) (octets : List ℕ) (cut : Cut) → data_cut octets ≡ Some cut
-    → next_turn meanings (record { state = collecting client envelope; store = store; moments = moments }) octets
-    ≡ Some (data_turn meanings (record { state = collecting client envelope; store = store; moments = moments }) client envelope cut)
+first_turn : (oracles : Oracles) (store : StoreState) (client : Client) (envelope : Envelope) (moments : List Moment) (octets : List ℕ) (cut : Cut) → data_cut octets ≡ Some cut
+    → next_turn oracles (record { state = collecting client envelope; store = store; moments = moments }) octets
+    ≡ Some (data_turn oracles (record { state = collecting client envelope; store = store; moments = moments }) client envelope cut)
 unfolding next_turn
-first_turn meanings store client envelope moments octets cut found =
-    ap (option_map (data_turn meanings (record { state = collecting client envelope; store = store; moments = moments }) client envelope)) found
+first_turn oracles store client envelope moments octets cut found =
+    ap (option_map (data_turn oracles (record { state = collecting client envelope; store = store; moments = moments }) client envelope)) found
 
 -- what a step and the turns behind it bring
-abbrev brings : Meanings → StoreState → List Moment → List ℕ → Step → Turn Machine (Act (List ℕ))
-brings meanings store moments rest taken = behind (acts_in taken) (turns_of meanings (after_step store (later_moments moments) taken) rest)
+abbrev brings : Oracles → StoreState → List Moment → List ℕ → Step → Turn Machine (Act (List ℕ))
+brings oracles store moments rest taken = following (acts_in taken) (turns_of oracles (after_step store (later_moments moments) taken) rest)
 
-pub sent_kept : (meanings : Meanings) (store : StoreState) (client : Client) (envelope : Envelope) (moments : List Moment) (octets rest : List ℕ) → TellsTrees meanings.has_tree
+pub sent_kept : (oracles : Oracles) (store : StoreState) (client : Client) (envelope : Envelope) (moments : List Moment) (octets rest : List ℕ) → TellsTrees oracles.has_tree
     → IsEnded octets → IsStored octets → let delivery = delivery_of store client envelope (next_moment moments) octets in IsWithinLimits store delivery
-    → turns_of meanings (record { state = collecting client envelope; store = store; moments = moments }) (sent octets rest)
-    ≡ behind (changes (delivered store.kept delivery) ∷ gives stored_line ∷ [])
-    (turns_of meanings (record { state = greeted client; store = with_records store (delivered store.kept delivery); moments = later_moments moments }) rest)
-sent_kept meanings store client envelope moments octets rest tells ended tree within =
+    → turns_of oracles (record { state = collecting client envelope; store = store; moments = moments }) (sent octets rest)
+    ≡ following (changes (delivered store.kept delivery) ∷ gives stored_line ∷ [])
+    (turns_of oracles (record { state = greeted client; store = with_records store (delivered store.kept delivery); moments = later_moments moments }) rest)
+sent_kept oracles store client envelope moments octets rest observed ended tree within =
     let machine : Machine = record { state = collecting client envelope; store = store; moments = moments } in
     let moment = next_moment moments in
     let delivery = delivery_of store client envelope moment octets in
     let records = delivered store.kept delivery in
     let next : List Record → Turn Machine (Act (List ℕ)) = λ all.
-    behind (changes records ∷ gives stored_line ∷ []) (turns_of meanings (record { state = greeted client; store = with_records store all; moments = later_moments moments }) rest) in
+    following (changes records ∷ gives stored_line ∷ []) (turns_of oracles (record { state = greeted client; store = with_records store all; moments = later_moments moments }) rest) in
     let whole : Cut = record { line = stuffed octets; rest = rest } in
-    all_turns-go (next_turn meanings) (framed_by meanings) machine (sent octets rest) (data_turn meanings machine client envelope whole)
-    (first_turn meanings store client envelope moments (sent octets rest) whole (sent_found octets ended rest))
-    ∙ ap (λ said. brings meanings store moments rest (end_data meanings store client envelope moment said)) (unstuffed_back octets)
-    ∙ ap (brings meanings store moments rest) (data_kept meanings store client envelope moment octets tells tree within)
+    all_turns-go (next_turn oracles) (framed_by oracles) machine (sent octets rest) (data_turn oracles machine client envelope whole)
+    (first_turn oracles store client envelope moments (sent octets rest) whole (sent_found octets ended rest))
+    ∙ ap (λ said. brings oracles store moments rest (end_data oracles store client envelope moment said)) (unstuffed_back octets)
+    ∙ ap (brings oracles store moments rest) (data_kept oracles store client envelope moment octets observed tree within)
     ∙ ap next (append-nil records)

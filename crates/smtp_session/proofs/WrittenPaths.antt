@@ -3,8 +3,8 @@ use Rattle.std.proofs.Common.{◌≡◌, List, ◌∷◌, ◌++◌, ℕ, true, S
 use Rattle.address_grammar.specs.declared.Address.{Address}
 use Rattle.address_grammar.specs.Paths.{ComesInPath, in_angles}
 use Rattle.journal_records.specs.Addresses.{path_text}
-use Rattle.smtp_grammar.specs.Commands.{path_behind, stands_apart}
-use Rattle.smtp_grammar.proofs.PathOctets.{PassesPlain, found_behind, found_spaced, passes_address, plain_none}
+use Rattle.smtp_grammar.specs.Commands.{path_after, ends_word}
+use Rattle.smtp_grammar.proofs.PathOctets.{PassesPlain, found_after, found_spaced, passes_address, plain_none}
 
 -- a path goes on with the text of an address, and with that of the null path
 passes_text : (path : Option Address) → IfSome path ComesInPath → PassesPlain (path_text path)
@@ -12,11 +12,11 @@ passes_text None comes = plain_none
 passes_text (Some address) comes = passes_address address comes
 
 -- the path is found behind a word
-pub written_behind : (word : List ℕ) (path : Option Address) → IfSome path ComesInPath → (rest : List ℕ) → stands_apart rest ≡ true
-    → path_behind word (word ++ (in_angles (path_text path) ++ rest)) ≡ Some (record { path = in_angles (path_text path); rest = rest })
-written_behind word path comes rest apart = found_behind word (path_text path) rest (passes_text path comes) apart
+pub written_after : (word : List ℕ) (path : Option Address) → IfSome path ComesInPath → (rest : List ℕ) → ends_word rest ≡ true
+    → path_after word (word ++ (in_angles (path_text path) ++ rest)) ≡ Some (record { path = in_angles (path_text path); rest = rest })
+written_after word path comes rest apart = found_after word (path_text path) rest (passes_text path comes) apart
 
 -- and behind a word and a space
-pub written_spaced : (word : List ℕ) (path : Option Address) → IfSome path ComesInPath → (rest : List ℕ) → stands_apart rest ≡ true
-    → path_behind word (word ++ 32 ∷ (in_angles (path_text path) ++ rest)) ≡ Some (record { path = in_angles (path_text path); rest = rest })
+pub written_spaced : (word : List ℕ) (path : Option Address) → IfSome path ComesInPath → (rest : List ℕ) → ends_word rest ≡ true
+    → path_after word (word ++ 32 ∷ (in_angles (path_text path) ++ rest)) ≡ Some (record { path = in_angles (path_text path); rest = rest })
 written_spaced word path comes rest apart = found_spaced word (path_text path) rest (passes_text path comes) apart

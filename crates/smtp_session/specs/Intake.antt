@@ -67,7 +67,7 @@ pub record IsKeptOnce (old new : Kept) (delivery : Delivery) : Type 0 where
   pub local : All (λ account. IsSomeAnd (inbox_of old account) (HasOneMore old new delivery.date delivery.local_octets)) delivery.local
   pub others : (folder : ℕ) → All (λ account. inbox_of old account ≢ Some folder) delivery.local → messages_in new folder ≡ messages_in old folder
   pub remote : new.entries ≡ old.entries ++ entries_for (path_text delivery.path) delivery.remote_octets delivery.remote
-  pub apart : IsDistinct is_same_remote delivery.remote
+  pub distinct : IsDistinct is_same_remote delivery.remote
   pub accounts : new.accounts ≡ old.accounts
   pub domains : new.domains ≡ old.domains
   pub folders : new.folders ≡ old.folders

@@ -15,11 +15,11 @@ use Rattle.kept_mail.specs.declared.limits.TheConstants.{RECIPIENTS_MAX}
 use Rattle.journal_records.specs.declared.records.Record.{Record}
 use Rattle.smtp_grammar.specs.declared.command.Verb.{Verb}
 use Rattle.smtp_grammar.specs.declared.command.Verb.TheVariants as verb
-use Rattle.smtp_grammar.specs.Commands.{PathAndRest, is_client, path_behind, white_words, parameter_of, are_malformed, is_unknown, is_smtputf8, announced}
+use Rattle.smtp_grammar.specs.Commands.{PathAndRest, is_client, path_after, white_words, parameter_of, are_malformed, is_unknown, is_smtputf8, announced}
 use Rattle.smtp_session.specs.declared.states.Client.{Client}
 use Rattle.smtp_session.specs.declared.states.Envelope.{Envelope}
 use Rattle.session_core.specs.Acts.{Act, acts_of}
-use Rattle.session_core.specs.Meanings.{Meanings}
+use Rattle.session_core.specs.Oracles.{Oracles}
 use Rattle.session_core.specs.Moments.{Moment}
 use Rattle.smtp_session.specs.Trace.{protocol, return_path, received}
 
@@ -104,8 +104,8 @@ abbrev pub within_limit : Option Address → Option (Option Address)
 within_limit path = if nat_le (length (path_text path)) TEXT_MAX then Some path else None
 
 -- What a path says, where its text is within the limit; the null path says no address.
-abbrev pub path_read : Meanings → Option PathAndRest → Option (Option Address)
-path_read meanings given = option_and_then (λ (g : PathAndRest). option_and_then within_limit (meanings.path_of g.path)) given
+abbrev pub path_read : Oracles → Option PathAndRest → Option (Option Address)
+path_read oracles given = option_and_then (λ (g : PathAndRest). option_and_then within_limit (oracles.path_of g.path)) given
 
 -- an address that isn't ASCII is taken with SMTPUTF8 alone
 abbrev pub lacks_smtputf8 : Bool → Option Address → Bool
@@ -114,9 +114,9 @@ lacks_smtputf8 smtputf8 path = not smtputf8 && not (list_all is_ascii (path_text
 -- ---- MAIL
 
 -- The parameters behind a path.
-abbrev pub words_behind : Option PathAndRest → List (List ℕ)
-words_behind None = []
-words_behind (Some given) = white_words given.rest
+abbrev pub words_after : Option PathAndRest → List (List ℕ)
+words_after None = []
+words_after (Some given) = white_words given.rest
 
 -- The envelope of a transaction that begins, without recipients (RFC 5321, 2.3.1).
 abbrev pub envelope_of : Option Address → Bool → Envelope
@@ -137,11 +137,11 @@ mail_by client store None words = bad_argument (greeted client)
 mail_by client store (Some path) words = mail_to client store (list_any (λ word. is_smtputf8 (parameter_of word)) words) path words
 
 -- MAIL, once a client has greeted and where no transaction is open (RFC 5321, 4.1.1.2).
-abbrev pub mail_step : Meanings → State → StoreState → List ℕ → Step
-mail_step meanings (greeted client) store argument =
-    let given = path_behind (codes "FROM:") argument in
-    mail_by client store (path_read meanings given) (words_behind given)
-mail_step meanings state store argument = out_of_order state
+abbrev pub mail_step : Oracles → State → StoreState → List ℕ → Step
+mail_step oracles (greeted client) store argument =
+    let given = path_after (codes "FROM:") argument in
+    mail_by client store (path_read oracles given) (words_after given)
+mail_step oracles state store argument = out_of_order state
 
 -- ---- RCPT
 
@@ -176,12 +176,12 @@ rcpt_remote client envelope address =
     with_room (list_any (λ other. is_same_remote other address) envelope.remote) client envelope (record envelope { remote = envelope.remote ++ address ∷ [] })
 
 -- RCPT with a path that could be read, or not; its address is of one of the store's domains, or of another (RFC 5321, 4.1.1.3).
-abbrev pub rcpt_to : Meanings → Client → Envelope → StoreState → Option (Option Address) → Step
-rcpt_to meanings client envelope store None = bad_argument (mail client envelope)
-rcpt_to meanings client envelope store (Some None) = bad_argument (mail client envelope)
-rcpt_to meanings client envelope store (Some (Some address)) =
+abbrev pub rcpt_to : Oracles → Client → Envelope → StoreState → Option (Option Address) → Step
+rcpt_to oracles client envelope store None = bad_argument (mail client envelope)
+rcpt_to oracles client envelope store (Some None) = bad_argument (mail client envelope)
+rcpt_to oracles client envelope store (Some (Some address)) =
     if lacks_smtputf8 envelope.smtputf8 (Some address) then needs_smtputf8 (mail client envelope)
-    else if is_local store.kept address.domain then rcpt_local client envelope (find_account meanings.path_of store.kept address)
+    else if is_local store.kept address.domain then rcpt_local client envelope (find_account oracles.path_of store.kept address)
     else rcpt_remote client envelope address
 
 -- without parameters
@@ -190,10 +190,10 @@ alone None = None
 alone (Some given) = if length (white_words given.rest) == 0 then Some given else None
 
 -- RCPT, in a transaction (RFC 5321, 4.1.1.3).
-abbrev pub rcpt_step : Meanings → State → StoreState → List ℕ → Step
-rcpt_step meanings (mail client envelope) store argument =
-    rcpt_to meanings client envelope store (path_read meanings (alone (path_behind (codes "TO:") argument)))
-rcpt_step meanings state store argument = out_of_order state
+abbrev pub rcpt_step : Oracles → State → StoreState → List ℕ → Step
+rcpt_step oracles (mail client envelope) store argument =
+    rcpt_to oracles client envelope store (path_read oracles (alone (path_after (codes "TO:") argument)))
+rcpt_step oracles state store argument = out_of_order state
 
 -- ---- the other commands
 
@@ -209,17 +209,17 @@ reset (mail client envelope) = greeted client
 reset state = state
 
 -- a command in a state that reads lines
-unfoldable pub step : Meanings → State → StoreState → Verb → List ℕ → Step
-step meanings state store verb.Ehlo argument = ehlo_step state store argument
-step meanings state store verb.Helo argument = helo_step state store argument
-step meanings state store verb.Mail argument = mail_step meanings state store argument
-step meanings state store verb.Rcpt argument = rcpt_step meanings state store argument
-step meanings state store verb.Data argument = data_step state
-step meanings state store verb.Rset argument = ok (reset state)
-step meanings state store verb.Noop argument = ok state
-step meanings state store verb.Vrfy argument = says (codes "252 2.5.0 send and see") state
-step meanings state store verb.Quit argument = says (codes "221 2.0.0 bye") ended
-step meanings state store verb.Other argument = says (codes "500 5.5.2 unknown command") state
+unfoldable pub step : Oracles → State → StoreState → Verb → List ℕ → Step
+step oracles state store verb.Ehlo argument = ehlo_step state store argument
+step oracles state store verb.Helo argument = helo_step state store argument
+step oracles state store verb.Mail argument = mail_step oracles state store argument
+step oracles state store verb.Rcpt argument = rcpt_step oracles state store argument
+step oracles state store verb.Data argument = data_step state
+step oracles state store verb.Rset argument = ok (reset state)
+step oracles state store verb.Noop argument = ok state
+step oracles state store verb.Vrfy argument = says (codes "252 2.5.0 send and see") state
+step oracles state store verb.Quit argument = says (codes "221 2.0.0 bye") ended
+step oracles state store verb.Other argument = says (codes "500 5.5.2 unknown command") state
 
 -- ---- the end of the data
 
@@ -248,5 +248,5 @@ end_by is_message store client delivery =
     else record { changes = delivered store.kept delivery ∷ []; reply = codes "250 2.0.0 stored" ∷ []; state = greeted client }
 
 -- The end of the data: the message is stored and queued, or it is refused (RFC 5321, 4.1.1.4).
-abbrev pub end_data : Meanings → StoreState → Client → Envelope → Moment → List ℕ → Step
-end_data meanings store client envelope moment octets = end_by (meanings.has_tree octets) store client (delivery_of store client envelope moment octets)
+abbrev pub end_data : Oracles → StoreState → Client → Envelope → Moment → List ℕ → Step
+end_data oracles store client envelope moment octets = end_by (oracles.has_tree octets) store client (delivery_of store client envelope moment octets)

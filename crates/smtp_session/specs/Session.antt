@@ -16,7 +16,7 @@ use Rattle.smtp_grammar.specs.Data.{data_cut}
 use Rattle.smtp_grammar.specs.Reading.{HasRead}
 use Rattle.session_core.specs.Acts.{Act, acts_of}
 use Rattle.session_core.specs.Desks.{IsStoreName}
-use Rattle.session_core.specs.Meanings.{Meanings}
+use Rattle.session_core.specs.Oracles.{Oracles}
 use Rattle.session_core.specs.Moments.{Moment}
 use Rattle.session_core.specs.Protocol.{Protocol}
 use Rattle.session_core.specs.Turns.{Turn, all_turns}
@@ -69,34 +69,34 @@ abbrev pub after_step : StoreState → List Moment → Step → Machine
 after_step store moments taken = record { state = taken.state; store = with_records store (records_of taken.changes); moments = moments }
 
 -- what a whole line brings
-abbrev pub line_turn : Meanings → Machine → Framed → Option (Turn Machine (Act (List ℕ)))
-line_turn meanings machine waiting = None
-line_turn meanings machine (whole text rest) =
-    let taken = step meanings machine.state machine.store (command_of text).verb (command_of text).argument in
+abbrev pub line_turn : Oracles → Machine → Framed → Option (Turn Machine (Act (List ℕ)))
+line_turn oracles machine waiting = None
+line_turn oracles machine (whole text rest) =
+    let taken = step oracles machine.state machine.store (command_of text).verb (command_of text).argument in
     Some (record { parts = acts_in taken; after = after_step machine.store machine.moments taken; rest = rest })
-line_turn meanings machine (too_long rest) = Some (record { parts = acts_of [] line_too_long; after = record machine { state = ended }; rest = rest })
+line_turn oracles machine (too_long rest) = Some (record { parts = acts_of [] line_too_long; after = record machine { state = ended }; rest = rest })
 
 -- what whole data bring
-abbrev pub data_turn : Meanings → Machine → Client → Envelope → Cut → Turn Machine (Act (List ℕ))
-data_turn meanings machine client envelope cut =
-    let taken = end_data meanings machine.store client envelope (next_moment machine.moments) (unstuffed cut.line) in
+abbrev pub data_turn : Oracles → Machine → Client → Envelope → Cut → Turn Machine (Act (List ℕ))
+data_turn oracles machine client envelope cut =
+    let taken = end_data oracles machine.store client envelope (next_moment machine.moments) (unstuffed cut.line) in
     record { parts = acts_in taken; after = after_step machine.store (later_moments machine.moments) taken; rest = cut.rest }
 
 -- after the end no command is read
-abbrev pub turn_from : Meanings → State → Machine → List ℕ → Option (Turn Machine (Act (List ℕ)))
-turn_from meanings fresh machine octets = line_turn meanings machine (next_line octets)
-turn_from meanings (greeted client) machine octets = line_turn meanings machine (next_line octets)
-turn_from meanings (mail client envelope) machine octets = line_turn meanings machine (next_line octets)
-turn_from meanings (collecting client envelope) machine octets = option_map (data_turn meanings machine client envelope) (data_cut octets)
-turn_from meanings ended machine octets = None
+abbrev pub turn_from : Oracles → State → Machine → List ℕ → Option (Turn Machine (Act (List ℕ)))
+turn_from oracles fresh machine octets = line_turn oracles machine (next_line octets)
+turn_from oracles (greeted client) machine octets = line_turn oracles machine (next_line octets)
+turn_from oracles (mail client envelope) machine octets = line_turn oracles machine (next_line octets)
+turn_from oracles (collecting client envelope) machine octets = option_map (data_turn oracles machine client envelope) (data_cut octets)
+turn_from oracles ended machine octets = None
 
 -- The turn at the head of the octets, if there is one and the session hasn't ended.
-unfoldable pub next_turn : Meanings → Machine → List ℕ → Option (Turn Machine (Act (List ℕ)))
-next_turn meanings machine octets = turn_from meanings machine.state machine octets
+unfoldable pub next_turn : Oracles → Machine → List ℕ → Option (Turn Machine (Act (List ℕ)))
+next_turn oracles machine octets = turn_from oracles machine.state machine octets
 
 -- what these octets bring
-abbrev pub turns_of : Meanings → Machine → List ℕ → Turn Machine (Act (List ℕ))
-turns_of meanings machine octets = all_turns (next_turn meanings) machine octets
+abbrev pub turns_of : Oracles → Machine → List ℕ → Turn Machine (Act (List ℕ))
+turns_of oracles machine octets = all_turns (next_turn oracles) machine octets
 
 -- The first line of a session, with the server's name (RFC 5321, 3.1).
 abbrev pub greeting : List ℕ → List (List ℕ)
@@ -114,8 +114,8 @@ smtp_protocol = record {
   opening = λ store. acts_of [] (greeting (name_of store.kept));
   start = λ moments store. start_of store moments;
   next = next_turn;
-  spelled = λ meanings. line_octets;
-  Fits = λ meanings. IsFit;
+  spelled = λ oracles. line_octets;
+  Fits = λ oracles. IsFit;
   HasEnded = λ machine. machine.state ≡ ended;
   IsSound = λ machine. IsStoreName (name_of machine.store.kept);
 }

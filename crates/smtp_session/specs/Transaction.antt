@@ -4,12 +4,12 @@ use Rattle.std.specs.List.{list_any}
 use Rattle.address_grammar.specs.declared.Address.{Address}
 use Rattle.kept_mail.specs.declared.delivery.Delivery.{Delivery}
 use Rattle.kept_mail.specs.Kept.{Kept, find_account, is_local, name_of}
-use Rattle.smtp_grammar.specs.Commands.{path_behind}
+use Rattle.smtp_grammar.specs.Commands.{path_after}
 use Rattle.smtp_session.specs.declared.states.Client.{Client}
 use Rattle.smtp_session.specs.declared.states.Envelope.{Envelope}
 use Rattle.smtp_session.specs.Intake.{IsKeptOnce}
 use Rattle.smtp_session.specs.Machine.{State, alone, collecting, greeted, is_same_remote, mail, path_read}
-use Rattle.session_core.specs.Meanings.{Meanings}
+use Rattle.session_core.specs.Oracles.{Oracles}
 use Rattle.smtp_session.specs.Trace.{protocol, received, return_path}
 use Rattle.session_core.specs.Moments.{Moment}
 
@@ -48,25 +48,25 @@ pub record TakesRemote (kept : Kept) (address : Address) (old new : Envelope) : 
   pub remote : IsTaken is_same_remote address old.remote new.remote
 
 -- An accepted RCPT: the address that its path says is a recipient, behind all that were there, and nothing else changes.
-pub record TakesRecipient (meanings : Meanings) (kept : Kept) (argument : List ℕ) (before after : State) : Type 0 where
+pub record TakesRecipient (oracles : Oracles) (kept : Kept) (argument : List ℕ) (before after : State) : Type 0 where
   pub client : Client
   pub old : Envelope
   pub new : Envelope
   pub before_is : before ≡ mail client old
   pub after_is : after ≡ mail client new
   pub address : Address
-  pub says : path_read meanings (alone (path_behind (codes "TO:") argument)) ≡ Some (Some address)
+  pub says : path_read oracles (alone (path_after (codes "TO:") argument)) ≡ Some (Some address)
   pub path : new.path ≡ old.path
   pub smtputf8 : new.smtputf8 ≡ old.smtputf8
-  pub taken : TakesAccount meanings.path_of kept address old new ⊎ TakesRemote kept address old new
+  pub taken : TakesAccount oracles.path_of kept address old new ⊎ TakesRemote kept address old new
 
 -- an accepted MAIL: a transaction with the path that it says, and without recipients
-pub record TakesSender (meanings : Meanings) (argument : List ℕ) (before after : State) : Type 0 where
+pub record TakesSender (oracles : Oracles) (argument : List ℕ) (before after : State) : Type 0 where
   pub client : Client
   pub new : Envelope
   pub before_is : before ≡ greeted client
   pub after_is : after ≡ mail client new
-  pub says : path_read meanings (path_behind (codes "FROM:") argument) ≡ Some new.path
+  pub says : path_read oracles (path_after (codes "FROM:") argument) ≡ Some new.path
   pub local : new.local ≡ []
   pub remote : new.remote ≡ []
 

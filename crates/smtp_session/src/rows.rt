@@ -6,10 +6,10 @@ ghost use Rattle.address_grammar.specs.Paths.{ComesInPath};
 ghost use Rattle.journal_records.specs.Addresses.{WithPaths, IsSendable};
 ghost use Rattle.kept_mail.specs.Kept.{find_account, name_of};
 ghost use Rattle.mail_store.specs.StoreState.{StoreState};
-ghost use Rattle.smtp_grammar.specs.Commands.{command_of, is_client as is_client_of, white_words, path_behind as path_behind_of};
+ghost use Rattle.smtp_grammar.specs.Commands.{command_of, is_client as is_client_of, white_words, path_after as path_after_of};
 ghost use Rattle.smtp_session.specs.Machine.{greeted as greeted_of, mail as mail_of, step, offers as offers_of, client_of, ehlo_step, helo_step, within_limit, lacks_smtputf8 as lacks_smtputf8_of, mail_by, mail_step, is_same_remote as is_same_remote_of, envelope_recipient_count as recipient_count_of, rcpt_local, rcpt_remote, rcpt_to, alone, rcpt_step, data_step, ok as ok_of, reset as reset_of};
 ghost use Rattle.smtp_session.specs.Session.{Knows, KnowsState, reply_octets, state_of, state_or_ended};
-ghost use Rattle.session_core.specs.Meanings.{WithMeanings};
+ghost use Rattle.session_core.specs.Oracles.{WithOracles};
 
 use crate::states::{Client, Envelope, Greeted, Mail, Smtp, SmtpState};
 use ace_domains::same;
@@ -18,7 +18,7 @@ use journal_records::TEXT_MAX;
 use kept_mail::RECIPIENTS_MAX;
 use mail_store::Store;
 use mail_wire::{Memory, Octets, is_ascii, is_white_text};
-use smtp_grammar::{PathAndRest, Verb, is_client, path_behind, read_command, read_parameters};
+use smtp_grammar::{PathAndRest, Verb, is_client, path_after, read_command, read_parameters};
 use std::alloc::Global;
 
 /// A reply of whole lines, and the state after it; none where the session has ended.
@@ -235,13 +235,13 @@ fn mail(
     store: &Store,
 ) -> Result<Reply, Memory>
     requires { is_client_of session.state.client.name ≡ true }
-    ensures reply { IfOk result (λ reply. WithMeanings (λ meanings. reply.octets
-        ≡ reply_octets (mail_step meanings (greeted_of session.state.client) store.now argument.now).reply)) }
-    ensures next { IfOk result (λ reply. WithMeanings (λ meanings. state_or_ended reply.next
-        ≡ (mail_step meanings (greeted_of session.state.client) store.now argument.now).state)) }
+    ensures reply { IfOk result (λ reply. WithOracles (λ oracles. reply.octets
+        ≡ reply_octets (mail_step oracles (greeted_of session.state.client) store.now argument.now).reply)) }
+    ensures next { IfOk result (λ reply. WithOracles (λ oracles. state_or_ended reply.next
+        ≡ (mail_step oracles (greeted_of session.state.client) store.now argument.now).state)) }
     ensures known { IfOk result (λ reply. KnowsState store.now (state_or_ended reply.next)) }
 {
-    let Some(given) = path_behind(b"FROM:", argument) else {
+    let Some(given) = path_after(b"FROM:", argument) else {
         return says(alloc, BAD_ARGUMENT, SmtpState::Greeted(session));
     };
     match read_limited_path(alloc, given.path)? {
@@ -268,10 +268,10 @@ fn answer_mail(
     store: &Store,
 ) -> Result<Reply, Memory>
     requires { KnowsState store.now (state_of state) }
-    ensures reply { IfOk result (λ reply. WithMeanings (λ meanings. reply.octets
-        ≡ reply_octets (mail_step meanings (state_of state) store.now argument.now).reply)) }
-    ensures next { IfOk result (λ reply. WithMeanings (λ meanings. state_or_ended reply.next
-        ≡ (mail_step meanings (state_of state) store.now argument.now).state)) }
+    ensures reply { IfOk result (λ reply. WithOracles (λ oracles. reply.octets
+        ≡ reply_octets (mail_step oracles (state_of state) store.now argument.now).reply)) }
+    ensures next { IfOk result (λ reply. WithOracles (λ oracles. state_or_ended reply.next
+        ≡ (mail_step oracles (state_of state) store.now argument.now).state)) }
     ensures known { IfOk result (λ reply. KnowsState store.now (state_or_ended reply.next)) }
 {
     match state {
@@ -408,10 +408,10 @@ fn rcpt_path(
     requires client { is_client_of session.state.client.name ≡ true }
     requires known { Knows store.now session.state.envelope }
     requires address { IsSendable address }
-    ensures reply { IfOk result (λ reply. WithMeanings (λ meanings. reply.octets
-        ≡ reply_octets (rcpt_to meanings session.state.client session.state.envelope store.now (Some (Some address))).reply)) }
-    ensures next { IfOk result (λ reply. WithMeanings (λ meanings. state_or_ended reply.next
-        ≡ (rcpt_to meanings session.state.client session.state.envelope store.now (Some (Some address))).state)) }
+    ensures reply { IfOk result (λ reply. WithOracles (λ oracles. reply.octets
+        ≡ reply_octets (rcpt_to oracles session.state.client session.state.envelope store.now (Some (Some address))).reply)) }
+    ensures next { IfOk result (λ reply. WithOracles (λ oracles. state_or_ended reply.next
+        ≡ (rcpt_to oracles session.state.client session.state.envelope store.now (Some (Some address))).state)) }
     ensures known { IfOk result (λ reply. KnowsState store.now (state_or_ended reply.next)) }
 {
     if lacks_smtputf8(session.state.envelope.smtputf8, &address) {
@@ -425,10 +425,10 @@ fn rcpt_path(
 
 // The text of a path, where nothing stands behind it.
 fn lone_path<'a>(word: &[u8], argument: &'a [u8]) -> Option<PathAndRest<'a>>
-    ensures { MatchOption result (alone (path_behind_of word.now argument.now) ≡ None)
-        (λ found. alone (path_behind_of word.now argument.now) ≡ Some (record { path = found.path.now; rest = found.rest.now })) }
+    ensures { MatchOption result (alone (path_after_of word.now argument.now) ≡ None)
+        (λ found. alone (path_after_of word.now argument.now) ≡ Some (record { path = found.path.now; rest = found.rest.now })) }
 {
-    let given = path_behind(word, argument)?;
+    let given = path_after(word, argument)?;
     if is_white_text(given.rest) {
         Some(given)
     } else {
@@ -440,10 +440,10 @@ fn lone_path<'a>(word: &[u8], argument: &'a [u8]) -> Option<PathAndRest<'a>>
 fn rcpt(alloc: Global, session: Smtp<Mail>, argument: &[u8], store: &Store) -> Result<Reply, Memory>
     requires client { is_client_of session.state.client.name ≡ true }
     requires known { Knows store.now session.state.envelope }
-    ensures reply { IfOk result (λ reply. WithMeanings (λ meanings. reply.octets
-        ≡ reply_octets (rcpt_step meanings (mail_of session.state.client session.state.envelope) store.now argument.now).reply)) }
-    ensures next { IfOk result (λ reply. WithMeanings (λ meanings. state_or_ended reply.next
-        ≡ (rcpt_step meanings (mail_of session.state.client session.state.envelope) store.now argument.now).state)) }
+    ensures reply { IfOk result (λ reply. WithOracles (λ oracles. reply.octets
+        ≡ reply_octets (rcpt_step oracles (mail_of session.state.client session.state.envelope) store.now argument.now).reply)) }
+    ensures next { IfOk result (λ reply. WithOracles (λ oracles. state_or_ended reply.next
+        ≡ (rcpt_step oracles (mail_of session.state.client session.state.envelope) store.now argument.now).state)) }
     ensures known { IfOk result (λ reply. KnowsState store.now (state_or_ended reply.next)) }
 {
     let Some(given) = lone_path(b"TO:", argument) else {
@@ -463,10 +463,10 @@ fn answer_rcpt(
     store: &Store,
 ) -> Result<Reply, Memory>
     requires { KnowsState store.now (state_of state) }
-    ensures reply { IfOk result (λ reply. WithMeanings (λ meanings. reply.octets
-        ≡ reply_octets (rcpt_step meanings (state_of state) store.now argument.now).reply)) }
-    ensures next { IfOk result (λ reply. WithMeanings (λ meanings. state_or_ended reply.next
-        ≡ (rcpt_step meanings (state_of state) store.now argument.now).state)) }
+    ensures reply { IfOk result (λ reply. WithOracles (λ oracles. reply.octets
+        ≡ reply_octets (rcpt_step oracles (state_of state) store.now argument.now).reply)) }
+    ensures next { IfOk result (λ reply. WithOracles (λ oracles. state_or_ended reply.next
+        ≡ (rcpt_step oracles (state_of state) store.now argument.now).state)) }
     ensures known { IfOk result (λ reply. KnowsState store.now (state_or_ended reply.next)) }
 {
     match state {
@@ -545,10 +545,10 @@ fn answer_command(
     store: &Store,
 ) -> Result<Reply, Memory>
     requires { KnowsState store.now (state_of state) }
-    ensures reply { IfOk result (λ reply. WithMeanings (λ meanings. reply.octets
-        ≡ reply_octets (step meanings (state_of state) store.now verb argument.now).reply)) }
-    ensures next { IfOk result (λ reply. WithMeanings (λ meanings. state_or_ended reply.next
-        ≡ (step meanings (state_of state) store.now verb argument.now).state)) }
+    ensures reply { IfOk result (λ reply. WithOracles (λ oracles. reply.octets
+        ≡ reply_octets (step oracles (state_of state) store.now verb argument.now).reply)) }
+    ensures next { IfOk result (λ reply. WithOracles (λ oracles. state_or_ended reply.next
+        ≡ (step oracles (state_of state) store.now verb argument.now).state)) }
     ensures known { IfOk result (λ reply. KnowsState store.now (state_or_ended reply.next)) }
 {
     match verb {
@@ -572,10 +572,10 @@ fn answer_command(
 pub fn answer(alloc: Global, state: SmtpState, line: &[u8], store: &Store) -> Result<Reply, Memory>
     requires line { 2 ≤ length line.now }
     requires known { KnowsState store.now (state_of state) }
-    ensures reply { IfOk result (λ reply. WithMeanings (λ meanings. reply.octets
-        ≡ reply_octets (step meanings (state_of state) store.now (command_of line.now).verb (command_of line.now).argument).reply)) }
-    ensures next { IfOk result (λ reply. WithMeanings (λ meanings. state_or_ended reply.next
-        ≡ (step meanings (state_of state) store.now (command_of line.now).verb (command_of line.now).argument).state)) }
+    ensures reply { IfOk result (λ reply. WithOracles (λ oracles. reply.octets
+        ≡ reply_octets (step oracles (state_of state) store.now (command_of line.now).verb (command_of line.now).argument).reply)) }
+    ensures next { IfOk result (λ reply. WithOracles (λ oracles. state_or_ended reply.next
+        ≡ (step oracles (state_of state) store.now (command_of line.now).verb (command_of line.now).argument).state)) }
     ensures known { IfOk result (λ reply. KnowsState store.now (state_or_ended reply.next)) }
 {
     let command = read_command(line);

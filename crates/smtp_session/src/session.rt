@@ -9,7 +9,7 @@ ghost use Rattle.mail_store.specs.StoreState.{StoreState};
 ghost use Rattle.session_core.specs.Desks.{IsOpen};
 ghost use Rattle.session_core.specs.Doing.{Does, Makes, Replies};
 ghost use Rattle.session_core.specs.Keeps.{Keeps, fault_of};
-ghost use Rattle.session_core.specs.Meanings.{TellsTrees, WithMeanings};
+ghost use Rattle.session_core.specs.Oracles.{TellsTrees, WithOracles};
 ghost use Rattle.session_core.specs.Moments.{IsMoment, moment_of};
 ghost use Rattle.session_core.specs.Served.{met_of};
 ghost use Rattle.session_core.specs.Serving.{ServesBy};
@@ -20,7 +20,7 @@ ghost use Rattle.smtp_session.specs.Machine.{acts_in, delivery_of, end_by, end_d
 ghost use Rattle.smtp_session.specs.Session.{SmtpReady, KnowsState, SmtpStands, greeting, line_octets, reply_octets, smtp_protocol, state_of, state_or_ended};
 ghost use Rattle.smtp_session.specs.Trace.{protocol as protocol_of, received, return_path};
 ghost use Rattle.smtp_session.specs.laws.SmtpLaws.{begins_fit_by, fits_by, framed_by, goes_on_by, quiet_by, waits_by};
-ghost use Rattle.smtp_session.specs.private.Steps.{DoesBy, IsFirst, IsFirstNext, ReadsLines, accepted_content, state_behind, stepped};
+ghost use Rattle.smtp_session.specs.private.Steps.{DoesBy, IsFirst, IsFirstNext, ReadsLines, accepted_content, state_after, stepped};
 
 use crate::rows::{Reply, TOO_LARGE, answer};
 use crate::states::{Client, Data, Envelope, Fresh, Greeted, Smtp, SmtpState};
@@ -29,7 +29,7 @@ use address_grammar::Address;
 use kept_mail::{Delivery, has_large_octets};
 use mail_wire::{Clock, Fault, FoundLine, Keeper, Memory, Octets, Wire, find_line};
 use mime_tree::{TreeFault, read_tree};
-use session_core::{Came, Delivered, Machine, Outside, Served, Session, Stamp, serve};
+use session_core::{Advance, Delivered, Machine, Outside, Served, Session, Timestamp, serve};
 use smtp_grammar::DataReader;
 use std::alloc::Global;
 
@@ -138,15 +138,15 @@ fn accept_data(
     envelope: Envelope,
     name: &[u8],
     content: &[u8],
-    stamp: Stamp,
+    timestamp: Timestamp,
 ) -> Result<Accepted, Memory>
     requires { IfSome envelope.path ComesInPath }
     ensures delivery { IfOk result (λ accepted. (store : StoreState) → name.now ≡ name_of store.kept
-        → accepted.delivery ≡ delivery_of store client.now envelope (moment_of stamp) content.now) }
+        → accepted.delivery ≡ delivery_of store client.now envelope (moment_of timestamp) content.now) }
     ensures within { IfOk result (λ accepted. accepted.trace_len ≤ length accepted.delivery.remote_octets) }
     ensures content { IfOk result (λ accepted. accepted_content accepted ≡ content.now) }
 {
-    let date = stamp.date.as_slice();
+    let date = timestamp.date.as_slice();
     let octets = kept_octets(alloc, client, &envelope, name, content, date)?;
     let delivery = Delivery {
         path: envelope.path,
@@ -154,7 +154,7 @@ fn accept_data(
         local_octets: octets.local,
         remote: envelope.remote,
         remote_octets: octets.remote,
-        date: stamp.internal,
+        date: timestamp.internal,
     };
     Ok(Accepted {
         delivery,
@@ -247,16 +247,16 @@ struct TakenData {
 // The end of data, which came at this moment.
 fn end_data<W: Wire, J: Keeper, C: Clock>(
     whole: TakenData,
-    stamp: Stamp,
+    timestamp: Timestamp,
     outside: &mut Outside<W, J, C>,
 ) -> Result<Smtp<Greeted>, Fault>
-    requires moment { (seconds : ℕ) × IsMoment seconds (moment_of stamp) }
+    requires moment { (seconds : ℕ) × IsMoment seconds (moment_of timestamp) }
     requires opens { IsOpen outside.old.desk }
     requires limit { whole.reader.limit ≡ outside.old.desk.store.message_max }
     requires known { KnowsState outside.old.desk.store (state_of (SmtpState.Data whole.session)) }
-    ensures does { WithMeanings (λ meanings. (lines : List ℕ) → DataHaveEnded whole.reader lines
+    ensures does { WithOracles (λ oracles. (lines : List ℕ) → DataHaveEnded whole.reader lines
         → Does line_octets outside.old outside.new (fault_of result)
-        (acts_in (end_of meanings outside.old.desk.store whole.session.state.client whole.session.state.envelope (moment_of stamp) (unstuffed lines)))) }
+        (acts_in (end_of oracles outside.old.desk.store whole.session.state.client whole.session.state.envelope (moment_of timestamp) (unstuffed lines)))) }
     ensures client { IfOk result (λ next. next.state.client ≡ whole.session.state.client) }
     ensures keeps { Keeps outside.old outside.new (fault_of result) }
 {
@@ -264,7 +264,7 @@ fn end_data<W: Wire, J: Keeper, C: Clock>(
     let Data { client, envelope } = session.state;
     let Some(content) = reader.into_content() else {
         drop(envelope);
-        drop(stamp);
+        drop(timestamp);
         return reply_to_data(client, TOO_LARGE, outside);
     };
     let name = outside.store().name().as_bytes();
@@ -274,7 +274,7 @@ fn end_data<W: Wire, J: Keeper, C: Clock>(
         envelope,
         name,
         content.as_slice(),
-        stamp,
+        timestamp,
     );
     drop(content);
     let accepted = made?;
@@ -299,13 +299,13 @@ fn take_data<W: Wire, J: Keeper, C: Clock>(
     kept: &mut Octets,
     piece: &[u8],
     outside: &mut Outside<W, J, C>,
-) -> Result<Came<SmtpMachine>, Fault>
+) -> Result<Advance<SmtpMachine>, Fault>
     requires some { 0 < length piece.now }
     requires opens { IsOpen outside.old.desk }
     requires ready { SmtpReady (record { state = SmtpState.Data session; reader = reader }) kept.old outside.old.desk }
     ensures steps { Steps smtp_protocol SmtpStands outside.old outside.new (record { state = SmtpState.Data session; reader = reader }) kept.old kept.new piece.now result }
-    ensures used { IfOk result (λ came. (0 < came.used) × (came.used ≤ length piece.now)) }
-    ensures ready { IfOk result (λ came. IsReadyAfter SmtpReady came kept.new outside.new.desk) }
+    ensures used { IfOk result (λ advance. (0 < advance.used) × (advance.used ≤ length piece.now)) }
+    ensures ready { IfOk result (λ advance. IsReadyAfter SmtpReady advance kept.new outside.new.desk) }
     ensures keeps { Keeps outside.old outside.new (fault_of result) }
 {
     let taken = reader.take(piece);
@@ -316,18 +316,18 @@ fn take_data<W: Wire, J: Keeper, C: Clock>(
     };
     match found {
         Some(used) => {
-            let Ok(stamp) = outside.now() else {
+            let Ok(timestamp) = outside.now() else {
                 drop(data);
                 return Err(Fault::Memory);
             };
-            let greeted = end_data(data, stamp, outside)?;
+            let greeted = end_data(data, timestamp, outside)?;
             let (alloc, max) = (outside.alloc(), outside.store().message_max());
-            Ok(Came {
+            Ok(Advance {
                 next: Some(begun(alloc, max, SmtpState::Greeted(greeted))),
                 used,
             })
         }
-        None => Ok(Came {
+        None => Ok(Advance {
             next: Some(SmtpMachine {
                 state: SmtpState::Data(data.session),
                 reader: data.reader,
@@ -339,7 +339,7 @@ fn take_data<W: Wire, J: Keeper, C: Clock>(
 
 // What is left behind a line: a session in this state, with nothing read of data.
 fn begun_next(alloc: Global, max: u32, next: Option<SmtpState>) -> Option<SmtpMachine>
-    ensures state { state_behind result ≡ next }
+    ensures state { state_after result ≡ next }
     ensures first { (desk : Desk) → desk.store.message_max ≡ max → KnowsState desk.store (state_or_ended next) → IsFirstNext result desk }
 {
     match next {
@@ -357,10 +357,10 @@ fn answer_line<W: Wire, J: Keeper, C: Clock>(
     requires line { 2 ≤ length line.now }
     requires opens { IsOpen outside.old.desk }
     requires known { KnowsState outside.old.desk.store (state_of state) }
-    ensures does { WithMeanings (λ meanings. Does line_octets outside.old outside.new (fault_of result)
-        (acts_in (stepped meanings state outside.old.desk.store line.now))) }
-    ensures next { IfOk result (λ next. WithMeanings (λ meanings. state_or_ended (state_behind next)
-        ≡ (stepped meanings state outside.old.desk.store line.now).state)) }
+    ensures does { WithOracles (λ oracles. Does line_octets outside.old outside.new (fault_of result)
+        (acts_in (stepped oracles state outside.old.desk.store line.now))) }
+    ensures next { IfOk result (λ next. WithOracles (λ oracles. state_or_ended (state_after next)
+        ≡ (stepped oracles state outside.old.desk.store line.now).state)) }
     ensures first { IfOk result (λ next. IsFirstNext next outside.new.desk) }
     ensures keeps { Keeps outside.old outside.new (fault_of result) }
 {
@@ -388,10 +388,10 @@ fn take_whole<W: Wire, J: Keeper, C: Clock>(
     requires line { 2 ≤ length (kept.old ++ front.now) }
     requires opens { IsOpen outside.old.desk }
     requires known { KnowsState outside.old.desk.store (state_of machine.state) }
-    ensures does { WithMeanings (λ meanings. Does line_octets outside.old outside.new (fault_of result)
-        (acts_in (stepped meanings machine.state outside.old.desk.store (kept.old ++ front.now)))) }
-    ensures next { IfOk result (λ next. WithMeanings (λ meanings. state_or_ended (state_behind next)
-        ≡ (stepped meanings machine.state outside.old.desk.store (kept.old ++ front.now)).state)) }
+    ensures does { WithOracles (λ oracles. Does line_octets outside.old outside.new (fault_of result)
+        (acts_in (stepped oracles machine.state outside.old.desk.store (kept.old ++ front.now)))) }
+    ensures next { IfOk result (λ next. WithOracles (λ oracles. state_or_ended (state_after next)
+        ≡ (stepped oracles machine.state outside.old.desk.store (kept.old ++ front.now)).state)) }
     ensures first { IfOk result (λ next. IsFirstNext next outside.new.desk) }
     ensures kept { IfOk result (λ next. kept.new ≡ []) }
     ensures keeps { Keeps outside.old outside.new (fault_of result) }
@@ -413,26 +413,26 @@ fn take_line<W: Wire, J: Keeper, C: Clock>(
     kept: &mut Octets,
     piece: &[u8],
     outside: &mut Outside<W, J, C>,
-) -> Result<Came<SmtpMachine>, Fault>
+) -> Result<Advance<SmtpMachine>, Fault>
     requires some { 0 < length piece.now }
     requires lines { ReadsLines machine.state }
     requires opens { IsOpen outside.old.desk }
     requires ready { SmtpReady machine kept.old outside.old.desk }
     ensures steps { Steps smtp_protocol SmtpStands outside.old outside.new machine kept.old kept.new piece.now result }
-    ensures used { IfOk result (λ came. (0 < came.used) × (came.used ≤ length piece.now)) }
-    ensures ready { IfOk result (λ came. IsReadyAfter SmtpReady came kept.new outside.new.desk) }
+    ensures used { IfOk result (λ advance. (0 < advance.used) × (advance.used ≤ length piece.now)) }
+    ensures ready { IfOk result (λ advance. IsReadyAfter SmtpReady advance kept.new outside.new.desk) }
     ensures keeps { Keeps outside.old outside.new (fault_of result) }
 {
     match find_line(kept.as_slice(), piece) {
         FoundLine::Whole(used) => {
             let (front, _) = piece.split_at(used);
             let next = take_whole(machine, kept, front, outside)?;
-            Ok(Came { next, used })
+            Ok(Advance { next, used })
         }
         FoundLine::TooLong => {
             drop(machine);
             outside.give(TOO_LONG)?;
-            Ok(Came {
+            Ok(Advance {
                 next: None,
                 used: piece.len(),
             })
@@ -442,7 +442,7 @@ fn take_line<W: Wire, J: Keeper, C: Clock>(
                 drop(machine);
                 return Err(Fault::Memory);
             };
-            Ok(Came {
+            Ok(Advance {
                 next: Some(machine),
                 used: piece.len(),
             })
@@ -470,7 +470,7 @@ impl Machine for SmtpMachine {
         kept: &mut Octets,
         piece: &[u8],
         outside: &mut Outside<W, J, C>,
-    ) -> Result<Came<Self>, Fault> {
+    ) -> Result<Advance<Self>, Fault> {
         let SmtpMachine { state, reader } = self;
         match state {
             SmtpState::Data(session) => take_data(session, reader, kept, piece, outside),
@@ -478,7 +478,7 @@ impl Machine for SmtpMachine {
         }
     }
 
-    ghost framed = { λ meanings are. framed_by meanings };
+    ghost framed = { λ oracles are. framed_by oracles };
 
     ghost waits = { waits_by };
 

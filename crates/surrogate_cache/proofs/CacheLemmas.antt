@@ -14,7 +14,7 @@ use Rattle.surrogate_cache.proofs.KeptEntries.{kept_ordered}
 
 kept_empty : (pool : PoolState) → pool.held ≡ [] → IsKept pool []
 unfolding IsDistinct
-kept_empty pool none = record { apart = tt; own = tt; each = tt; only = ap (λ (held : List Held). length held) none; in_use = ap blocks_in_use none; within = let zero_used : blocks_in_use pool.held ≡ 0 = ap blocks_in_use none in omega arith }
+kept_empty pool none = record { distinct = tt; own = tt; each = tt; only = ap (λ (held : List Held). length held) none; in_use = ap blocks_in_use none; within = let zero_used : blocks_in_use pool.held ≡ 0 = ap blocks_in_use none in omega arith }
 
 -- nothing is kept in an empty pool
 pub kept_none : (pool : PoolState) (order : LruCache ℕ ℕ) (places : ℕ) → pool.held ≡ [] → order ≡ lru_cache [] places → IsKept pool order.entries
@@ -106,7 +106,7 @@ pub cache_sound : (pool : PoolState) (blocks : ℕ) (order : LruCache ℕ ℕ) (
 cache_sound pool blocks order counts state is kept same few =
     subst IsCacheState is
     (record {
-      apart = subst (IsDistinct nat_eq) (sym (ids_at pool.held order.entries)) kept.apart;
+      distinct = subst (IsDistinct nat_eq) (sym (ids_at pool.held order.entries)) kept.distinct;
       stored = stored_at pool order.entries kept.each;
       blocks = let used = kept.in_use in let all = kept.within in omega arith;
       places = omega (arith, length-map order.entries (entry_at pool.held));

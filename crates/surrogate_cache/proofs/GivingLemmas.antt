@@ -6,28 +6,28 @@ use Rattle.mail_wire.specs.declared.outside.Failed.{Failed}
 use Rattle.mail_wire.specs.declared.outside.Failed.TheVariants.{Outside}
 use Rattle.mail_wire.specs.Causes.{HasCause, StaysSure}
 use Rattle.mail_wire.specs.Moves.{GiveNotes, Gives, GivesPrefix, GoesOn, HasWireCause}
-use Rattle.mail_wire.specs.Telling.{Telling}
+use Rattle.mail_wire.specs.WireState.{WireState}
 use Rattle.mail_wire.proofs.Moving.{give_gives, Gives-nil, Gives-trans, Gives-prefix, GivesPrefix-more, GoesOn-nil, GoesOn-trans, GoesOn-of}
 
 -- The first octets of the range were given, and the others stand from this place on.
-pub record HasGiven (before now : Telling) (all : List ℕ) (at len place left : ℕ) : Type 0 where
+pub record HasGiven (before now : WireState) (all : List ℕ) (at len place left : ℕ) : Type 0 where
   pub given : ℕ
   pub gives : Gives before now (take given (drop at all))
   pub goes : GoesOn before now
   pub place_is : place ≡ at + given
   pub whole : len ≡ given + left
 
-pub nothing_given : (wire : Telling) (all : List ℕ) (at len : ℕ) → HasGiven wire wire all at len at len
+pub nothing_given : (wire : WireState) (all : List ℕ) (at len : ℕ) → HasGiven wire wire all at len at len
 nothing_given wire all at len = record { given = 0; gives = Gives-nil wire; goes = GoesOn-nil wire; place_is = omega arith; whole = omega arith }
 
 -- a call of `give`, by what the wire says of it
-pub record HasCalled {T : Type 0} (before now : Telling) (result : Result T Failed) (octets : List ℕ) : Type 0 where
+pub record HasCalled {T : Type 0} (before now : WireState) (result : Result T Failed) (octets : List ℕ) : Type 0 where
   pub left : Keeps before.left now.left
   pub transcript : GiveNotes before.transcript now.transcript result octets
   pub cause : HasCause before.faults now.faults result
   pub sure : StaysSure before.never_fails now.never_fails result
 
-call_cause : {T : Type 0} (before now : Telling) (result : Result T Failed) (octets : List ℕ) → HasCalled before now result octets → HasWireCause before now result Outside
+call_cause : {T : Type 0} (before now : WireState) (result : Result T Failed) (octets : List ℕ) → HasCalled before now result octets → HasWireCause before now result Outside
 call_cause before now result octets called = record { later = called.cause.later; rose = called.cause.outside; sure = called.sure }
 
 -- of the range the next octets are the first ones of a run that stands at their place
@@ -49,7 +49,7 @@ piece_range all run piece at given place left place_is is =
     is.piece_is ∙ next_piece all run at given place (min (length run) left) place_is is.run_is (omega arith) ∙ ap (λ n. take n (drop given (drop at all))) (sym size)
 
 -- such a piece was given
-pub more_given : {T : Type 0} (before middle now : Telling) (all run piece : List ℕ) (at len place left : ℕ) (done : T) → HasGiven before middle all at len place left
+pub more_given : {T : Type 0} (before middle now : WireState) (all run piece : List ℕ) (at len place left : ℕ) (done : T) → HasGiven before middle all at len place left
     → IsPieceOf all run piece place left → HasCalled middle now (Ok done) piece → HasGiven before now all at len (place + length piece) (left - length piece)
 more_given before middle now all run piece at len place left done has is called =
     let whole = has.whole in
@@ -66,7 +66,7 @@ more_given before middle now all run piece at len place left done has is called 
     }
 
 -- where the call failed, a prefix of the range was given
-pub prefix_given : {T : Type 0} (before middle now : Telling) (all run piece : List ℕ) (at len place left : ℕ) (failed : Failed) → HasGiven before middle all at len place left
+pub prefix_given : {T : Type 0} (before middle now : WireState) (all run piece : List ℕ) (at len place left : ℕ) (failed : Failed) → HasGiven before middle all at len place left
     → IsPieceOf all run piece place left → HasCalled {T = T} middle now (Err failed) piece → GivesPrefix before now (take len (drop at all))
 prefix_given {T = T} before middle now all run piece at len place left failed has is called =
     let whole = has.whole in

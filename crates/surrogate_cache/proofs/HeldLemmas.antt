@@ -17,8 +17,8 @@ stored_under-without [] id other differ = refl
 stored_under-without (entry ∷ entries) id other differ =
     elim (eqb_tells id entry.id) [
       | inl same ↦
-          let apart : other ≢ entry.id = λ is. differ (is ∙ sym same.1) in
-          rw same.0 (sym (ap (λ (b : Bool). if b then Some entry.stored else stored_under entries other) (ne_eqb other entry.id apart)))
+          let distinct : other ≢ entry.id = λ is. differ (is ∙ sym same.1) in
+          rw same.0 (sym (ap (λ (b : Bool). if b then Some entry.stored else stored_under entries other) (ne_eqb other entry.id distinct)))
       | inr other_id ↦
           rw other_id.0 (ap (λ (rest : Option (List ℕ)). if nat_eq other entry.id then Some entry.stored else rest) (stored_under-without entries id other differ))
     ]
@@ -28,15 +28,15 @@ within_holds : (P : List ℕ → Type 0) (entries : List Entry) (blocks places i
 within_holds P [] blocks places id holds = tt
 within_holds P (entry ∷ entries) blocks places id holds =
     elim (first_fits blocks places entry) [
-      | inl room ↦ rw room.0 (behind P (nat_eq id entry.id) entry.stored (stored_under entries id) (stored_under (entries_within (blocks - entry_blocks entry) (places - 1) entries) id) holds
+      | inl room ↦ rw room.0 (following P (nat_eq id entry.id) entry.stored (stored_under entries id) (stored_under (entries_within (blocks - entry_blocks entry) (places - 1) entries) id) holds
           (within_holds P entries (blocks - entry_blocks entry) (places - 1) id))
       | inr none ↦ rw none.0 tt
     ]
   where
-    behind : (P : List ℕ → Type 0) (b : Bool) (stored : List ℕ) (old new : Option (List ℕ)) → IfSome (if b then Some stored else old) P → (IfSome old P → IfSome new P)
+    following : (P : List ℕ → Type 0) (b : Bool) (stored : List ℕ) (old new : Option (List ℕ)) → IfSome (if b then Some stored else old) P → (IfSome old P → IfSome new P)
         → IfSome (if b then Some stored else new) P
-    behind P true stored old new holds keeps = holds
-    behind P false stored old new holds keeps = keeps holds
+    following P true stored old new holds keeps = holds
+    following P false stored old new holds keeps = keeps holds
 
 -- an entry before others
 first_holds : (P : ℕ → List ℕ → Type 0) (id : ℕ) (stored : List ℕ) (entries : List Entry) → P id stored → ((other : ℕ) → other ≢ id → IfSome (stored_under entries other) (P other))

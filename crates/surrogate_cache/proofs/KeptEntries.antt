@@ -14,7 +14,7 @@ use Rattle.block_pool.specs.Pool.{Held, PoolState, HoldsUnder, IsHeldUnder, Puts
 use Rattle.block_pool.proofs.PoolLemmas.{put_holds, put_keeps, give_keeps}
 use Rattle.surrogate_cache.specs.Caching.{Entry, IsStoredForm, entry_blocks, stored_under}
 use Rattle.surrogate_cache.specs.private.Kept.{octets_at, entry_at, entries_at, IsKeptAt, IsKept}
-use Rattle.surrogate_cache.proofs.PoolPlaces.{octets_at-beside, octets_at-live, octets_at-apart, once_put}
+use Rattle.surrogate_cache.proofs.PoolPlaces.{octets_at-beside, octets_at-live, octets_at-distinct, once_put}
 use Rattle.lru.specs.LruCache.{LruCache, lru_cache, put_entries}
 use Rattle.surrogate_cache.proofs.OrderLemmas.{missed_apart, missed_lookup, put_missed}
 
@@ -27,8 +27,8 @@ abbrev HaveSame : List Held → List Held → List (ℕ × ℕ) → Type 0
 HaveSame old new pairs = AllByRecursion (λ (pair : ℕ × ℕ). octets_at new pair.1 ≡ octets_at old pair.1) pairs
 
 others_own : (place : ℕ) (pairs : List (ℕ × ℕ)) → AllByRecursion (λ (key : ℕ). nat_eq place key ≡ false) (values_of pairs) → AreOthers place pairs
-others_own place [] apart = tt
-others_own place (pair ∷ pairs) apart = (λ same. eqb-false place pair.1 apart.0 (sym same), others_own place pairs apart.1)
+others_own place [] distinct = tt
+others_own place (pair ∷ pairs) distinct = (λ same. eqb-false place pair.1 distinct.0 (sym same), others_own place pairs distinct.1)
 
 own_others : (place : ℕ) (pairs : List (ℕ × ℕ)) → AreOthers place pairs → AllByRecursion (λ (key : ℕ). nat_eq place key ≡ false) (values_of pairs)
 own_others place [] others = tt
@@ -93,7 +93,7 @@ length_puts old new front back x was becomes =
 pub kept_ordered : (pool : PoolState) (pairs others : List (ℕ × ℕ)) → IsPermutation pairs others → IsKept pool pairs → IsKept pool others
 kept_ordered pool pairs others moved kept =
     record {
-      apart = IsDistinct-IsPermutation nat_eq nat_eq_equiv.symm (keys_of pairs) (keys_of others) (IsPermutation-map (λ (pair : ℕ × ℕ). pair.0) pairs others moved) kept.apart;
+      distinct = IsDistinct-IsPermutation nat_eq nat_eq_equiv.symm (keys_of pairs) (keys_of others) (IsPermutation-map (λ (pair : ℕ × ℕ). pair.0) pairs others moved) kept.distinct;
       own = IsDistinct-IsPermutation nat_eq nat_eq_equiv.symm (values_of pairs) (values_of others) (IsPermutation-map (λ (pair : ℕ × ℕ). pair.1) pairs others moved) kept.own;
       each = recursion_from_All (IsKeptAt pool) others (All-permutation (IsKeptAt pool) pairs others moved (All-from_recursion (IsKeptAt pool) pairs kept.each));
       only = kept.only ∙ sym (length_permutation pairs others moved);
@@ -120,7 +120,7 @@ kept_put old new pairs id place stored kept missed fresh puts is_stored fits =
     ∙ ap (λ (more : List Entry). (record { id = id; stored = stored }) ∷ more) (entries_same old.held new.held pairs same) in
     record {
       kept = record {
-        apart = IsDistinct-cons nat_eq id (keys_of pairs) (missed_apart pairs id missed) kept.apart;
+        distinct = IsDistinct-cons nat_eq id (keys_of pairs) (missed_apart pairs id missed) kept.distinct;
         own = IsDistinct-cons nat_eq place (values_of pairs) (own_others place pairs others) kept.own;
         each = (
           record {
@@ -157,7 +157,7 @@ kept_taken old new pairs id place kept once (octets, puts) =
     let entries = entries_same old.held new.held pairs same in
     record {
       kept = record {
-        apart = IsDistinct-tail nat_eq id (keys_of pairs) kept.apart;
+        distinct = IsDistinct-tail nat_eq id (keys_of pairs) kept.distinct;
         own = IsDistinct-tail nat_eq place (values_of pairs) kept.own;
         each = each_same old new place (give_keeps old new place (octets, puts)) pairs others same kept.each.1;
         only = omega (arith, length_puts new.held old.held puts.front puts.back x puts.was puts.becomes, kept.only);
@@ -200,7 +200,7 @@ pub kept_dropped : (old new : PoolState) (pairs rest : List (ℕ × ℕ)) (pair 
     → slice_get pairs (length pairs - 1) ≡ Some pair → rest ≡ take (length pairs - 1) pairs → TakesBack old new pair.1 → HasDropped old new pairs rest
 kept_dropped old new pairs rest pair kept whole is rest_is takes =
     let front = take (length pairs - 1) pairs in
-    let taken = kept_taken old new front pair.0 pair.1 (last_first old pairs pair is kept) (λ octets holds. octets_at-apart old.held whole.apart pair.1 octets holds) takes in
+    let taken = kept_taken old new front pair.0 pair.1 (last_first old pairs pair is kept) (λ octets holds. octets_at-distinct old.held whole.distinct pair.1 octets holds) takes in
     let within = slice_get_within pairs (length pairs - 1) pair is in
     record {
       kept = subst (IsKept new) (sym rest_is) taken.kept;
@@ -227,13 +227,13 @@ kept_back old new last pairs id place stored kept missed fresh puts is_stored fi
     let put = kept_put old new pairs id place stored kept (missed_lookup old.held pairs id missed) fresh puts is_stored fits in
     let here : octets_at new.held place ≡ stored = ap (λ (entries : List Entry). first_stored entries) put.entries in
     let taken = kept_taken new last pairs id place put.kept (λ octets holds. once_put old new place stored octets puts fresh holds ∙ sym here) takes in
-    let rest : entries_at new.held pairs ≡ entries_at old.held pairs = ap (λ (entries : List Entry). behind_first entries) put.entries in
+    let rest : entries_at new.held pairs ≡ entries_at old.held pairs = ap (λ (entries : List Entry). after_first entries) put.entries in
     (taken.kept, taken.entries ∙ rest)
   where
     first_stored : List Entry → List ℕ
     first_stored [] = []
     first_stored (entry ∷ entries) = entry.stored
 
-    behind_first : List Entry → List Entry
-    behind_first [] = []
-    behind_first (entry ∷ entries) = entries
+    after_first : List Entry → List Entry
+    after_first [] = []
+    after_first (entry ∷ entries) = entries

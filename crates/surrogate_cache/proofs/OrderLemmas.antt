@@ -81,7 +81,7 @@ IsPermutation-found [] id place found = cc
 IsPermutation-found (pair ∷ pairs) id place found =
     elim (eqb_tells id pair.0) [
       | inl same ↦ let there = rw same.0 at found in rw same.0 (first pair pairs id place same.1 there)
-      | inr differ ↦ rw differ.0 (behind pair pairs id place (IsPermutation-found pairs id place (rw differ.0 at found)))
+      | inr differ ↦ rw differ.0 (following pair pairs id place (IsPermutation-found pairs id place (rw differ.0 at found)))
     ]
   where
     first : (pair : ℕ × ℕ) (pairs : List (ℕ × ℕ)) (id place : ℕ) → id ≡ pair.0 → Some pair.1 ≡ Some place → IsPermutation ((id, place) ∷ pairs) (pair ∷ pairs)
@@ -90,9 +90,9 @@ IsPermutation-found (pair ∷ pairs) id place found =
         let values : value ≡ place = cc in
         rw (keys, values) (IsPermutation-refl ((id, place) ∷ pairs))
 
-    behind : (pair : ℕ × ℕ) (pairs : List (ℕ × ℕ)) (id place : ℕ) → IsPermutation ((id, place) ∷ remove_entry (nat_eq id) pairs) pairs
+    following : (pair : ℕ × ℕ) (pairs : List (ℕ × ℕ)) (id place : ℕ) → IsPermutation ((id, place) ∷ remove_entry (nat_eq id) pairs) pairs
         → IsPermutation ((id, place) ∷ pair ∷ remove_entry (nat_eq id) pairs) (pair ∷ pairs)
-    behind pair pairs id place rest =
+    following pair pairs id place rest =
         IsPermutation-trans _ _ _
         (IsPermutation-swap ((id, place) ∷ pair ∷ remove_entry (nat_eq id) pairs) (pair ∷ (id, place) ∷ remove_entry (nat_eq id) pairs) 0 1 (omega arith) (omega arith) refl)
         (IsPermutation-cons pair _ _ rest)

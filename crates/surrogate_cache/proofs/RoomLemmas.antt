@@ -59,14 +59,14 @@ pub entries_within-missed : (entries : List Entry) (blocks places id : ℕ) → 
 entries_within-missed [] blocks places id missed = refl
 entries_within-missed (entry ∷ entries) blocks places id missed =
     elim (first_fits blocks places entry) [
-      | inl room ↦ rw room.0 (behind (nat_eq id entry.id) entry.stored (stored_under entries id) (stored_under (entries_within (blocks - entry_blocks entry) (places - 1) entries) id) missed
+      | inl room ↦ rw room.0 (following (nat_eq id entry.id) entry.stored (stored_under entries id) (stored_under (entries_within (blocks - entry_blocks entry) (places - 1) entries) id) missed
           (entries_within-missed entries (blocks - entry_blocks entry) (places - 1) id))
       | inr none ↦ rw none.0 refl
     ]
   where
-    behind : (b : Bool) (stored : List ℕ) (old new : Option (List ℕ)) → (if b then Some stored else old) ≡ None → (old ≡ None → new ≡ None) → (if b then Some stored else new) ≡ None
-    behind true stored old new missed same = missed
-    behind false stored old new missed same = same missed
+    following : (b : Bool) (stored : List ℕ) (old new : Option (List ℕ)) → (if b then Some stored else old) ≡ None → (old ≡ None → new ≡ None) → (if b then Some stored else new) ≡ None
+    following true stored old new missed same = missed
+    following false stored old new missed same = same missed
 
 -- the same, by how many there are but for the last
 entries_within-fewer : (entries : List Entry) (n blocks places : ℕ) → n + 1 ≡ length entries → ((sum_by entry_blocks entries ≤ blocks) × (length entries ≤ places) → ⊥)

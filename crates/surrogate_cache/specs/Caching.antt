@@ -129,7 +129,7 @@ LosesFetch msg old new id = LosesHit old new id ⊎ LosesBuild msg old new id
 
 -- No message has two entries, each entry is a stored rope, and there are no more blocks and entries than there may be.
 pub record IsCacheState (state : CacheState) : Type 0 where
-  pub apart : IsDistinct nat_eq (map (λ (entry : Entry). entry.id) state.entries)
+  pub distinct : IsDistinct nat_eq (map (λ (entry : Entry). entry.id) state.entries)
   pub stored : AllByRecursion (λ (entry : Entry). IsStoredForm entry.stored) state.entries
   pub blocks : sum_by entry_blocks state.entries ≤ state.blocks
   pub places : length state.entries ≤ state.places

@@ -17,8 +17,8 @@ pub fn give_range<W: Wire>(
 ) -> Result<(), Failed>
     requires shown { IsShownOf msg.now shown.now }
     requires within { at + len ≤ length (shown_octets msg.now shown.now) }
-    ensures gives { GivesOrFails (W.tells wire.old) (W.tells wire.new) result (take len (drop at (shown_octets msg.now shown.now))) }
-    ensures cause { HasWireCause (W.tells wire.old) (W.tells wire.new) result Failed.Outside }
+    ensures gives { GivesOrFails (W.observed wire.old) (W.observed wire.new) result (take len (drop at (shown_octets msg.now shown.now))) }
+    ensures cause { HasWireCause (W.observed wire.old) (W.observed wire.new) result Failed.Outside }
 {
     let mut place = at;
     let mut left = len;

@@ -60,10 +60,10 @@ pub record IsMadeSoFar (msg : List ℕ) (entities : List Entity) (i at : ℕ) (m
   pub counted : WeighsChanged one (InEntity IsServedField msg) msg (take i entities) made.rewritten
   pub sized : WeighsChanged length (InEntity IsServedField msg) msg (take i entities) made.fresh
   pub before : AreInOrder 0 at (take i entities)
-  pub behind : AreInOrder at (length msg) (drop i entities)
+  pub following : AreInOrder at (length msg) (drop i entities)
 
 pub none_made : (msg : List ℕ) (entities : List Entity) (made : Written) → HasTree msg entities → made.octets ≡ [] → made.rewritten ≡ 0 → made.fresh ≡ 0 → IsMadeSoFar msg entities 0 0 made
-none_made msg entities made tree none zero no_new = record { blocks = none ∙ sym (nothing_between msg 0); counted = zero; sized = no_new; before = omega arith; behind = tree_order msg entities tree }
+none_made msg entities made tree none zero no_new = record { blocks = none ∙ sym (nothing_between msg 0); counted = zero; sized = no_new; before = omega arith; following = tree_order msg entities tree }
 
 -- where the next entity's block stands
 pub record HasNextBlock (msg : List ℕ) (entities : List Entity) (i at : ℕ) (entity : Entity) : Type 0 where
@@ -76,7 +76,7 @@ pub next_block : (msg : List ℕ) (entities : List Entity) (i at : ℕ) (made : 
     → HasNextBlock msg entities i at entity
 next_block msg entities i at made entity inside is so_far =
     let order : AreInOrder at (length msg) (entity ∷ drop (i + 1) entities) =
-    subst (λ es. AreInOrder at (length msg) es) (drop_more entities i entity inside ∙ ap (λ e. e ∷ drop (i + 1) entities) (sym is)) so_far.behind in
+    subst (λ es. AreInOrder at (length msg) es) (drop_more entities i entity inside ∙ ap (λ e. e ∷ drop (i + 1) entities) (sym is)) so_far.following in
     let end = order_le entity.block.end (length msg) (drop (i + 1) entities) order.2 in
     let first = order.0 in let second = order.1 in
     record { from = first; order = second; fits = omega arith; rest = order.2 }
@@ -94,7 +94,7 @@ made_more msg entities i at made middle new entity inside is so_far copies adds 
       counted = rw (first, count) (weighs_more one (InEntity IsServedField msg) msg (take i entities) entity adds.fields made.rewritten so_far.counted adds.each);
       sized = rw (first, size) (weighs_more length (InEntity IsServedField msg) msg (take i entities) entity adds.fields made.fresh so_far.sized adds.each);
       before = rw first (order_push 0 at (take i entities) entity so_far.before next.from next.order);
-      behind = next.rest;
+      following = next.rest;
     }
   where
     order_push : (from at : ℕ) (entities : List Entity) (entity : Entity) → AreInOrder from at entities → at ≤ entity.at → entity.at ≤ entity.block.end → AreInOrder from entity.block.end (entities ++ entity ∷ [])
@@ -106,7 +106,7 @@ pub all_made : (msg : List ℕ) (entities items : List Entity) (i at : ℕ) (mad
 all_made msg entities items i at made new same all so_far copies =
     let whole : take i items ≡ entities = take_all i items all ∙ same in
     let none : drop i items ≡ [] = drop_all i items all in
-    let le : at ≤ length msg = order_le at (length msg) (drop i items) so_far.behind in
+    let le : at ≤ length msg = order_le at (length msg) (drop i items) so_far.following in
     record {
       blocks = subst (λ es. RewritesBlocks (InEntity IsServedField msg) msg 0 (length msg) es new.octets) whole
           (rw copies.octets (blocks_further (InEntity IsServedField msg) msg 0 at (length msg) (take i items) made.octets so_far.before le so_far.blocks));

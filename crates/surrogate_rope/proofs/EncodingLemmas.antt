@@ -27,9 +27,9 @@ one_first : (t : TokenValue) (ts : List TokenValue) (runs : List (List TokenValu
     → (t ∷ ts) ∷ runs ≡ (atom ∷ []) ∷ []
 one_first t [] runs atom all e =
     let same : t ≡ atom = cc e in
-    let behind : flat_map words_of runs ≡ [] = cc e in
-    rw (same, no_runs runs all behind) refl
-one_first t (u ∷ us) runs atom all e = let behind : u ∷ (us ++ flat_map words_of runs) ≡ [] = cc e in cc behind
+    let following : flat_map words_of runs ≡ [] = cc e in
+    rw (same, no_runs runs all following) refl
+one_first t (u ∷ us) runs atom all e = let following : u ∷ (us ++ flat_map words_of runs) ≡ [] = cc e in cc following
 
 -- runs with one word in all are one run of it
 one_run : (runs : List (List TokenValue)) (atom : TokenValue) → AllByRecursion IsRunOfTokens runs → flat_map words_of runs ≡ atom ∷ [] → runs ≡ (atom ∷ []) ∷ []

@@ -12,7 +12,7 @@ use Rattle.surrogate_rope.specs.Ropes.{RopeValue, RopePiece, Range, New, range_s
 use Rattle.surrogate_rope.specs.Stored.{number, parent_number, shape_octet, stored_piece, stored_entity, IsPieceSmall, HasSmallParent, IsEntitySmall, HasFewPieces, IsStoredRope}
 use Rattle.surrogate_rope.specs.private.Storing.{HasPieceAt, HasEntityAt, HasPiecesAt, HasEntitiesAt}
 use Rattle.surrogate_rope.proofs.PieceLemmas.{range_size-push}
-use Rattle.surrogate_rope.proofs.StoredLemmas.{behind, first_there, number_read, number_fits, entity_size}
+use Rattle.surrogate_rope.proofs.StoredLemmas.{following, first_there, number_read, number_fits, entity_size}
 
 -- ---- one piece
 
@@ -35,9 +35,9 @@ pub record IsNewThere (octets : List ℕ) (at : ℕ) (piece : RopePiece) (rest :
 pub range_there : (octets : List ℕ) (at kind : ℕ) (piece : RopePiece) (rest : List ℕ) → drop at octets ≡ stored_piece piece ++ rest → kind ≡ get_or octets at 0 → kind ≡ 0 → IsRangeThere octets at piece rest
 range_there octets at kind (Range span) rest there is is_zero =
     let first : drop (at + 1) octets ≡ number span.at ++ (number span.len ++ rest) =
-    behind octets at (0 ∷ []) ((number span.at ++ number span.len) ++ rest) (at + 1) there refl ∙ append_assoc (number span.at) (number span.len) rest in
-    let second = behind octets (at + 1) (number span.at) (number span.len ++ rest) (at + 9) first (omega arith) in
-    record { span = span; piece_is = refl; first = first; second = second; end = behind octets (at + 9) (number span.len) rest (at + 17) second (omega arith) }
+    following octets at (0 ∷ []) ((number span.at ++ number span.len) ++ rest) (at + 1) there refl ∙ append_assoc (number span.at) (number span.len) rest in
+    let second = following octets (at + 1) (number span.at) (number span.len ++ rest) (at + 9) first (omega arith) in
+    record { span = span; piece_is = refl; first = first; second = second; end = following octets (at + 9) (number span.len) rest (at + 17) second (omega arith) }
 range_there octets at kind (New text) rest there is is_zero =
     absurd (omega (arith, is_zero, first_there octets at 1 kind ((number (length text) ++ text) ++ rest) there is))
 
@@ -45,9 +45,9 @@ pub new_there : (octets : List ℕ) (at kind : ℕ) (piece : RopePiece) (rest : 
 new_there octets at kind (Range span) rest there is some = absurd (some (first_there octets at 0 kind ((number span.at ++ number span.len) ++ rest) there is))
 new_there octets at kind (New text) rest there is some =
     let first : drop (at + 1) octets ≡ number (length text) ++ (text ++ rest) =
-    behind octets at (1 ∷ []) ((number (length text) ++ text) ++ rest) (at + 1) there refl ∙ append_assoc (number (length text)) text rest in
-    let second = behind octets (at + 1) (number (length text)) (text ++ rest) (at + 9) first (omega arith) in
-    record { text = text; piece_is = refl; first = first; second = second; end = behind octets (at + 9) text rest (at + 9 + length text) second refl }
+    following octets at (1 ∷ []) ((number (length text) ++ text) ++ rest) (at + 1) there refl ∙ append_assoc (number (length text)) text rest in
+    let second = following octets (at + 1) (number (length text)) (text ++ rest) (at + 9) first (omega arith) in
+    record { text = text; piece_is = refl; first = first; second = second; end = following octets (at + 9) text rest (at + 9 + length text) second refl }
 
 -- a number stands behind the first octet in each case
 pub record HasNumber (octets : List ℕ) (at : ℕ) : Type 0 where
@@ -60,13 +60,13 @@ piece_number octets at (Range span) rest there =
     record {
       n = span.at;
       rest = number span.len ++ rest;
-      there = behind octets at (0 ∷ []) ((number span.at ++ number span.len) ++ rest) (at + 1) there refl ∙ append_assoc (number span.at) (number span.len) rest;
+      there = following octets at (0 ∷ []) ((number span.at ++ number span.len) ++ rest) (at + 1) there refl ∙ append_assoc (number span.at) (number span.len) rest;
     }
 piece_number octets at (New text) rest there =
     record {
       n = length text;
       rest = text ++ rest;
-      there = behind octets at (1 ∷ []) ((number (length text) ++ text) ++ rest) (at + 1) there refl ∙ append_assoc (number (length text)) text rest;
+      there = following octets at (1 ∷ []) ((number (length text) ++ text) ++ rest) (at + 1) there refl ∙ append_assoc (number (length text)) text rest;
     }
 
 -- what is read of a piece is the piece
@@ -99,7 +99,7 @@ new_fits octets at kind first is some first_is loaded has =
     let fits : IsPieceSmall (New made.text) = subst IsPieceSmall made.piece_is has.small in
     let first_same = number_read octets (at + 1) (length made.text) (made.text ++ has.rest) first made.first fits first_is in
     let front = piece_number octets at has.piece has.rest has.there in
-    let behind_front = number_fits octets (at + 1) front.n front.rest front.there in
+    let after_front = number_fits octets (at + 1) front.n front.rest front.there in
     omega (arith, first_same, ap length made.second, length-drop (at + 9) octets, length-append made.text has.rest)
 
 pub range_fits : (octets : List ℕ) (at kind : ℕ) → kind ≡ get_or octets at 0 → kind ≡ 0 → (loaded : List RopePiece) → HasPieceAt octets at loaded → at + 9 + 8 ≤ length octets
@@ -143,11 +143,11 @@ entity_there octets at entity rest there =
     let parent : drop at octets ≡ a ++ (b ++ (c ++ (d ++ (e ++ (shape_octet entity.shape ∷ rest))))) =
     there ∙ append_assoc a (b ++ (c ++ (d ++ (e ++ last)))) rest
     ∙ ap (λ text. a ++ text) (append_assoc b (c ++ (d ++ (e ++ last))) rest ∙ ap (λ text. b ++ text) (append_assoc c (d ++ (e ++ last)) rest ∙ ap (λ text. c ++ text) (append_assoc d (e ++ last) rest ∙ ap (λ text. d ++ text) (append_assoc e last rest)))) in
-    let depth = behind octets at a (b ++ (c ++ (d ++ (e ++ (shape_octet entity.shape ∷ rest))))) (at + 8) parent refl in
-    let begin = behind octets (at + 8) b (c ++ (d ++ (e ++ (shape_octet entity.shape ∷ rest)))) (at + 16) depth (omega arith) in
-    let body = behind octets (at + 16) c (d ++ (e ++ (shape_octet entity.shape ∷ rest))) (at + 24) begin (omega arith) in
-    let end = behind octets (at + 24) d (e ++ (shape_octet entity.shape ∷ rest)) (at + 32) body (omega arith) in
-    record { parent = parent; depth = depth; begin = begin; body = body; end = end; shape = behind octets (at + 32) e (shape_octet entity.shape ∷ rest) (at + 40) end (omega arith) }
+    let depth = following octets at a (b ++ (c ++ (d ++ (e ++ (shape_octet entity.shape ∷ rest))))) (at + 8) parent refl in
+    let begin = following octets (at + 8) b (c ++ (d ++ (e ++ (shape_octet entity.shape ∷ rest)))) (at + 16) depth (omega arith) in
+    let body = following octets (at + 16) c (d ++ (e ++ (shape_octet entity.shape ∷ rest))) (at + 24) begin (omega arith) in
+    let end = following octets (at + 24) d (e ++ (shape_octet entity.shape ∷ rest)) (at + 32) body (omega arith) in
+    record { parent = parent; depth = depth; begin = begin; body = body; end = end; shape = following octets (at + 32) e (shape_octet entity.shape ∷ rest) (at + 40) end (omega arith) }
 
 pub no_parent : (n : ℕ) → n ≡ 0 → (parent : Option ℕ) → n ≡ parent_number parent → None ≡ parent
 no_parent n is_zero None is = refl
@@ -268,7 +268,7 @@ entity_loaded octets from count i at loaded one is inside loads = λ entities ha
     let rest : List ℕ = flat_map stored_entity (drop (i + 1) entities) ++ [] in
     let there = next_there stored_entity octets entities at i no_entity [] within so_far.1 in
     let same = loads (get_or entities i no_entity) rest there (nth_all IsEntitySmall entities i no_entity within has.small) in
-    (ap (λ last. loaded ++ last ∷ []) same ∙ ap (λ front. front ++ get_or entities i no_entity ∷ []) so_far.0 ∙ sym (take_more entities i no_entity within), behind octets at (stored_entity (get_or entities i no_entity)) rest (at + 41) there refl)
+    (ap (λ last. loaded ++ last ∷ []) same ∙ ap (λ front. front ++ get_or entities i no_entity ∷ []) so_far.0 ∙ sym (take_more entities i no_entity within), following octets at (stored_entity (get_or entities i no_entity)) rest (at + 41) there refl)
 
 pub entities_loaded : (octets : List ℕ) (from count i at : ℕ) (loaded : List Outline) → EntitiesLoaded octets from count i loaded at → count ≤ i → (entities : List Outline) → HasEntitiesAt octets from count entities → loaded ≡ entities
 entities_loaded octets from count i at loaded is all entities has = (is entities has).0 ∙ take_all i entities (omega (arith, has.count_is))
@@ -286,9 +286,9 @@ pub form_there : (octets : List ℕ) (rope : RopeValue) → IsStoredRope octets 
 form_there octets rope is =
     let back : List ℕ = flat_map stored_piece rope.pieces ++ flat_map stored_entity rope.entities in
     let first : drop 0 octets ≡ number (length rope.pieces) ++ (number (length rope.entities) ++ (number rope.rewritten ++ back)) = none octets ∙ is.form in
-    let second = behind octets 0 (number (length rope.pieces)) (number (length rope.entities) ++ (number rope.rewritten ++ back)) 8 first refl in
-    let third = behind octets 8 (number (length rope.entities)) (number rope.rewritten ++ back) 16 second refl in
-    record { pieces_count = first; entities_count = second; rewritten = third; pieces = behind octets 16 (number rope.rewritten) back 24 third refl }
+    let second = following octets 0 (number (length rope.pieces)) (number (length rope.entities) ++ (number rope.rewritten ++ back)) 8 first refl in
+    let third = following octets 8 (number (length rope.entities)) (number rope.rewritten ++ back) 16 second refl in
+    record { pieces_count = first; entities_count = second; rewritten = third; pieces = following octets 16 (number rope.rewritten) back 24 third refl }
   where
     none : (xs : List ℕ) → drop 0 xs ≡ xs
     none [] = refl

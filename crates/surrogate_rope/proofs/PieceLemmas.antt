@@ -142,24 +142,24 @@ whole_range octets msg pieces i piece within inside is old = go pieces i within 
     go (first ∷ pieces) (suc i) within inside is = go pieces i within.1 (omega (arith, inside)) is
 
 -- the piece before the first one that begins behind the place
-pub whole_number : (octets : List ℕ) (pieces : List Piece) (size place behind number : ℕ) → HoldsPieces octets pieces size → place < size_of (pieces_of octets pieces) → behind ≤ length pieces
-    → ((i : ℕ) (d : Piece) → 0 ≤ i → i < behind → nat_le (get_or pieces i d).offset place ≡ true) → ((i : ℕ) (d : Piece) → behind ≤ i → i < length pieces → nat_le (get_or pieces i d).offset place ≡ false)
-    → number ≡ behind - 1 → IsInPiece (pieces_of octets pieces) place number
-whole_number octets [] size place behind number has inside few low high is = absurd (omega (arith, inside))
+pub whole_number : (octets : List ℕ) (pieces : List Piece) (size place following number : ℕ) → HoldsPieces octets pieces size → place < size_of (pieces_of octets pieces) → following ≤ length pieces
+    → ((i : ℕ) (d : Piece) → 0 ≤ i → i < following → nat_le (get_or pieces i d).offset place ≡ true) → ((i : ℕ) (d : Piece) → following ≤ i → i < length pieces → nat_le (get_or pieces i d).offset place ≡ false)
+    → number ≡ following - 1 → IsInPiece (pieces_of octets pieces) place number
+whole_number octets [] size place following number has inside few low high is = absurd (omega (arith, inside))
 whole_number octets (piece ∷ pieces) size place zero number has inside few low high is =
     absurd (omega (arith, leb-false piece.offset place (high 0 piece (omega arith) (omega arith)), has.placed.0.offset))
-whole_number octets (piece ∷ pieces) size place (suc behind) number has inside few low high is = record {
+whole_number octets (piece ∷ pieces) size place (suc following) number has inside few low high is = record {
   inside = omega (arith, is, few, length-map (piece ∷ pieces) (piece_of octets));
-  before = let same : number ≡ behind = omega (arith, is) in
-      rw same (omega (arith, leb-true (get_or (piece ∷ pieces) behind piece).offset place (low behind piece (omega arith) (omega arith)), piece_offset octets 0 (piece ∷ pieces) size behind piece has.placed (omega (arith, few))));
-  behind = let same : number + 1 ≡ suc behind = omega (arith, is) in rw same (next (cases_lt (suc behind) (length (piece ∷ pieces))));
+  before = let same : number ≡ following = omega (arith, is) in
+      rw same (omega (arith, leb-true (get_or (piece ∷ pieces) following piece).offset place (low following piece (omega arith) (omega arith)), piece_offset octets 0 (piece ∷ pieces) size following piece has.placed (omega (arith, few))));
+  following = let same : number + 1 ≡ suc following = omega (arith, is) in rw same (next (cases_lt (suc following) (length (piece ∷ pieces))));
 }
   where
-    next : (suc behind < length (piece ∷ pieces)) ⊎ (length (piece ∷ pieces) ≤ suc behind) → place < size_of (take (suc behind) (pieces_of octets (piece ∷ pieces)))
+    next : (suc following < length (piece ∷ pieces)) ⊎ (length (piece ∷ pieces) ≤ suc following) → place < size_of (take (suc following) (pieces_of octets (piece ∷ pieces)))
     next (inl more) =
-        omega (arith, leb-false (get_or (piece ∷ pieces) (suc behind) piece).offset place (high (suc behind) piece (omega arith) more), piece_offset octets 0 (piece ∷ pieces) size (suc behind) piece has.placed more)
+        omega (arith, leb-false (get_or (piece ∷ pieces) (suc following) piece).offset place (high (suc following) piece (omega arith) more), piece_offset octets 0 (piece ∷ pieces) size (suc following) piece has.placed more)
     next (inr last) =
-        omega (arith, inside, ap size_of (take_all (suc behind) (pieces_of octets (piece ∷ pieces)) (omega (arith, last, length-map (piece ∷ pieces) (piece_of octets)))))
+        omega (arith, inside, ap size_of (take_all (suc following) (pieces_of octets (piece ∷ pieces)) (omega (arith, last, length-map (piece ∷ pieces) (piece_of octets)))))
 
 -- ---- a piece more
 
@@ -342,7 +342,7 @@ piece_run msg pieces place number from d run within is from_is run_is =
     let before = is.before in
     let text_size = piece_length msg (get_or pieces number d) (nth_within pieces number is.inside within) in
     let on = ap (λ n. size_of (take n pieces)) (let same : number + 1 ≡ suc number = omega arith in same) in
-    let inside : from < length text = omega (arith, is.behind, before, from_is, text_size, size-more pieces number is.inside, on) in
+    let inside : from < length text = omega (arith, is.following, before, from_is, text_size, size-more pieces number is.inside, on) in
     let run_size : length run ≡ length text - from = ap length run_is ∙ length-drop from text in
     let next : drop begin all ≡ text ++ rest = joined-drop msg pieces number within ∙ ap (joined_pieces msg) (drop_more pieces number d is.inside) in
     let there : drop place all ≡ run ++ rest =

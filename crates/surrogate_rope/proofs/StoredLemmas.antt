@@ -89,8 +89,8 @@ number_fits octets at n rest there = omega (arith, ap length there, length-drop 
 pub number_read : (octets : List ℕ) (at n : ℕ) (rest : List ℕ) (read : ℕ) → drop at octets ≡ number n ++ rest → n < 2 ^ 64 → read ≡ from_be_bytes w64 (take 8 (drop at octets)) → read ≡ n
 number_read octets at n rest read there small is = is ∙ ap (from_be_bytes w64) (ap (take 8) there ∙ take_at (number n) rest 8 (number_size n)) ∙ from_be_bytes-to_be_bytes_8 n small
 
-pub behind : (octets : List ℕ) (at : ℕ) (text rest : List ℕ) (to : ℕ) → drop at octets ≡ text ++ rest → at + length text ≡ to → drop to octets ≡ rest
-behind octets at text rest to there sum = ap (λ n. drop n octets) (sym sum) ∙ sym (drop-drop (length text) at octets) ∙ ap (drop (length text)) there ∙ drop_at text rest (length text) refl
+pub following : (octets : List ℕ) (at : ℕ) (text rest : List ℕ) (to : ℕ) → drop at octets ≡ text ++ rest → at + length text ≡ to → drop to octets ≡ rest
+following octets at text rest to there sum = ap (λ n. drop n octets) (sym sum) ∙ sym (drop-drop (length text) at octets) ∙ ap (drop (length text)) there ∙ drop_at text rest (length text) refl
 
 -- the first octet at a place
 pub first_there : (octets : List ℕ) (at x y : ℕ) (rest : List ℕ) → drop at octets ≡ x ∷ rest → y ≡ get_or octets at 0 → y ≡ x

@@ -52,9 +52,9 @@ parts_before open_global raw made g (Renamed f other opened is changed made_is s
 parts_before open_global raw made g (Ascii f other high made_is so) has = (f, high.is_field)
 
 -- a field of another name stands before the first one
-behind_other : (msg : List ℕ) (entity : Entity) (name raw : List ℕ) (raws : List (List ℕ)) (text : List ℕ) (f : FieldParts) → HasParts raw f → same_name f.name name ≡ false → FirstMade msg entity name raws text
+after_other : (msg : List ℕ) (entity : Entity) (name raw : List ℕ) (raws : List (List ℕ)) (text : List ℕ) (f : FieldParts) → HasParts raw f → same_name f.name name ≡ false → FirstMade msg entity name raws text
     → FirstMade msg entity name (raw ∷ raws) text
-behind_other msg entity name raw raws text f has other later = record {
+after_other msg entity name raw raws text f has other later = record {
   raw = later.raw;
   made = later.made;
   f = later.f;
@@ -93,7 +93,7 @@ one_or_later : (is : Bool) (msg : List ℕ) (entity : Entity) (name raw made : L
 one_or_later true msg entity name raw made raws mades text f g stands has made_has named here later =
     let same : here.0 ≡ text = cc (here.2) in
     here_first msg entity name raw made raws text f g stands has made_has named (subst (λ t. HasValue g.body t) same here.1)
-one_or_later false msg entity name raw made raws mades text f g stands has made_has named here later = behind_other msg entity name raw raws text f has named (later here)
+one_or_later false msg entity name raw made raws mades text f g stands has made_has named here later = after_other msg entity name raw raws text f has named (later here)
 
 first_made : (msg : List ℕ) (entity : Entity) (name : List ℕ) (raws mades : List (List ℕ)) (text : List ℕ) → IsOpening name → AllZip (InEntity StandsInAscii msg entity) raws mades → IsFirstValue name mades (Some text)
     → FirstMade msg entity name raws text

@@ -58,7 +58,7 @@ entity_weaker IsOne IsOther octets entity next made other other_next weaker is =
   depth = is.depth;
   shape = is.shape;
   fields = fields_weaker (IsOne entity) (IsOther entity) (raws_of octets entity.block) (raws_of made other.block) (weaker entity) is.fields;
-  behind = is.behind;
+  following = is.following;
   content = is.content;
 }
 

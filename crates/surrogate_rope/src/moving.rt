@@ -25,11 +25,11 @@ fn moved(ends: &[End], place: usize) -> usize
     requires place { place < 2 ^ 63 }
     ensures { result ≡ moved_by 0 0 ends.now place }
 {
-    let behind = ends.partition_point(|end| end.at <= place);
-    if behind == 0 {
+    let following = ends.partition_point(|end| end.at <= place);
+    if following == 0 {
         return place;
     }
-    let end = &ends[behind - 1];
+    let end = &ends[following - 1];
     end.made + (place - end.at)
 }
 

@@ -201,8 +201,8 @@ impl Pieces {
         requires { place < size_of self.now }
         ensures { IsInPiece self.now place result }
     {
-        let behind = self.pieces.partition_point(|piece| piece.offset <= place);
-        behind.saturating_sub(1)
+        let following = self.pieces.partition_point(|piece| piece.offset <= place);
+        following.saturating_sub(1)
     }
 
     /// The octets of the piece at `offset`, from there on: none only behind the last piece.

@@ -104,16 +104,16 @@ fn load_piece(octets: &[u8], at: usize, pieces: &mut Pieces) -> Result<usize, Me
         → (pieces.new ≡ pieces.old ++ piece ∷ []) × (drop end octets.now ≡ rest)) }
 {
     let first = number_at(octets, at + 1);
-    let behind = at + 9;
+    let following = at + 9;
     if octets[at] == 0 {
         pieces.push_range(Span {
             at: first,
-            len: number_at(octets, behind),
+            len: number_at(octets, following),
         })?;
-        Ok(behind + 8)
+        Ok(following + 8)
     } else {
-        pieces.push_new(&octets[behind..behind + first])?;
-        Ok(behind + first)
+        pieces.push_new(&octets[following..following + first])?;
+        Ok(following + first)
     }
 }
 

@@ -88,7 +88,7 @@ impl<N> TcpDial<N> {
 impl<N: Net<Stream = TcpStream>> Dial for TcpDial<N> {
     type Conn = TcpWire;
 
-    ghost tells = { λ dial. record { sends = None; server_never_fails = false; transcript = None; asked = None; faults = dial.faults.count } };
+    ghost observed = { λ dial. record { sends = None; server_never_fails = false; transcript = None; asked = None; faults = dial.faults.count } };
 
     fn dial(&mut self, host: &str) -> Result<TcpWire, Failed> {
         match connect(self.alloc, &self.net, host) {

@@ -35,7 +35,7 @@ impl TcpWire {
 
     /// Lets all that was given go out. The last call of a wire.
     pub fn finish(&mut self) -> Result<(), Failed>
-        ensures { HasCause (⟦<TcpWire as Wire>⟧.tells self.old).faults (⟦<TcpWire as Wire>⟧.tells self.new).faults result }
+        ensures { HasCause (⟦<TcpWire as Wire>⟧.observed self.old).faults (⟦<TcpWire as Wire>⟧.observed self.new).faults result }
     {
         self.sides.finish()
     }
@@ -49,7 +49,7 @@ impl TcpWire {
 }
 
 impl Wire for TcpWire {
-    ghost tells = { λ wire. ⟦<StdWire<TcpStream, BufWriter<TcpStream>> as Wire>⟧.tells wire.sides };
+    ghost observed = { λ wire. ⟦<StdWire<TcpStream, BufWriter<TcpStream>> as Wire>⟧.observed wire.sides };
 
     fn take(&mut self, into: &mut [u8]) -> Result<usize, Failed> {
         self.sides.take(into)

@@ -39,11 +39,11 @@ IsTextLine-drop x line after h is = by is.text is.whole is.plain
         record { text = text; ending = is.ending; whole = rest; plain = (and_parts (is_text y) (list_all is_text text) plain).1; ends = is.ends }
 
 -- a line without a front of text
-pub IsTextLine-behind : (front line : List ℕ) (after : List (List ℕ)) → list_all is_text front ≡ true → IsTextLine (front ++ line) after → IsTextLine line after
-IsTextLine-behind [] line after all is = is
-IsTextLine-behind (x ∷ front) line after all is =
+pub IsTextLine-following : (front line : List ℕ) (after : List (List ℕ)) → list_all is_text front ≡ true → IsTextLine (front ++ line) after → IsTextLine line after
+IsTextLine-following [] line after all is = is
+IsTextLine-following (x ∷ front) line after all is =
     let parts = and_parts (is_text x) (list_all is_text front) all in
-    IsTextLine-behind front line after parts.1 (IsTextLine-drop x (front ++ line) after (not-true (is_line_end x) parts.0) is)
+    IsTextLine-following front line after parts.1 (IsTextLine-drop x (front ++ line) after (not-true (is_line_end x) parts.0) is)
 
 -- further lines, each behind its first octet, which is white
 pub body_of : (line : List ℕ) (more : List (List ℕ)) → IsTextLine line more → AreLines more → All IsSound more → All BeginsWhite more → HasBody (line ++ concat more)
@@ -58,15 +58,15 @@ body_of line ([] ∷ more) is are sound white = absurd (All-head BeginsWhite [] 
 body_of line ((w ∷ next) ∷ more) is are sound white =
     let white_first : is_white w ≡ true = All-head BeginsWhite (w ∷ next) more white in
     let next_is = IsTextLine-drop w next more (white_no_end w white_first) (IsTextLine-sound (w ∷ next) more (All-head IsSound (w ∷ next) more sound) are.0) in
-    let behind = body_of next more next_is are.1 (All-tail IsSound (w ∷ next) more sound) (All-tail BeginsWhite (w ∷ next) more white) in
-    by is.ends white_first behind
+    let following = body_of next more next_is are.1 (All-tail IsSound (w ∷ next) more sound) (All-tail BeginsWhite (w ∷ next) more white) in
+    by is.ends white_first following
   where
     by : (is.ending ≡ crlf) ⊎ ((is.ending ≡ []) × ((w ∷ next) ∷ more ≡ [])) → is_white w ≡ true → HasBody (next ++ concat more) → HasBody (line ++ concat ((w ∷ next) ∷ more))
-    by (inl ended) white_first behind = record {
-      body = is.text ++ 13 ∷ 10 ∷ w ∷ behind.body;
-      ending = behind.ending;
-      whole = rw (is.whole, ended, append_assoc is.text (13 ∷ 10 ∷ w ∷ behind.body) behind.ending, append_assoc is.text crlf (w ∷ (next ++ concat more)), behind.whole) refl;
-      folded = IsFolded-append is.text (13 ∷ 10 ∷ w ∷ behind.body) (IsFolded-plain is.text is.plain) (IsFolded-fold w behind.body white_first behind.folded);
-      ends = behind.ends;
+    by (inl ended) white_first following = record {
+      body = is.text ++ 13 ∷ 10 ∷ w ∷ following.body;
+      ending = following.ending;
+      whole = rw (is.whole, ended, append_assoc is.text (13 ∷ 10 ∷ w ∷ following.body) following.ending, append_assoc is.text crlf (w ∷ (next ++ concat more)), following.whole) refl;
+      folded = IsFolded-append is.text (13 ∷ 10 ∷ w ∷ following.body) (IsFolded-plain is.text is.plain) (IsFolded-fold w following.body white_first following.folded);
+      ends = following.ends;
     }
-    by (inr last) white_first behind = let none = last.1 in cc none
+    by (inr last) white_first following = let none = last.1 in cc none

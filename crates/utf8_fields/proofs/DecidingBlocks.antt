@@ -57,11 +57,11 @@ decide_lf : (octets : List ℕ) (at : ℕ) → StandsAt octets at 10 → ¬ (Sta
 decide_lf octets zero lf no_nul no_cr = inl (inr (inr (lf, λ before next cr. absurd (omega (arith, next)))))
 decide_lf octets (suc at) lf no_nul no_cr = elim (decide_stands octets at 13) [
   | inl cr ↦ inr (λ faulty. elim faulty [ inl nul ↦ no_nul nul | inr (inl bare) ↦ no_cr bare.0 | inr (inr bare) ↦ bare.1 at (omega arith) cr ])
-  | inr none ↦ inl (inr (inr (lf, λ before next cr. none (subst (λ k. StandsAt octets k 13) (behind before next) cr))))
+  | inr none ↦ inl (inr (inr (lf, λ before next cr. none (subst (λ k. StandsAt octets k 13) (following before next) cr))))
 ]
   where
-    behind : (before : ℕ) → suc at ≡ before + 1 → before ≡ at
-    behind before next = omega (arith, next)
+    following : (before : ℕ) → suc at ≡ before + 1 → before ≡ at
+    following before next = omega (arith, next)
 
 decide_faulty : (octets : List ℕ) (at : ℕ) → Decided (IsFaulty octets at)
 decide_faulty octets at = elim (decide_stands octets at 0) [
@@ -188,17 +188,17 @@ block_from first lines more rest at f are b =
     }
 
 -- the first field of a block has these lines, and behind it there is a block
-record Behind (first : List ℕ) (more rest : List (List ℕ)) (at : ℕ) : Type 0 where
+record Following (first : List ℕ) (more rest : List (List ℕ)) (at : ℕ) : Type 0 where
   are : AreFieldLines first more
   block : SomeBlock rest (at + length (concat (first ∷ more)))
 
-behind_first : (first : List ℕ) (lines more rest : List (List ℕ)) (at end : ℕ) (fields : List Field) → first ≢ crlf → HasFurther lines more rest → HasBlockIn (first ∷ lines) at fields end
-    → Behind first more rest at
-behind_first first lines more rest at end [] other f b =
+after_first : (first : List ℕ) (lines more rest : List (List ℕ)) (at end : ℕ) (fields : List Field) → first ≢ crlf → HasFurther lines more rest → HasBlockIn (first ∷ lines) at fields end
+    → Following first more rest at
+after_first first lines more rest at end [] other f b =
     let all = rw (b.fields_are.0) at b.lines in
     let ends = rw (← all) at b.ends in
     absurd (other ends)
-behind_first first lines more rest at end (field ∷ fields) other f b =
+after_first first lines more rest at end (field ∷ fields) other f b =
     let done = b.fields_are in
     let all : first ∷ lines ≡ done.0 ∷ (done.1 ++ (done.2 ++ b.rest)) = b.lines ∙ ap (λ t. t ++ b.rest) done.3 ∙ append_assoc (done.0 ∷ done.1) done.2 b.rest in
     let first_is : first ≡ done.0 = cc all in
@@ -219,10 +219,10 @@ decide_in (suc n) (first ∷ lines) at small = elim (decide_same first crlf) [
   | inr other ↦
       let f = further_of lines in
       elim (decide_lines first f.0) [
-        | inr fails ↦ inr (λ b. fails (behind_first first lines f.0 f.1 at b.end b.fields other f.2 b.block).are)
+        | inr fails ↦ inr (λ b. fails (after_first first lines f.0 f.1 at b.end b.fields other f.2 b.block).are)
         | inl are ↦ elim (decide_in n f.1 (at + length (concat (first ∷ f.0))) (omega (arith, small, ap length f.2.whole, length-append f.0 f.1))) [
           | inl b ↦ inl (block_from first lines f.0 f.1 at f.2 are b)
-          | inr none ↦ inr (λ b. none (behind_first first lines f.0 f.1 at b.end b.fields other f.2 b.block).block)
+          | inr none ↦ inr (λ b. none (after_first first lines f.0 f.1 at b.end b.fields other f.2 b.block).block)
         ]
       ]
 ]

@@ -23,9 +23,9 @@ use Rattle.utf8_fields.specs.Block.{IsFieldAt, AreFields, HasBlockIn, raw_of, na
 use Rattle.utf8_fields.specs.Named.{HasFieldName}
 use Rattle.utf8_fields.proofs.Names.{name_below}
 use Rattle.utf8_fields.proofs.OneField.{HasParts-once}
-use Rattle.utf8_fields.proofs.Raws.{raw_of-lines, slice_range-behind}
+use Rattle.utf8_fields.proofs.Raws.{raw_of-lines, slice_range-following}
 use Rattle.utf8_fields.proofs.LineShapes.{AreLines, AreLines-front, AreLines-back, AreLines-lines_of, is_text, IsTextLine, IsTextLine-sound}
-use Rattle.utf8_fields.proofs.Bodies.{HasBody, IsTextLine-drop, IsTextLine-behind, body_of}
+use Rattle.utf8_fields.proofs.Bodies.{HasBody, IsTextLine-drop, IsTextLine-following, body_of}
 
 pub white_is_text : (x : ℕ) → is_white x ≡ true → is_text x ≡ true
 white_is_text x h = grind (arith, nat_tests)
@@ -57,10 +57,10 @@ lit_below = omega arith
 body_utf8 : (name white body ending : List ℕ) → list_all is_field_name_octet name ≡ true → list_all is_white white ≡ true → (ending ≡ []) ⊎ (ending ≡ crlf)
     → IsUtf8 (name ++ (white ++ 58 ∷ (body ++ ending))) → IsUtf8 body
 body_utf8 name white body ending names whites ends all =
-    let behind_name = (IsUtf8-after_ascii name (white ++ 58 ∷ (body ++ ending)) (all_ascii is_field_name_octet name_octet_below name names)).0 all in
-    let behind_white = (IsUtf8-after_ascii white (58 ∷ (body ++ ending)) (all_ascii is_white white_below white whites)).0 behind_name in
-    let behind_colon = (IsUtf8-after_ascii (58 ∷ []) (body ++ ending) (IsAscii-from_all (58 ∷ []) (All-cons (λ x. x < 128) 58 [] (lit_below) (All-nil (λ x. x < 128))))).0 behind_white in
-    (IsUtf8-append_ascii body ending (crlf_ascii ending ends)).0 behind_colon
+    let after_name = (IsUtf8-after_ascii name (white ++ 58 ∷ (body ++ ending)) (all_ascii is_field_name_octet name_octet_below name names)).0 all in
+    let following_white = (IsUtf8-after_ascii white (58 ∷ (body ++ ending)) (all_ascii is_white white_below white whites)).0 after_name in
+    let after_colon = (IsUtf8-after_ascii (58 ∷ []) (body ++ ending) (IsAscii-from_all (58 ∷ []) (All-cons (λ x. x < 128) 58 [] (lit_below) (All-nil (λ x. x < 128))))).0 following_white in
+    (IsUtf8-append_ascii body ending (crlf_ascii ending ends)).0 after_colon
 
 -- the lines of a field have parts of this name
 pub record LinesHaveParts (lines : List (List ℕ)) (name : List ℕ) : Type 0 where
@@ -72,23 +72,23 @@ pub LinesHaveParts-from : (name first : List ℕ) (more : List (List ℕ)) → B
     → All IsUtf8 (first ∷ more) → LinesHaveParts (first ∷ more) name
 LinesHaveParts-from name first more begins further are sound utf8 =
     let line = subst (λ text. IsTextLine text more) begins.colon.3 (IsTextLine-sound first more (All-head IsSound first more sound) are.0) in
-    let behind_name = IsTextLine-behind name (begins.colon.0 ++ 58 ∷ begins.colon.1) more (pass-weaker is_field_name_octet is_text name_is_text name begins.octets) line in
-    let behind_white = IsTextLine-behind begins.colon.0 (58 ∷ begins.colon.1) more (pass-weaker is_white is_text white_is_text begins.colon.0 begins.colon.2) behind_name in
-    let behind : HasBody (begins.colon.1 ++ concat more) =
-    body_of begins.colon.1 more (IsTextLine-drop 58 begins.colon.1 more refl behind_white) are.1 (All-tail IsSound first more sound) further in
-    let whole : concat (first ∷ more) ≡ name ++ (begins.colon.0 ++ 58 ∷ (behind.body ++ behind.ending)) =
+    let after_name = IsTextLine-following name (begins.colon.0 ++ 58 ∷ begins.colon.1) more (pass-weaker is_field_name_octet is_text name_is_text name begins.octets) line in
+    let following_white = IsTextLine-following begins.colon.0 (58 ∷ begins.colon.1) more (pass-weaker is_white is_text white_is_text begins.colon.0 begins.colon.2) after_name in
+    let following : HasBody (begins.colon.1 ++ concat more) =
+    body_of begins.colon.1 more (IsTextLine-drop 58 begins.colon.1 more refl following_white) are.1 (All-tail IsSound first more sound) further in
+    let whole : concat (first ∷ more) ≡ name ++ (begins.colon.0 ++ 58 ∷ (following.body ++ following.ending)) =
     ap (λ text. text ++ concat more) begins.colon.3 ∙ append_assoc name (begins.colon.0 ++ 58 ∷ begins.colon.1) (concat more)
-    ∙ ap (λ text. name ++ text) (append_assoc begins.colon.0 (58 ∷ begins.colon.1) (concat more) ∙ ap (λ text. begins.colon.0 ++ 58 ∷ text) behind.whole) in
+    ∙ ap (λ text. name ++ text) (append_assoc begins.colon.0 (58 ∷ begins.colon.1) (concat more) ∙ ap (λ text. begins.colon.0 ++ 58 ∷ text) following.whole) in
     record {
-      parts = record { name = name; white = begins.colon.0; body = behind.body; ending = behind.ending };
+      parts = record { name = name; white = begins.colon.0; body = following.body; ending = following.ending };
       has_parts = record {
         spelled = whole;
         named = begins.some;
         name = begins.octets;
         white = begins.colon.2;
-        body = behind.folded;
-        utf8 = body_utf8 name begins.colon.0 behind.body behind.ending begins.octets begins.colon.2 behind.ends (subst IsUtf8 whole (concat_utf8 (first ∷ more) utf8));
-        ending = behind.ends;
+        body = following.folded;
+        utf8 = body_utf8 name begins.colon.0 following.body following.ending begins.octets begins.colon.2 following.ends (subst IsUtf8 whole (concat_utf8 (first ∷ more) utf8));
+        ending = following.ends;
       };
       name_is = refl;
     }
@@ -110,7 +110,7 @@ IsFieldOf-from octets before after at field first more split len are is =
     split ∙ ap (λ text. before ++ text) (append_assoc first (concat more) after ∙ ap (λ text. text ++ (concat more ++ after)) (sym (take-append-drop field.name.len first))
     ∙ append_assoc (take field.name.len first) (drop field.name.len first) (concat more ++ after)) in
     let name : name_of octets field ≡ take field.name.len first =
-    slice_range-behind octets before (take field.name.len first) (drop field.name.len first ++ (concat more ++ after)) field.name.at field.name.len cut (len ∙ sym is.name_at)
+    slice_range-following octets before (take field.name.len first) (drop field.name.len first ++ (concat more ++ after)) field.name.at field.name.len cut (len ∙ sym is.name_at)
     (sym (length-take-le field.name.len first (omega arith))) in
     let raw_len = is.raw_len in
     record {

@@ -82,8 +82,8 @@ last_is_text x sound = no_ends x (λ cr. sound 0 (inr (inl (ap Some cr, nothing)
     nothing e = cc e
 
 -- what follows such an octet is sound
-pub IsSound-behind : (x : ℕ) (xs : List ℕ) → is_line_end x ≡ false → IsSound (x ∷ xs) → IsSound xs
-IsSound-behind x xs text sound at faulty = sound (suc at) (up faulty)
+pub IsSound-following : (x : ℕ) (xs : List ℕ) → is_line_end x ≡ false → IsSound (x ∷ xs) → IsSound xs
+IsSound-following x xs text sound at faulty = sound (suc at) (up faulty)
   where
     first : (before : ℕ) → suc at ≡ before + 1 → ((earlier : ℕ) → at ≡ earlier + 1 → StandsAt xs earlier 13 → ⊥) → StandsAt (x ∷ xs) before 13 → ⊥
     first zero next apart cr =
@@ -129,7 +129,7 @@ once_text (x ∷ y ∷ []) after sound once =
     let both = is_crlf_parts x y once in record { text = []; ending = crlf; whole = rw (both.0, both.1) refl; plain = refl; ends = inl refl }
 once_text (x ∷ y ∷ z ∷ rest) after sound once =
     let text = head_is_text x y (z ∷ rest) sound once.0 in
-    IsTextLine-put x (y ∷ z ∷ rest) after text (once_text (y ∷ z ∷ rest) after (IsSound-behind x (y ∷ z ∷ rest) text sound) once.1)
+    IsTextLine-put x (y ∷ z ∷ rest) after text (once_text (y ∷ z ∷ rest) after (IsSound-following x (y ∷ z ∷ rest) text sound) once.1)
 
 never_text : (line : List ℕ) (after : List (List ℕ)) → IsSound line → NeverEnds line → after ≡ [] → IsTextLine line after
 never_text [] after sound never last = record { text = []; ending = []; whole = refl; plain = refl; ends = inr (refl, last) }
@@ -137,7 +137,7 @@ never_text (x ∷ []) after sound never last =
     IsTextLine-put x [] after (last_is_text x sound) (record { text = []; ending = []; whole = refl; plain = refl; ends = inr (refl, last) })
 never_text (x ∷ y ∷ rest) after sound never last =
     let text = head_is_text x y rest sound never.0 in
-    IsTextLine-put x (y ∷ rest) after text (never_text (y ∷ rest) after (IsSound-behind x (y ∷ rest) text sound) never.1 last)
+    IsTextLine-put x (y ∷ rest) after text (never_text (y ∷ rest) after (IsSound-following x (y ∷ rest) text sound) never.1 last)
 
 -- a sound line
 pub IsTextLine-sound : (line : List ℕ) (after : List (List ℕ)) → IsSound line → EndsOnce line ⊎ (NeverEnds line × (after ≡ [])) → IsTextLine line after

@@ -22,9 +22,9 @@ pub white_not_name : (x : ℕ) → is_white x ≡ true → is_field_name_octet x
 white_not_name x white = grind (arith, nat_tests)
 
 -- a name stops before white and a colon
-pub behind_name : (white rest : List ℕ) → list_all is_white white ≡ true → Stops is_field_name_octet (white ++ 58 ∷ rest)
-behind_name [] rest h = refl
-behind_name (x ∷ white) rest h = white_not_name x (and_parts (is_white x) (list_all is_white white) h).0
+pub after_name : (white rest : List ℕ) → list_all is_white white ≡ true → Stops is_field_name_octet (white ++ 58 ∷ rest)
+after_name [] rest h = refl
+after_name (x ∷ white) rest h = white_not_name x (and_parts (is_white x) (list_all is_white white) h).0
 
 -- what the fronts of a line are that begins a field
 pub record HasFronts (name after name' rest' : List ℕ) : Type 0 where
@@ -34,7 +34,7 @@ pub record HasFronts (name after name' rest' : List ℕ) : Type 0 where
 pub fronts_once : (line name rest white after name' white' rest' : List ℕ) → IsSpan is_field_name_octet line name rest → IsSpan is_white rest white after
     → list_all is_field_name_octet name' ≡ true → list_all is_white white' ≡ true → line ≡ name' ++ (white' ++ 58 ∷ rest') → HasFronts name after name' rest'
 fronts_once line name rest white after name' white' rest' names whites is_name is_white' is =
-    let first = span_once is_field_name_octet name name' rest (white' ++ 58 ∷ rest') names.passes is_name names.stops (behind_name white' rest' is_white') (sym names.whole ∙ is) in
+    let first = span_once is_field_name_octet name name' rest (white' ++ 58 ∷ rest') names.passes is_name names.stops (after_name white' rest' is_white') (sym names.whole ∙ is) in
     let second = span_once is_white white white' after (58 ∷ rest') whites.passes is_white' whites.stops refl (sym whites.whole ∙ first.1) in
     record { name_is = first.0; after_is = second.1 }
 
@@ -63,7 +63,7 @@ name_below n line begins =
 pub name_once : (name other line : List ℕ) → BeginsField name line → BeginsField other line → name ≡ other
 name_once name other line a b =
     (span_once is_field_name_octet name other (a.colon.0 ++ 58 ∷ a.colon.1) (b.colon.0 ++ 58 ∷ b.colon.1) a.octets b.octets
-    (behind_name a.colon.0 a.colon.1 a.colon.2) (behind_name b.colon.0 b.colon.1 b.colon.2) (sym a.colon.3 ∙ b.colon.3)).0
+    (after_name a.colon.0 a.colon.1 a.colon.2) (after_name b.colon.0 b.colon.1 b.colon.2) (sym a.colon.3 ∙ b.colon.3)).0
 
 pub one_name : (n m : ℕ) (line : List ℕ) → BeginsField (take n line) line → BeginsField (take m line) line → n ≡ m
 one_name n m line first second =

@@ -8,7 +8,7 @@ use Rattle.mail_wire.specs.Folds.{FoldedItem, Octet, Fold, IsFoldedItem, item_oc
 use Rattle.mail_wire.specs.Spans.{IsSpan}
 use Rattle.mail_wire.proofs.SpanLemmas.{span_once}
 use Rattle.utf8_fields.specs.Parts.{FieldParts, HasParts, SplitsEnding}
-use Rattle.utf8_fields.proofs.Names.{behind_name}
+use Rattle.utf8_fields.proofs.Names.{after_name}
 
 -- a folded text doesn't end in CRLF
 items_end : (xs : List ℕ) (items : List FoldedItem) → AllByRecursion IsFoldedItem items → xs ++ crlf ≡ flat_map item_octets items → ⊥
@@ -60,7 +60,7 @@ record Fronts (raw name rest white more : List ℕ) (f : FieldParts) : Type 0 wh
 
 Fronts-from : (raw name rest white more : List ℕ) (f : FieldParts) → HasParts raw f → IsSpan is_field_name_octet raw name rest → IsSpan is_white rest white more → Fronts raw name rest white more f
 Fronts-from raw name rest white more f is names whites =
-    let first = span_once is_field_name_octet name f.name rest (f.white ++ 58 ∷ (f.body ++ f.ending)) names.passes is.name names.stops (behind_name f.white (f.body ++ f.ending) is.white) (sym names.whole ∙ is.spelled) in
+    let first = span_once is_field_name_octet name f.name rest (f.white ++ 58 ∷ (f.body ++ f.ending)) names.passes is.name names.stops (after_name f.white (f.body ++ f.ending) is.white) (sym names.whole ∙ is.spelled) in
     let second = span_once is_white white f.white more (58 ∷ (f.body ++ f.ending)) whites.passes is.white whites.stops refl (sym whites.whole ∙ first.1) in
     record { name_is = first.0; white_is = second.0; more_is = second.1 }
 
@@ -88,7 +88,7 @@ append_ending a b x y fa fb (inr e) (inr f) h = (append_cancel_right a b crlf (a
 pub HasParts-once : (octets : List ℕ) (f g : FieldParts) → HasParts octets f → HasParts octets g → f ≡ g
 HasParts-once octets f g p q =
     let first = span_once is_field_name_octet f.name g.name (f.white ++ 58 ∷ (f.body ++ f.ending)) (g.white ++ 58 ∷ (g.body ++ g.ending)) p.name q.name
-    (behind_name f.white (f.body ++ f.ending) p.white) (behind_name g.white (g.body ++ g.ending) q.white) (sym p.spelled ∙ q.spelled) in
+    (after_name f.white (f.body ++ f.ending) p.white) (after_name g.white (g.body ++ g.ending) q.white) (sym p.spelled ∙ q.spelled) in
     let second = span_once is_white f.white g.white (58 ∷ (f.body ++ f.ending)) (58 ∷ (g.body ++ g.ending)) p.white q.white refl refl first.1 in
     let rest : f.body ++ f.ending ≡ g.body ++ g.ending = ap (drop 1) second.1 in
     let ends = append_ending f.body g.body f.ending g.ending p.body q.body p.ending q.ending rest in

@@ -21,9 +21,9 @@ unfolded-one x = unfolded-other x [] refl ∙ ap (λ s. x ∷ s) unfolded-nil
 unfolded-two : (x y : ℕ) → unfolded (x ∷ y ∷ []) ≡ x ∷ y ∷ []
 unfolded-two x y = unfolded-other x (y ∷ []) refl ∙ ap (λ s. x ∷ s) (unfolded-one y)
 
-line_behind : (x y : ℕ) (rest more : List ℕ) (lines : List (List ℕ)) → lines_of (y ∷ rest) ≡ (y ∷ more) ∷ lines → put_before x (lines_of (y ∷ rest)) ≡ (x ∷ y ∷ rest) ∷ []
+line_after : (x y : ℕ) (rest more : List ℕ) (lines : List (List ℕ)) → lines_of (y ∷ rest) ≡ (y ∷ more) ∷ lines → put_before x (lines_of (y ∷ rest)) ≡ (x ∷ y ∷ rest) ∷ []
     → lines_of (y ∷ rest) ≡ (y ∷ rest) ∷ []
-line_behind x y rest more lines split e =
+line_after x y rest more lines split e =
     let h = rw split at e in
     let same : more ≡ rest = cc h in
     let none : lines ≡ [] = cc h in
@@ -37,8 +37,8 @@ line_by x y rest later e true h =
     subst (λ s. unfolded (x ∷ y ∷ s) ≡ x ∷ y ∷ s) none (unfolded-two x y)
 line_by x y rest later e false h =
     let first = first_line_begins y rest in
-    let behind = line_behind x y rest first.0 first.1 first.2 (sym (lines_of-other x y rest h) ∙ e) in
-    unfolded-other x (y ∷ rest) (no_fold x y rest h) ∙ ap (λ s. x ∷ s) (later behind)
+    let following = line_after x y rest first.0 first.1 first.2 (sym (lines_of-other x y rest h) ∙ e) in
+    unfolded-other x (y ∷ rest) (no_fold x y rest h) ∙ ap (λ s. x ∷ s) (later following)
 
 one_line : (body : List ℕ) → lines_of body ≡ body ∷ [] → unfolded body ≡ body
 one_line [] e = unfolded-nil

@@ -3,21 +3,21 @@ use Rattle.std.proofs.Common.{◌≡◌, ℕ, Bool, true, List, [], ◌∷◌, �
 use Rattle.std.specs.List.{list_all}
 use Rattle.std.proofs.lemmas.Bool.{and_parts, both_ways}
 use Rattle.std.proofs.lemmas.List.Folds.{list_all-append}
-use Rattle.mail_wire.specs.Spans.{Stops, StopsBehind, IsTrimmed}
+use Rattle.mail_wire.specs.Spans.{Stops, StopsAfter, IsTrimmed}
 use Rattle.mail_wire.proofs.SpanLemmas.{span_once}
 use Rattle.mail_wire.proofs.AllLemmas.{pass-append, pass-front}
 
-StopsBehind-tail : (p : ℕ → Bool) (x : ℕ) (xs : List ℕ) → StopsBehind p (x ∷ xs) → StopsBehind p xs
-StopsBehind-tail p x [] stops = tt
-StopsBehind-tail p x (y ∷ xs) stops = stops
+StopsAfter-tail : (p : ℕ → Bool) (x : ℕ) (xs : List ℕ) → StopsAfter p (x ∷ xs) → StopsAfter p xs
+StopsAfter-tail p x [] stops = tt
+StopsAfter-tail p x (y ∷ xs) stops = stops
 
 -- a text that stops behind doesn't pass as a whole
-no_pass : (p : ℕ → Bool) (x : ℕ) (xs : List ℕ) → StopsBehind p (x ∷ xs) → list_all p (x ∷ xs) ≡ true → ⊥
+no_pass : (p : ℕ → Bool) (x : ℕ) (xs : List ℕ) → StopsAfter p (x ∷ xs) → list_all p (x ∷ xs) ≡ true → ⊥
 no_pass p x [] stops all = both_ways (p x) stops (and_parts (p x) true all).0
 no_pass p x (y ∷ xs) stops all = no_pass p y xs stops (and_parts (p x) (list_all p (y ∷ xs)) all).1
 
 -- texts that stop behind, with what passes behind them
-one_end : (p : ℕ → Bool) (text other trail trail' : List ℕ) → StopsBehind p text → StopsBehind p other → list_all p trail ≡ true → list_all p trail' ≡ true
+one_end : (p : ℕ → Bool) (text other trail trail' : List ℕ) → StopsAfter p text → StopsAfter p other → list_all p trail ≡ true → list_all p trail' ≡ true
     → text ++ trail ≡ other ++ trail' → text ≡ other
 one_end p [] [] trail trail' a b all all' same = refl
 one_end p [] (y ∷ other) trail trail' a b all all' same = absurd (no_pass p y other b (pass-front p (y ∷ other) trail' (sym (ap (list_all p) same) ∙ all)))
@@ -25,7 +25,7 @@ one_end p (x ∷ text) [] trail trail' a b all all' same = absurd (no_pass p x t
 one_end p (x ∷ text) (y ∷ other) trail trail' a b all all' same =
     let first : x ≡ y = cc same in
     let rest : text ++ trail ≡ other ++ trail' = cc same in
-    rw (first, one_end p text other trail trail' (StopsBehind-tail p x text a) (StopsBehind-tail p y other b) all all' rest) refl
+    rw (first, one_end p text other trail trail' (StopsAfter-tail p x text a) (StopsAfter-tail p y other b) all all' rest) refl
 
 Stops-front : (p : ℕ → Bool) (x : ℕ) (text trail : List ℕ) → Stops p (x ∷ text) → Stops p ((x ∷ text) ++ trail)
 Stops-front p x text trail stops = stops
@@ -35,11 +35,11 @@ none_left : (p : ℕ → Bool) (lead lead' trail trail' : List ℕ) (y : ℕ) (o
     → lead ++ trail ≡ lead' ++ ((y ∷ other) ++ trail') → ⊥
 none_left p lead lead' trail trail' y other a b a' stops same =
     let all : list_all p (lead' ++ ((y ∷ other) ++ trail')) ≡ true = sym (ap (list_all p) same) ∙ pass-append p lead trail a b in
-    let behind = (and_parts (list_all p lead') (list_all p ((y ∷ other) ++ trail')) (sym (list_all-append p lead' ((y ∷ other) ++ trail')) ∙ all)).1 in
-    both_ways (p y) stops (and_parts (p y) (list_all p (other ++ trail')) behind).0
+    let following = (and_parts (list_all p lead') (list_all p ((y ∷ other) ++ trail')) (sym (list_all-append p lead' ((y ∷ other) ++ trail')) ∙ all)).1 in
+    both_ways (p y) stops (and_parts (p y) (list_all p (other ++ trail')) following).0
 
 by_texts : (p : ℕ → Bool) (text other lead lead' trail trail' : List ℕ) → list_all p lead ≡ true → list_all p trail ≡ true → list_all p lead' ≡ true → list_all p trail' ≡ true
-    → Stops p text → Stops p other → StopsBehind p text → StopsBehind p other → lead ++ (text ++ trail) ≡ lead' ++ (other ++ trail') → text ≡ other
+    → Stops p text → Stops p other → StopsAfter p text → StopsAfter p other → lead ++ (text ++ trail) ≡ lead' ++ (other ++ trail') → text ≡ other
 by_texts p [] [] lead lead' trail trail' a b a' b' s s' e e' same = refl
 by_texts p [] (y ∷ other) lead lead' trail trail' a b a' b' s s' e e' same = absurd (none_left p lead lead' trail trail' y other a b a' s' same)
 by_texts p (x ∷ text) [] lead lead' trail trail' a b a' b' s s' e e' same = absurd (none_left p lead' lead trail' trail x text a' b' a s (sym same))

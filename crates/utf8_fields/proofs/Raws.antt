@@ -9,9 +9,9 @@ use Rattle.utf8_fields.specs.declared.block.Field.{Field}
 use Rattle.utf8_fields.specs.Block.{IsFieldAt, AreFields, HasBlock, raw_of}
 
 -- octets that stand behind others
-pub slice_range-behind : (octets before part after : List ℕ) (at len : ℕ) → octets ≡ before ++ (part ++ after) → length before ≡ at → len ≡ length part
+pub slice_range-following : (octets before part after : List ℕ) (at len : ℕ) → octets ≡ before ++ (part ++ after) → length before ≡ at → len ≡ length part
     → take (at + len - at) (drop at octets) ≡ part
-slice_range-behind octets before part after at len is at_is len_is =
+slice_range-following octets before part after at len is at_is len_is =
     let diff : at + len - at ≡ len = omega arith in
     rw (diff, is, drop_at before (part ++ after) at at_is) (take_at part after len (sym len_is))
 
@@ -19,7 +19,7 @@ slice_range-behind octets before part after at len is at_is len_is =
 pub raw_of-lines : (octets before lines after : List ℕ) (at : ℕ) (field : Field) → octets ≡ before ++ (lines ++ after) → length before ≡ at → field.raw.at ≡ at
     → field.raw.len ≡ length lines → raw_of octets field ≡ lines
 raw_of-lines octets before lines after at field is len at_is len_is =
-    slice_range-behind octets before lines after field.raw.at field.raw.len is (len ∙ sym at_is) len_is
+    slice_range-following octets before lines after field.raw.at field.raw.len is (len ∙ sym at_is) len_is
 
 -- the fields, from the octets before their lines to those after them
 pub record Joins (octets : List ℕ) (lines : List (List ℕ)) (start : ℕ) (fields : List Field) (end : ℕ) : Type 0 where

@@ -4,7 +4,7 @@ use Rattle.std.proofs.lemmas.Bool.{and_parts, and_from, both_ways, cases_Bool}
 use Rattle.std.proofs.lemmas.List.{append_assoc, append-nil}
 use Rattle.std.specs.List.{list_all}
 use Rattle.mail_wire.specs.Octets.{is_white}
-use Rattle.mail_wire.specs.Spans.{Stops, StopsBehind, IsSpan, IsTrimmed}
+use Rattle.mail_wire.specs.Spans.{Stops, StopsAfter, IsSpan, IsTrimmed}
 use Rattle.utf8_fields.specs.private.Steps.{TrimsEnd}
 
 -- white alone was cut off so far
@@ -23,13 +23,13 @@ TrimsTo-turn octets rest front last t e white = record {
   whole = t.whole ∙ ap (λ r. r ++ t.trail) e ∙ append_assoc front (last ∷ []) t.trail;
 }
 
-stops_behind : (front : List ℕ) (last : ℕ) → is_white last ≡ false → StopsBehind is_white (front ++ last ∷ [])
-stops_behind [] last no_white = no_white
-stops_behind (x ∷ []) last no_white = no_white
-stops_behind (x ∷ y ∷ front) last no_white = stops_behind (y ∷ front) last no_white
+stops_after : (front : List ℕ) (last : ℕ) → is_white last ≡ false → StopsAfter is_white (front ++ last ∷ [])
+stops_after [] last no_white = no_white
+stops_after (x ∷ []) last no_white = no_white
+stops_after (x ∷ y ∷ front) last no_white = stops_after (y ∷ front) last no_white
 
 pub TrimsEnd-stop : (octets rest front : List ℕ) (last : ℕ) → TrimsTo octets rest → rest ≡ front ++ last ∷ [] → is_white last ≡ false → TrimsEnd octets rest
-TrimsEnd-stop octets rest front last t e no_white = record { trail = t.trail; white = t.white; whole = t.whole; ends = rw e (stops_behind front last no_white) }
+TrimsEnd-stop octets rest front last t e no_white = record { trail = t.trail; white = t.white; whole = t.whole; ends = rw e (stops_after front last no_white) }
 
 pub TrimsEnd-none : (octets rest : List ℕ) → TrimsTo octets rest → rest ≡ [] → TrimsEnd octets rest
 TrimsEnd-none octets rest t e = record { trail = t.trail; white = t.white; whole = t.whole; ends = rw e tt }
@@ -50,12 +50,12 @@ IsTrimmed-both octets lead rest trimmed span ends = record {
 }
 
 -- a text without what passes at its end, ...
-trimmed_end : (p : ℕ → Bool) (xs : List ℕ) → (front : List ℕ) × (trail : List ℕ) × (list_all p trail ≡ true) × StopsBehind p front × (xs ≡ front ++ trail)
+trimmed_end : (p : ℕ → Bool) (xs : List ℕ) → (front : List ℕ) × (trail : List ℕ) × (list_all p trail ≡ true) × StopsAfter p front × (xs ≡ front ++ trail)
 trimmed_end p [] = ([], [], refl, tt, refl)
 trimmed_end p (x ∷ xs) = let r = trimmed_end p xs in by r.0 r.1 r.2 r.3 r.4
   where
-    by : (front trail : List ℕ) → list_all p trail ≡ true → StopsBehind p front → xs ≡ front ++ trail
-        → (front : List ℕ) × (trail : List ℕ) × (list_all p trail ≡ true) × StopsBehind p front × (x ∷ xs ≡ front ++ trail)
+    by : (front trail : List ℕ) → list_all p trail ≡ true → StopsAfter p front → xs ≡ front ++ trail
+        → (front : List ℕ) × (trail : List ℕ) × (list_all p trail ≡ true) × StopsAfter p front × (x ∷ xs ≡ front ++ trail)
     by [] trail all stops e = elim (cases_Bool (p x)) [
       | inl t ↦ ([], x ∷ trail, and_from (p x) (list_all p trail) t all, tt, ap (λ r. x ∷ r) e)
       | inr fails ↦ (x ∷ [], trail, all, fails, ap (λ r. x ∷ r) e)
@@ -82,7 +82,7 @@ trimmed p (x ∷ xs) = elim (cases_Bool (p x)) [
   | inr fails ↦ let r = trimmed_end p (x ∷ xs) in by fails r.0 r.1 r.2 r.3 r.4
 ]
   where
-    by : p x ≡ false → (front trail : List ℕ) → list_all p trail ≡ true → StopsBehind p front → x ∷ xs ≡ front ++ trail → (text : List ℕ) × IsTrimmed p (x ∷ xs) text
+    by : p x ≡ false → (front trail : List ℕ) → list_all p trail ≡ true → StopsAfter p front → x ∷ xs ≡ front ++ trail → (text : List ℕ) × IsTrimmed p (x ∷ xs) text
     by fails [] trail all stops e = absurd (both_ways (p x) fails (and_parts (p x) (list_all p xs) (ap (list_all p) e ∙ all)).0)
     by fails (y ∷ front) trail all stops e =
         let same : x ≡ y = cc e in

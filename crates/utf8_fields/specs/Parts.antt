@@ -1,6 +1,7 @@
 -- The parts of a header field, and its value (RFC 5322, 2.2 and 2.2.3; RFC 6532, 3.1).
 use Rattle.std.specs.Prelude.{◌≡◌, ◌≢◌, ℕ, ◌<◌, ◌⊎◌, true, List, [], ◌∷◌, ◌++◌, length, IsUtf8}
 use Rattle.std.specs.List.{list_all}
+use Rattle.mail_wire.specs.Characters.{colon}
 use Rattle.mail_wire.specs.Octets.{is_white, is_field_name_octet}
 use Rattle.mail_wire.specs.Spans.{IsTrimmed}
 use Rattle.mail_wire.specs.Lines.{crlf}
@@ -15,7 +16,7 @@ pub record FieldParts : Type 0 where
 
 -- The octets of a field: its name, white, a colon, its body and the end of its last line (RFC 5322, 2.2).
 abbrev pub field_octets : FieldParts → List ℕ
-field_octets f = f.name ++ (f.white ++ 58 ∷ (f.body ++ f.ending))
+field_octets f = f.name ++ (f.white ++ colon ∷ (f.body ++ f.ending))
 
 -- the octets are a field with these parts
 pub record HasParts (octets : List ℕ) (f : FieldParts) : Type 0 where

@@ -52,8 +52,8 @@ two : (n : ℕ) → n < 100 → IsPrinted (two_digits n)
 two n small = printed (two_digits n) (and_from (is_printed (48 + n / 10)) _ (digit (n / 10) (omega arith)) (and_from (is_printed (48 + n % 10)) true (digit (n % 10) (omega arith)) refl))
 
 -- one text behind another
-behind : {a b : List ℕ} → IsPrinted a → IsPrinted b → IsPrinted (a ++ b)
-behind {a} {b} x y = printed (a ++ b) (pass-append is_printed a b x.octets y.octets)
+following : {a b : List ℕ} → IsPrinted a → IsPrinted b → IsPrinted (a ++ b)
+following {a} {b} x y = printed (a ++ b) (pass-append is_printed a b x.octets y.octets)
 
 day_small : (d : ℕ) (a b c : Bool) → d ≤ cond a (cond b 29 28) (cond c 30 31) → d < 100
 day_small d true true c within = omega arith
@@ -66,9 +66,9 @@ text_printed : (p : Parts) → p.day < 100 → p.year ≤ 9999 → p.hour < 24 �
 text_printed p days years hours mins secs =
     let space = printed (codes " ") refl in
     let colon = printed (codes ":") refl in
-    let year : IsPrinted (four_digits p.year) = behind (two (p.year / 100) (omega (arith, years))) (two (p.year % 100) (omega arith)) in
-    let time : IsPrinted (time_of_day p) = behind (behind (behind (behind (two p.hour (omega (arith, hours))) colon) (two p.min (omega (arith, mins)))) colon) (two p.sec (omega (arith, secs))) in
-    behind (behind (behind (behind (behind (behind (behind (behind (behind (day p.wday) (printed (codes ", ") refl)) (two p.day days)) space) (month p.mon)) space) year) space) time) (printed (codes " GMT") refl)
+    let year : IsPrinted (four_digits p.year) = following (two (p.year / 100) (omega (arith, years))) (two (p.year % 100) (omega arith)) in
+    let time : IsPrinted (time_of_day p) = following (following (following (following (two p.hour (omega (arith, hours))) colon) (two p.min (omega (arith, mins)))) colon) (two p.sec (omega (arith, secs))) in
+    following (following (following (following (following (following (following (following (following (day p.wday) (printed (codes ", ") refl)) (two p.day days)) space) (month p.mon)) space) year) space) time) (printed (codes " GMT") refl)
 
 pub date_printed : (seconds : ℕ) (text : List ℕ) → IsDateText seconds text → list_all is_printed text ≡ true
 date_printed seconds text is =

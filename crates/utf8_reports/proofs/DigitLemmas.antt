@@ -28,10 +28,10 @@ pub no_dot : (text front after rest : List ℕ) → IsSpan is_digit text front a
 no_dot text front after rest span none is = none (number_once text front after rest span is).1
 
 numbers_once : (text rest other : List ℕ) → BeginsNumber text rest → BeginsNumber text other → rest ≡ other
-numbers_once text rest other is others = behind_dot (number_once text is.digits (46 ∷ rest) other is.span others).1
+numbers_once text rest other is others = after_dot (number_once text is.digits (46 ∷ rest) other is.span others).1
   where
-    behind_dot : {a b : List ℕ} → 46 ∷ a ≡ 46 ∷ b → a ≡ b
-    behind_dot h = cc
+    after_dot : {a b : List ℕ} → 46 ∷ a ≡ 46 ∷ b → a ≡ b
+    after_dot h = cc
 
 pub class_first : (text : List ℕ) (is : IsStatusCode text) → BeginsNumber text (is.subject ++ 46 ∷ is.detail)
 class_first text is = record {
@@ -47,12 +47,12 @@ subject_first text is = record {
   some = is.is_subject.some;
 }
 
-pub subject_next : (text behind : List ℕ) → BeginsNumber text behind → (is : IsStatusCode text) → BeginsNumber behind is.detail
-subject_next text behind first is =
-    subst (λ b. BeginsNumber b is.detail) (numbers_once text _ behind (class_first text is) first) (subject_first text is)
+pub subject_next : (text following : List ℕ) → BeginsNumber text following → (is : IsStatusCode text) → BeginsNumber following is.detail
+subject_next text following first is =
+    subst (λ b. BeginsNumber b is.detail) (numbers_once text _ following (class_first text is) first) (subject_first text is)
 
-pub status_of : (text behind detail : List ℕ) → BeginsNumber text behind → BeginsNumber behind detail → IsDecimal detail → IsStatusCode text
-status_of text behind detail first next last = record {
+pub status_of : (text following detail : List ℕ) → BeginsNumber text following → BeginsNumber following detail → IsDecimal detail → IsStatusCode text
+status_of text following detail first next last = record {
   class_digits = first.digits;
   subject = next.digits;
   detail = detail;
@@ -62,6 +62,6 @@ status_of text behind detail first next last = record {
   whole = first.span.whole ∙ ap (λ l. first.digits ++ 46 ∷ l) next.span.whole;
 }
 
-pub status_detail : (text behind detail : List ℕ) → BeginsNumber text behind → BeginsNumber behind detail → IsStatusCode text → IsDecimal detail
-status_detail text behind detail first next is =
-    subst IsDecimal (numbers_once behind is.detail detail (subject_next text behind first is) next) is.is_detail
+pub status_detail : (text following detail : List ℕ) → BeginsNumber text following → BeginsNumber following detail → IsStatusCode text → IsDecimal detail
+status_detail text following detail first next is =
+    subst IsDecimal (numbers_once following is.detail detail (subject_next text following first is) next) is.is_detail

@@ -55,17 +55,17 @@ end_last (line ∷ next ∷ rest) = line ∷ end_last (next ∷ rest)
 abbrev pub IsOpenText : List ℕ → Type 0
 IsOpenText octets = (front : List ℕ) → octets ≢ front ++ crlf
 
-open_behind : (a b : List ℕ) → IsOpenText (a ++ b) → IsOpenText b
-open_behind a b none front is = none (a ++ front) (ap (λ more. a ++ more) is ∙ sym (append_assoc a front crlf))
+open_after : (a b : List ℕ) → IsOpenText (a ++ b) → IsOpenText b
+open_after a b none front is = none (a ++ front) (ap (λ more. a ++ more) is ∙ sym (append_assoc a front crlf))
 
 end_joined : (line : List ℕ) (rest : List (List ℕ)) → concat (end_last (line ∷ rest)) ≡ concat (line ∷ rest) ++ crlf
 end_joined line [] = append-nil (line ++ crlf) ∙ ap (λ l. l ++ crlf) (sym (append-nil line))
 end_joined line (next ∷ rest) = ap (λ more. line ++ more) (end_joined next rest) ∙ sym (append_assoc line (concat (next ∷ rest)) crlf)
 
-end_behind : (front : List (List ℕ)) (line : List ℕ) (rest : List (List ℕ)) → end_last (front ++ line ∷ rest) ≡ front ++ end_last (line ∷ rest)
-end_behind [] line rest = refl
-end_behind (first ∷ []) line rest = refl
-end_behind (first ∷ next ∷ front) line rest = ap (λ more. first ∷ more) (end_behind (next ∷ front) line rest)
+end_following : (front : List (List ℕ)) (line : List ℕ) (rest : List (List ℕ)) → end_last (front ++ line ∷ rest) ≡ front ++ end_last (line ∷ rest)
+end_following [] line rest = refl
+end_following (first ∷ []) line rest = refl
+end_following (first ∷ next ∷ front) line rest = ap (λ more. first ∷ more) (end_following (next ∷ front) line rest)
 
 end_ended : (lines : List (List ℕ)) → AreLines lines → IsOpenText (concat lines) → AreEnded (end_last lines)
 end_ended [] are none = tt
@@ -74,7 +74,7 @@ end_ended (line ∷ []) are none = elim are.0 [
   | inr never ↦ (never_ended line never.0, tt)
 ]
 end_ended (line ∷ next ∷ rest) are none = elim are.0 [
-  | inl once ↦ (once, end_ended (next ∷ rest) are.1 (open_behind line (concat (next ∷ rest)) none))
+  | inl once ↦ (once, end_ended (next ∷ rest) are.1 (open_after line (concat (next ∷ rest)) none))
   | inr never ↦ absurd (some never.1)
 ]
   where
@@ -186,7 +186,7 @@ no_field (field ∷ fields) at end are = cc are.3
 record StandsSo (octets before : List ℕ) (lines rest : List (List ℕ)) : Type 0 where
   whole : octets ≡ before ++ (concat lines ++ concat rest)
   longer_whole : octets ++ crlf ≡ before ++ (concat lines ++ (concat rest ++ crlf))
-  behind : octets ≡ (before ++ concat lines) ++ concat rest
+  following : octets ≡ (before ++ concat lines) ++ concat rest
 
 stands_so : (octets before : List ℕ) (all lines rest : List (List ℕ)) → octets ≡ before ++ concat all → all ≡ lines ++ rest → StandsSo octets before lines rest
 stands_so octets before all lines rest is split =
@@ -194,7 +194,7 @@ stands_so octets before all lines rest is split =
     record {
       whole = whole;
       longer_whole = ap (λ text. text ++ crlf) whole ∙ append_assoc before (concat lines ++ concat rest) crlf ∙ ap (λ text. before ++ text) (append_assoc (concat lines) (concat rest) crlf);
-      behind = whole ∙ sym (append_assoc before (concat lines) (concat rest));
+      following = whole ∙ sym (append_assoc before (concat lines) (concat rest));
     }
 
 -- the last one
@@ -212,7 +212,7 @@ end_field octets before all start field fields line more is len none split is_fi
     raw_of-lines (octets ++ crlf) before (concat (new.first ∷ new.more)) [] start (longer_field field) spelled len new.is_field.raw_at new.is_field.raw_len in
     let put : raw_of (octets ++ crlf) (longer_field field) ≡ raw_of octets field ++ crlf = made ∙ sym joined ∙ ap (λ text. text ++ crlf) (sym raw) in
     let opened : IsOpenText (raw_of octets field) =
-    subst IsOpenText (sym raw) (open_behind before (concat (line ∷ more)) (subst IsOpenText (stands.whole ∙ ap (λ text. before ++ text) (append-nil (concat (line ∷ more)))) none)) in
+    subst IsOpenText (sym raw) (open_after before (concat (line ∷ more)) (subst IsOpenText (stands.whole ∙ ap (λ text. before ++ text) (append-nil (concat (line ∷ more)))) none)) in
     record {
       others = longer_field field ∷ [];
       end = start + (field.raw.len + 2);
@@ -232,7 +232,7 @@ keep_field octets before all start field fields line more next rest is len split
     record {
       others = field ∷ later.others;
       end = later.end;
-      fields_are = (line, more, end_last (next ∷ rest), ap end_last split ∙ end_behind (line ∷ more) next rest, is_field, later.fields_are);
+      fields_are = (line, more, end_last (next ∷ rest), ap end_last split ∙ end_following (line ∷ more) next rest, is_field, later.fields_are);
       alike = (inl (made ∙ sym raw), later.alike);
     }
 
@@ -246,7 +246,7 @@ ended_fields octets before lines start (field ∷ fields) end is len none are =
     let stands = stands_so octets before lines (line ∷ more) are.2 is are.3 in
     let raw_len = are.4.raw_len in
     let place : length (before ++ concat (line ∷ more)) ≡ start + field.raw.len = omega (arith, length-append before (concat (line ∷ more))) in
-    let later = ended_fields octets (before ++ concat (line ∷ more)) are.2 (start + field.raw.len) fields end stands.behind place none are.5 in
+    let later = ended_fields octets (before ++ concat (line ∷ more)) are.2 (start + field.raw.len) fields end stands.following place none are.5 in
     go are.2 refl later
   where
     go : (rest : List (List ℕ)) → are.2 ≡ rest → HasEndedFields octets are.2 (start + field.raw.len) fields → HasEndedFields octets lines start (field ∷ fields)
@@ -270,9 +270,9 @@ pub record HasEndedBlock (octets : List ℕ) (fields : List Field) (header : Lis
 raw_front : (front back : List ℕ) (field : Field) → field.raw.at + field.raw.len ≤ length front → raw_of front field ≡ raw_of (front ++ back) field
 raw_front front back field fits =
     let n : ℕ = field.raw.at + field.raw.len - field.raw.at in
-    let behind : drop field.raw.at (front ++ back) ≡ drop field.raw.at front ++ back = drop-append-le field.raw.at front back (omega arith) in
+    let following : drop field.raw.at (front ++ back) ≡ drop field.raw.at front ++ back = drop-append-le field.raw.at front back (omega arith) in
     let left = length-drop field.raw.at front in
-    sym (ap (take n) behind ∙ take-append-le n (drop field.raw.at front) back (omega arith))
+    sym (ap (take n) following ∙ take-append-le n (drop field.raw.at front) back (omega arith))
 
 alike_front : (front back : List ℕ) (fields : List Field) → All (λ (field : Field). field.raw.at + field.raw.len ≤ length front) fields
     → AllZip IsEndedField (map (raw_of (front ++ back)) fields) (map (raw_of front) fields)

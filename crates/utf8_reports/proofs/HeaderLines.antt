@@ -29,10 +29,10 @@ put_last [] x = refl
 put_last (y ∷ []) x = refl
 put_last (y ∷ z ∷ front) x = put_last (z ∷ front) x
 
-ends_behind : (x : ℕ) (front : List ℕ) (y : ℕ) (rest : List ℕ) → EndsIn x (front ++ y ∷ rest) → EndsIn x (y ∷ rest)
-ends_behind x [] y rest is = is
-ends_behind x (a ∷ []) y rest is = is
-ends_behind x (a ∷ b ∷ front) y rest is = ends_behind x (b ∷ front) y rest is
+ends_after : (x : ℕ) (front : List ℕ) (y : ℕ) (rest : List ℕ) → EndsIn x (front ++ y ∷ rest) → EndsIn x (y ∷ rest)
+ends_after x [] y rest is = is
+ends_after x (a ∷ []) y rest is = is
+ends_after x (a ∷ b ∷ front) y rest is = ends_after x (b ∷ front) y rest is
 
 no_text_ends : (x : ℕ) (text : List ℕ) → is_text x ≡ false → list_all is_text text ≡ true → EndsIn x text → ⊥
 no_text_ends x [] ends plain is = is
@@ -53,7 +53,7 @@ ended_all (line ∷ []) x ends are filled sound is =
     (ended_by line [] x ends (subst (EndsIn x) (append-nil line) is) text text.ends, tt)
 ended_all (line ∷ [] ∷ rest) x ends are filled sound is = absurd (filled.1.0 refl)
 ended_all (line ∷ (y ∷ next) ∷ rest) x ends are filled sound is =
-    (by are.0, ended_all ((y ∷ next) ∷ rest) x ends are.1 filled.1 sound.1 (ends_behind x line y (next ++ concat rest) is))
+    (by are.0, ended_all ((y ∷ next) ∷ rest) x ends are.1 filled.1 sound.1 (ends_after x line y (next ++ concat rest) is))
   where
     by : EndsOnce line ⊎ (NeverEnds line × ((y ∷ next) ∷ rest ≡ [])) → EndsOnce line
     by (inl once) = once

@@ -59,10 +59,10 @@ pub to_begins : (octets found after name rest : List ℕ) (global : Bool) → Be
 to_begins octets found after name rest global begins is =
     field_begins to_name after is.to is.dated (path_plain is.to global is.is_path) (from_is octets found after name rest global begins is).rest
 
-pub to_is : (octets found after to behind name rest : List ℕ) (global : Bool) → BeginsFieldLine from_name octets found after → BeginsFieldLine to_name after to behind
-    → (is : BeginsHeading octets name global rest) → SameField to is.to behind is.dated
-to_is octets found after to behind name rest global begins next is =
-    field_is to_name after to is.to behind is.dated next (path_plain is.to global is.is_path) (from_is octets found after name rest global begins is).rest
+pub to_is : (octets found after to following name rest : List ℕ) (global : Bool) → BeginsFieldLine from_name octets found after → BeginsFieldLine to_name after to following
+    → (is : BeginsHeading octets name global rest) → SameField to is.to following is.dated
+to_is octets found after to following name rest global begins next is =
+    field_is to_name after to is.to following is.dated next (path_plain is.to global is.is_path) (from_is octets found after name rest global begins is).rest
 
 pub heading_begins : (octets name after to dated rest : List ℕ) (global : Bool) → BeginsFieldLine from_name octets name after → BeginsFieldLine to_name after to dated
     → IsReporter name → IsShownText to global → EndsHeading dated rest → BeginsHeading octets name global rest

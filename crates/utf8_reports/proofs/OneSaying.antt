@@ -31,7 +31,7 @@ use Rattle.utf8_reports.proofs.DateOctets.{is_printed, date_printed, printed_pla
 use Rattle.utf8_reports.proofs.PlainTexts.{address_plain, code_plain, name_plain}
 use Rattle.utf8_reports.proofs.ReportLines.{status_plain, typed_plain}
 use Rattle.utf8_reports.proofs.ReportTrees.{before, before-more}
-use Rattle.utf8_reports.proofs.Prefixes.{behind_same}
+use Rattle.utf8_reports.proofs.Prefixes.{after_same}
 use Rattle.utf8_reports.proofs.ServedLines.{shown_comes}
 use Rattle.utf8_reports.proofs.WholeLines.{IsPlain}
 
@@ -41,12 +41,12 @@ use Rattle.utf8_reports.proofs.WholeLines.{IsPlain}
 pub line_once : (a b x y : List ℕ) → IsPlain a → IsPlain b → (a ++ crlf) ++ x ≡ (b ++ crlf) ++ y → (a ≡ b) × (x ≡ y)
 line_once a b x y p q same =
     let both = span_once is_line_octet a b (crlf ++ x) (crlf ++ y) p q refl refl (sym (append_assoc a crlf x) ∙ (same ∙ append_assoc b crlf y)) in
-    (both.0, behind_same crlf x y both.1)
+    (both.0, after_same crlf x y both.1)
 
 -- and the same first field
 pub field_once : (name a b x y : List ℕ) → IsPlain a → IsPlain b → field_line name a ++ x ≡ field_line name b ++ y → (a ≡ b) × (x ≡ y)
 field_once name a b x y p q same =
-    line_once a b x y p q (behind_same name ((a ++ crlf) ++ x) ((b ++ crlf) ++ y) (sym (append_assoc name (a ++ crlf) x) ∙ (same ∙ append_assoc name (b ++ crlf) y)))
+    line_once a b x y p q (after_same name ((a ++ crlf) ++ x) ((b ++ crlf) ++ y) (sym (append_assoc name (a ++ crlf) x) ∙ (same ∙ append_assoc name (b ++ crlf) y)))
 
 -- ---- a recipient
 
@@ -66,10 +66,10 @@ form_once false t u p q same = ReadsAs-once (utf8_form false u) t u (subst (λ f
 
 typed_by : (global : Bool) (t u : List ℕ) → IsUtf8 t → IsUtf8 u → (b c : Bool)
     → (if b then codes "rfc822; " ++ t else codes "utf-8; " ++ utf8_form global t) ≡ (if c then codes "rfc822; " ++ u else codes "utf-8; " ++ utf8_form global u) → t ≡ u
-typed_by global t u p q true true same = behind_same (codes "rfc822; ") t u same
+typed_by global t u p q true true same = after_same (codes "rfc822; ") t u same
 typed_by global t u p q true false same = absurd (omega (arith, same_octet 114 117 (ap (λ l. slice_get l 0) same)))
 typed_by global t u p q false true same = absurd (omega (arith, same_octet 117 114 (ap (λ l. slice_get l 0) same)))
-typed_by global t u p q false false same = form_once global t u p q (behind_same (codes "utf-8; ") (utf8_form global t) (utf8_form global u) same)
+typed_by global t u p q false false same = form_once global t u p q (after_same (codes "utf-8; ") (utf8_form global t) (utf8_form global u) same)
 
 typed_once : (global : Bool) (t u : List ℕ) → IsUtf8 t → IsUtf8 u → typed_address global t ≡ typed_address global u → t ≡ u
 typed_once global t u p q same = typed_by global t u p q (list_all is_ascii t) (list_all is_ascii u) same
@@ -123,10 +123,10 @@ recipient_once global one other a b p q ends too same =
     let status_too = field_line (codes "Status: ") other.status ++ (diagnostic_field other.code ++ b) in
     let whole = sym (pieces global one a) ∙ (same ∙ pieces global other b) in
     let first = field_once (codes "Final-Recipient: ") typed typed_too (action ++ status) (action ++ status_too) (typed_plain global (address_text one.address) (address_plain one.address p.address))
-    (typed_plain global (address_text other.address) (address_plain other.address q.address)) (behind_same crlf _ _ whole) in
+    (typed_plain global (address_text other.address) (address_plain other.address q.address)) (after_same crlf _ _ whole) in
     let text = typed_once global (address_text one.address) (address_text other.address) (text_utf8 one.address p.address) (text_utf8 other.address q.address) first.0 in
     let next = field_once (codes "Status: ") one.status other.status (diagnostic_field one.code ++ a) (diagnostic_field other.code ++ b) (status_plain one.status p.status) (status_plain other.status q.status)
-    (behind_same action status status_too first.1) in
+    (after_same action status status_too first.1) in
     let last = diagnostic_once one.code other.code a b p.code q.code ends too next.1 in
     (failed_same one other (path_once one.address other.address p.address q.address text) next.0 last.0, last.1)
 
@@ -170,9 +170,9 @@ one_type false true same = let size : 37 ≡ 44 = ap length same in absurd (omeg
 one_type false false same = refl
 
 -- what stands behind the fields of a heading
-behind_heading : (failure other : Failure) (header header_too octets : List ℕ) (a : IsReport failure header octets) (b : IsReport other header_too octets) (x y : List ℕ)
+after_heading : (failure other : Failure) (header header_too octets : List ℕ) (a : IsReport failure header octets) (b : IsReport other header_too octets) (x y : List ℕ)
     → heading failure.name (shown_path failure.path) a.date ++ x ≡ heading other.name (shown_path other.path) b.date ++ y → x ≡ y
-behind_heading failure other header header_too octets a b x y same =
+after_heading failure other header header_too octets a b x y same =
     let to = shown_path failure.path in
     let to_too = shown_path other.path in
     let whole = sym (before-more (field_line (codes "From: MAILER-DAEMON@") failure.name ∷ field_line (codes "To: ") to ∷ field_line (codes "Date: ") a.date ∷ []) fixed_lines x)
@@ -181,15 +181,15 @@ behind_heading failure other header header_too octets a b x y same =
     let path = field_once (codes "To: ") to to_too _ _ (address_plain _ (shown_comes failure.path a.is_failure.path)) (address_plain _ (shown_comes other.path b.is_failure.path)) from.1 in
     let date = field_once (codes "Date: ") a.date b.date (fixed_lines ++ x) (fixed_lines ++ y) (pass-weaker is_printed is_line_octet printed_plain a.date (date_printed failure.seconds a.date a.is_date))
     (pass-weaker is_printed is_line_octet printed_plain b.date (date_printed other.seconds b.date b.is_date)) path.1 in
-    behind_same fixed_lines x y date.1
+    after_same fixed_lines x y date.1
 
-behind_status : (global other : Bool) (name name_too x y : List ℕ) → IsPlain name → IsPlain name_too → status_heading global name ++ x ≡ status_heading other name_too ++ y → (global ≡ other) × (x ≡ y)
-behind_status global other name name_too x y p q same =
+after_status : (global other : Bool) (name name_too x y : List ℕ) → IsPlain name → IsPlain name_too → status_heading global name ++ x ≡ status_heading other name_too ++ y → (global ≡ other) × (x ≡ y)
+after_status global other name name_too x y p q same =
     let mta = field_line (codes "Reporting-MTA: dns; ") name in
     let mta_too = field_line (codes "Reporting-MTA: dns; ") name_too in
     let whole = sym (before-more (delimiter ∷ text_line (status_type global) ∷ crlf ∷ []) mta x) ∙ (same ∙ before-more (delimiter ∷ text_line (status_type other) ∷ crlf ∷ []) mta_too y) in
-    let type = line_once (status_type global) (status_type other) (crlf ++ (mta ++ x)) (crlf ++ (mta_too ++ y)) (status_type_plain global) (status_type_plain other) (behind_same delimiter _ _ whole) in
-    let last = field_once (codes "Reporting-MTA: dns; ") name name_too x y p q (behind_same crlf (mta ++ x) (mta_too ++ y) type.1) in
+    let type = line_once (status_type global) (status_type other) (crlf ++ (mta ++ x)) (crlf ++ (mta_too ++ y)) (status_type_plain global) (status_type_plain other) (after_same delimiter _ _ whole) in
+    let last = field_once (codes "Reporting-MTA: dns; ") name name_too x y p q (after_same crlf (mta ++ x) (mta_too ++ y) type.1) in
     (one_type global other type.0, last.1)
 
 told_once : (global other : Bool) (failed others : List FailedRecipient) (header header_too : List ℕ) → AllByRecursion IsFailed failed → AllByRecursion IsFailed others → global ≡ other
@@ -203,8 +203,8 @@ record SaysAlike (failure other : Failure) : Type 0 where
 
 one_saying : (failure other : Failure) (header header_too octets : List ℕ) → IsReport failure header octets → IsReport other header_too octets → SaysAlike failure other
 one_saying failure other header header_too octets a b =
-    let status = behind_heading failure other header header_too octets a b _ _ (sym a.whole ∙ b.whole) in
-    let told = behind_status (is_global failure.path) (is_global other.path) failure.name other.name _ _ (name_plain failure.name a.is_failure.name) (name_plain other.name b.is_failure.name) status in
+    let status = after_heading failure other header header_too octets a b _ _ (sym a.whole ∙ b.whole) in
+    let told = after_status (is_global failure.path) (is_global other.path) failure.name other.name _ _ (name_plain failure.name a.is_failure.name) (name_plain other.name b.is_failure.name) status in
     record {
       global = told.0;
       failed = told_once (is_global failure.path) (is_global other.path) failure.failed other.failed header header_too (recursion_from_All IsFailed failure.failed a.is_failure.failed)

@@ -67,24 +67,24 @@ status_part status code rest = field_line (codes "Status: ") status ++ (diagnost
 abbrev pub outcome_part : List ℕ → Option ℕ → List ℕ → List ℕ
 outcome_part status code rest = text_line (codes "Action: failed") ++ status_part status code rest
 
-pub behind_action : (octets after status rest : List ℕ) (code : Option ℕ) → octets ≡ codes "Action: failed\r\n" ++ after → octets ≡ outcome_part status code rest
+pub after_action : (octets after status rest : List ℕ) (code : Option ℕ) → octets ≡ codes "Action: failed\r\n" ++ after → octets ≡ outcome_part status code rest
     → after ≡ status_part status code rest
-behind_action octets after status rest code found whole = append_cancel_left (codes "Action: failed\r\n") after (status_part status code rest) (sym found ∙ whole)
+after_action octets after status rest code found whole = append_cancel_left (codes "Action: failed\r\n") after (status_part status code rest) (sym found ∙ whole)
 
 pub begins_status : (octets after status rest : List ℕ) (code : Option ℕ) → octets ≡ codes "Action: failed\r\n" ++ after → IsStatusCode status
     → octets ≡ outcome_part status code rest → BeginsFieldLine (codes "Status: ") after status (diagnostic_field code ++ rest)
 begins_status octets after status rest code found is whole =
-    field_begins (codes "Status: ") after status (diagnostic_field code ++ rest) (status_plain status is) (behind_action octets after status rest code found whole)
+    field_begins (codes "Status: ") after status (diagnostic_field code ++ rest) (status_plain status is) (after_action octets after status rest code found whole)
 
-pub status_is : (octets after found behind status rest : List ℕ) (code : Option ℕ) → octets ≡ codes "Action: failed\r\n" ++ after
-    → BeginsFieldLine (codes "Status: ") after found behind → IsStatusCode status → octets ≡ outcome_part status code rest
-    → SameField found status behind (diagnostic_field code ++ rest)
-status_is octets after found behind status rest code action begins is whole =
-    field_is (codes "Status: ") after found status behind (diagnostic_field code ++ rest) begins (status_plain status is)
-    (behind_action octets after status rest code action whole)
+pub status_is : (octets after found following status rest : List ℕ) (code : Option ℕ) → octets ≡ codes "Action: failed\r\n" ++ after
+    → BeginsFieldLine (codes "Status: ") after found following → IsStatusCode status → octets ≡ outcome_part status code rest
+    → SameField found status following (diagnostic_field code ++ rest)
+status_is octets after found following status rest code action begins is whole =
+    field_is (codes "Status: ") after found status following (diagnostic_field code ++ rest) begins (status_plain status is)
+    (after_action octets after status rest code action whole)
 
-pub outcome_whole : (octets after status behind rest : List ℕ) (code : Option ℕ) → octets ≡ codes "Action: failed\r\n" ++ after
-    → BeginsFieldLine (codes "Status: ") after status behind → behind ≡ diagnostic_field code ++ rest → octets ≡ outcome_part status code rest
-outcome_whole octets after status behind rest code action begins last =
+pub outcome_whole : (octets after status following rest : List ℕ) (code : Option ℕ) → octets ≡ codes "Action: failed\r\n" ++ after
+    → BeginsFieldLine (codes "Status: ") after status following → following ≡ diagnostic_field code ++ rest → octets ≡ outcome_part status code rest
+outcome_whole octets after status following rest code action begins last =
     action ∙ ap (λ l. codes "Action: failed\r\n" ++ l)
-    (field_whole (codes "Status: ") after status behind begins ∙ ap (λ l. field_line (codes "Status: ") status ++ l) last)
+    (field_whole (codes "Status: ") after status following begins ∙ ap (λ l. field_line (codes "Status: ") status ++ l) last)

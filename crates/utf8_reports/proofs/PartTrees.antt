@@ -162,8 +162,8 @@ last_part at lines unmarked = passed_over at [] lines (close ∷ []) unmarked �
 -- ---- the three parts of a report
 
 -- what stands behind the first delimiter line
-stands_behind : (octets : List ℕ) (at : ℕ) (lines rest : List (List ℕ)) → Stands octets at (concat (lines ++ delimiter ∷ rest)) → Stands octets (at + size lines + length delimiter) (concat rest)
-stands_behind octets at lines rest stands =
+stands_after : (octets : List ℕ) (at : ℕ) (lines rest : List (List ℕ)) → Stands octets at (concat (lines ++ delimiter ∷ rest)) → Stands octets (at + size lines + length delimiter) (concat rest)
+stands_after octets at lines rest stands =
     let whole : Stands octets at (concat lines ++ (delimiter ++ concat rest)) = subst (Stands octets at) (concat-append lines (delimiter ∷ rest)) stands in
     Stands-back octets (at + size lines) delimiter (concat rest) (Stands-back octets at (concat lines) (delimiter ++ concat rest) whole)
 
@@ -197,7 +197,7 @@ second_part levels octets at content has stands =
     let line = Stands-front octets at has.status _ stands in
     rw (part_before at lines rest (has.is_status.unmarked, (crlf_unmarked, has.told_unmarked)))
     (more_parts levels octets at lines _ (typed_part levels octets at has.status has.told has.is_status line)
-    (third_part levels octets (at + size lines + length delimiter) content has (stands_behind octets at lines rest stands)))
+    (third_part levels octets (at + size lines + length delimiter) content has (stands_after octets at lines rest stands)))
 
 pub all_parts : (levels : ℕ) (octets : List ℕ) (at : ℕ) (content : List (List ℕ)) → HasThreeParts content → Stands octets at (concat content)
     → (shape : Shape) × (inner : List Entity) × IsOpened (IsEntity (suc levels) octets) (Parts boundary false) 0 at content shape inner
@@ -209,7 +209,7 @@ all_parts levels octets at content has stands =
     let parts : parts_of boundary at content ≡ record { at = body; lines = cut_last lines } ∷ parts_on boundary (body + size lines + length delimiter) [] others =
     ap (parts_of boundary at) has.whole ∙ (parts_of-delimiter boundary at delimiter (lines ++ delimiter ∷ others) delimits ∙ part_before body lines others (crlf_unmarked, has.person_unmarked)) in
     let made = more_parts levels octets body lines _ (plain_part levels octets body has.person)
-    (second_part levels octets (body + size lines + length delimiter) content has (stands_behind octets body lines others all)) 1 in
+    (second_part levels octets (body + size lines + length delimiter) content has (stands_after octets body lines others all)) 1 in
     (Multipart, made.0, rw parts (refl, made.1))
 
 -- ---- the whole
@@ -231,7 +231,7 @@ built_tree line content is =
     let own : lines_of octets ≡ lines =
     ap lines_of (sym (append-nil octets)) ∙ (lines_of-front lines [] (is.type.ended, (refl, is.ended)) ∙ (ap (λ l. lines ++ l) no_octets ∙ append-nil lines)) in
     let whole : Stands octets 0 octets = Stands-whole octets in
-    let behind = Stands-back octets (0 + length line) crlf (concat content) (Stands-back octets 0 line (crlf ++ concat content) whole) in
-    let inside = all_parts 30 octets (0 + length line + size (take 1 (crlf ∷ content))) content is.parts behind in
+    let following = Stands-back octets (0 + length line) crlf (concat content) (Stands-back octets 0 line (crlf ++ concat content) whole) in
+    let inside = all_parts 30 octets (0 + length line + size (take 1 (crlf ∷ content))) content is.parts following in
     let root = typed_entity 31 octets None 0 0 line (crlf ∷ content) (Parts boundary false) inside.0 inside.1 (record { type = is.type; ends = refl; stands = Stands-front octets 0 line _ whole }) inside.2 in
     (root.0, record { is_message = sound_concat lines (is.type.sound, (crlf_sound, is.sound)); root = rw own root.1 })

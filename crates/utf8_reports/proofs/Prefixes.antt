@@ -15,9 +15,9 @@ none_if N M None f m = f m
 none_if N M (Some x) f m = tt
 
 -- the same octets stand behind the same ones
-pub behind_same : (xs ys zs : List ℕ) → xs ++ ys ≡ xs ++ zs → ys ≡ zs
-behind_same [] ys zs h = h
-behind_same (x ∷ xs) ys zs h = behind_same xs ys zs (next h)
+pub after_same : (xs ys zs : List ℕ) → xs ++ ys ≡ xs ++ zs → ys ≡ zs
+after_same [] ys zs h = h
+after_same (x ∷ xs) ys zs h = after_same xs ys zs (next h)
   where
     next : x ∷ (xs ++ ys) ≡ x ∷ (xs ++ zs) → xs ++ ys ≡ xs ++ zs
     next h = cc

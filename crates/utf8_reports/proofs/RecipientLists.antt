@@ -57,18 +57,18 @@ left_ends global last (one ∷ more) ends = inl (ap (λ l. slice_get l 0) (left_
 pub record IsNext (global : Bool) (rest last : List ℕ) (more : List FailedRecipient) : Type 0 where
   pub one : FailedRecipient
   pub others : List FailedRecipient
-  pub behind : List ℕ
+  pub following : List ℕ
   pub more_are : more ≡ one ∷ others
-  pub begins : BeginsRecipient global rest one behind
-  pub ends : EndsRecipient behind
-  pub left : AreLeft global behind others last
+  pub begins : BeginsRecipient global rest one following
+  pub ends : EndsRecipient following
+  pub left : AreLeft global following others last
 
 next_of : (global : Bool) (rest last tail : List ℕ) (more : List FailedRecipient) → rest ≡ 13 ∷ 10 ∷ tail → AreLeft global rest more last → IsNext global rest last more
 next_of global rest last tail [] empty left = let same = first_is 13 45 (10 ∷ tail) last (sym left.whole ∙ empty) left.ends in absurd (omega arith)
 next_of global rest last tail (one ∷ others) empty left = record {
   one = one;
   others = others;
-  behind = fields_of global others ++ last;
+  following = fields_of global others ++ last;
   more_are = refl;
   begins = record { is_failed = All-head IsFailed one others left.are_failed; whole = left.whole ∙ append_assoc (recipient_fields global one) (fields_of global others) last };
   ends = left_ends global last others left.ends;
@@ -85,7 +85,7 @@ next_there global octets rest last tail failed all read empty is =
 -- one recipient more was read
 pub read_next : (global : Bool) (octets rest after tail : List ℕ) (failed new : List FailedRecipient) (one : FailedRecipient) → HasReadRecipients global octets failed rest
     → rest ≡ 13 ∷ 10 ∷ tail → BeginsRecipient global rest one after
-    → ((other : FailedRecipient) (behind : List ℕ) → BeginsRecipient global rest other behind → EndsRecipient behind → (one ≡ other) × (after ≡ behind))
+    → ((other : FailedRecipient) (following : List ℕ) → BeginsRecipient global rest other following → EndsRecipient following → (one ≡ other) × (after ≡ following))
     → new ≡ failed ++ one ∷ [] → HasReadRecipients global octets new after
 read_next global octets rest after tail failed new one read empty begins exact pushed = rw pushed (record {
   are_failed = All-push IsFailed failed one read.are_failed begins.is_failed;
@@ -95,7 +95,7 @@ read_next global octets rest after tail failed new one read empty begins exact p
   others = λ all last is.
       let go = read.others all last is in
       let next = next_of global rest last tail go.more empty go.left in
-      let same = exact next.one next.behind next.begins next.ends in
+      let same = exact next.one next.following next.begins next.ends in
       record {
         more = next.others;
         all_are = go.all_are

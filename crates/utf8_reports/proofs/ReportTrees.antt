@@ -146,10 +146,10 @@ in_order global name to date told header =
     let type = text_line (status_type global) in
     let shown : header_part global header ≡ before (delimiter ∷ text_line (header_type global) ∷ crlf ∷ header ∷ []) close =
     before-more (delimiter ∷ text_line (header_type global) ∷ []) crlf (header ++ close) in
-    let tells : status_heading global name ++ (told ++ header_part global header) ≡ before (delimiter ∷ type ∷ crlf ∷ (mta ++ told) ∷ []) (header_part global header) =
+    let observed : status_heading global name ++ (told ++ header_part global header) ≡ before (delimiter ∷ type ∷ crlf ∷ (mta ++ told) ∷ []) (header_part global header) =
     before-more (delimiter ∷ type ∷ crlf ∷ []) mta (told ++ header_part global header)
     ∙ ap (λ l. before (delimiter ∷ type ∷ crlf ∷ []) l) (sym (append_assoc mta told (header_part global header))) in
-    let last = tells ∙ ap (λ l. before (delimiter ∷ type ∷ crlf ∷ (mta ++ told) ∷ []) l) shown in
+    let last = observed ∙ ap (λ l. before (delimiter ∷ type ∷ crlf ∷ (mta ++ told) ∷ []) l) shown in
     ap (λ l. heading name to date ++ l) last
     ∙ (before-more (field_line (codes "From: MAILER-DAEMON@") name ∷ field_line (codes "To: ") to ∷ field_line (codes "Date: ") date ∷ text_line (codes "Subject: Undelivered mail")
     ∷ text_line (codes "MIME-Version: 1.0") ∷ type_text ∷ crlf ∷ delimiter ∷ crlf ∷ []) person_text _
@@ -183,11 +183,11 @@ content_lines global told header =
 content_whole : (global : Bool) (told header : List ℕ) (x : HoldsLines told) (y : HoldsLines header) → concat (type_text ∷ crlf ∷ content_lines global x.lines y.lines) ≡ body_of global told header
 content_whole global told header x y =
     let last : concat (y.lines ++ close ∷ []) ≡ header ++ close = joined y (close ∷ []) ∙ ap (λ l. header ++ l) (append-nil close) in
-    let tells : concat (x.lines ++ delimiter ∷ text_line (header_type global) ∷ crlf ∷ (y.lines ++ close ∷ [])) ≡ told ++ before (delimiter ∷ text_line (header_type global) ∷ crlf ∷ []) (header ++ close) =
+    let observed : concat (x.lines ++ delimiter ∷ text_line (header_type global) ∷ crlf ∷ (y.lines ++ close ∷ [])) ≡ told ++ before (delimiter ∷ text_line (header_type global) ∷ crlf ∷ []) (header ++ close) =
     joined x (delimiter ∷ text_line (header_type global) ∷ crlf ∷ (y.lines ++ close ∷ [])) ∙ ap (λ l. told ++ before (delimiter ∷ text_line (header_type global) ∷ crlf ∷ []) l) last in
     ap (λ l. before (type_text ∷ crlf ∷ delimiter ∷ crlf ∷ []) l)
     (joined person_lines (delimiter ∷ text_line (status_type global) ∷ crlf ∷ (x.lines ++ delimiter ∷ text_line (header_type global) ∷ crlf ∷ (y.lines ++ close ∷ [])))
-    ∙ ap (λ l. person_text ++ before (delimiter ∷ text_line (status_type global) ∷ crlf ∷ []) l) tells)
+    ∙ ap (λ l. person_text ++ before (delimiter ∷ text_line (status_type global) ∷ crlf ∷ []) l) observed)
 
 body_tree : (global : Bool) (told header : List ℕ) → HoldsLines told → HoldsLines header → (entities : List Entity) × HasTree (body_of global told header) entities
 body_tree global told header x y =

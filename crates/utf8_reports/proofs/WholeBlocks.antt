@@ -33,8 +33,8 @@ use Rattle.surrogate_rope.specs.Ropes.{changed, CountsChanged}
 -- ---- the tree
 
 -- the entity has no fields, and ends no earlier than here
-abbrev pub IsEmptyBehind : ℕ → Entity → Type 0
-IsEmptyBehind from entity = (entity.block.fields ≡ []) × (from ≤ entity.block.end)
+abbrev pub IsEmptyAfter : ℕ → Entity → Type 0
+IsEmptyAfter from entity = (entity.block.fields ≡ []) × (from ≤ entity.block.end)
 
 -- The octets have a tree, in which only the first entity has fields: it is the block.
 pub record HasWholeTree (octets : List ℕ) (fields : List Field) : Type 0 where
@@ -44,7 +44,7 @@ pub record HasWholeTree (octets : List ℕ) (fields : List Field) : Type 0 where
   pub fields_are : entity.block.fields ≡ fields
   pub end_is : entity.block.end ≡ length octets
   pub at_is : entity.at ≡ 0
-  pub empty : AllByRecursion (IsEmptyBehind (length octets)) inner
+  pub empty : AllByRecursion (IsEmptyAfter (length octets)) inner
   pub opening : Opening
   pub opens : Opens false (map (raw_of octets) fields) opening
   pub message : entity.shape ≡ Message → opening ≡ OneMessage
@@ -54,7 +54,7 @@ record HasInside (levels : ℕ) (octets : List ℕ) (opening : Opening) (body : 
   shape : Shape
   inner : List Entity
   is : IsOpened (IsEntity levels octets) opening 0 body [] shape inner
-  empty : AllByRecursion (IsEmptyBehind body) inner
+  empty : AllByRecursion (IsEmptyAfter body) inner
   message : shape ≡ Message → opening ≡ OneMessage
 
 leaf_message : Leaf ≡ Message → (opening : Opening) → opening ≡ OneMessage
@@ -63,7 +63,7 @@ leaf_message is opening = cc is
 opens_nothing : Opens false [] Nothing
 opens_nothing = record { encoding = None; is_encoding = refl; opened = inl (tt, (None, refl, refl)) }
 
-empty_entity : (levels : ℕ) (octets : List ℕ) (number at : ℕ) → (inner : List Entity) × IsEntity (suc levels) octets (Some number) false (number + 1) at [] inner × AllByRecursion (IsEmptyBehind at) inner
+empty_entity : (levels : ℕ) (octets : List ℕ) (number at : ℕ) → (inner : List Entity) × IsEntity (suc levels) octets (Some number) false (number + 1) at [] inner × AllByRecursion (IsEmptyAfter at) inner
 unfolding IsEntity
 empty_entity levels octets number at =
     let block : Block = record { fields = []; end = at } in
@@ -143,21 +143,21 @@ whole_tree octets fields sound block =
 
 -- ---- what is made of it
 
-behind_all : (octets : List ℕ) (from to : ℕ) → length octets ≤ from → slice_range octets from to ≡ []
-behind_all octets from to past = ap (take (to - from)) (drop_all from octets past) ∙ take_all (to - from) [] (omega arith)
+following_all : (octets : List ℕ) (from to : ℕ) → length octets ≤ from → slice_range octets from to ≡ []
+following_all octets from to past = ap (take (to - from)) (drop_all from octets past) ∙ take_all (to - from) [] (omega arith)
 
 no_made : (Holds : List ℕ → List ℕ → Type 0) (octets : List ℕ) (fields : List Field) (mades : List (List ℕ)) → fields ≡ [] → AllZip Holds (map (raw_of octets) fields) mades → mades ≡ []
 no_made Holds octets [] [] none all = refl
 no_made Holds octets [] (made ∷ mades) none all = absurd all
 no_made Holds octets (field ∷ fields) mades none all = cc none
 
-inner_made : (IsMade : FieldRelation) (octets : List ℕ) (from : ℕ) (inner : List Entity) (made : List ℕ) → length octets ≤ from → AllByRecursion (IsEmptyBehind (length octets)) inner
+inner_made : (IsMade : FieldRelation) (octets : List ℕ) (from : ℕ) (inner : List Entity) (made : List ℕ) → length octets ≤ from → AllByRecursion (IsEmptyAfter (length octets)) inner
     → RewritesBlocks IsMade octets from (length octets) inner made → made ≡ []
 inner_made IsMade octets from [] made past empty is = is ∙ slice_none octets from (length octets) past
 inner_made IsMade octets from (entity ∷ inner) made past empty is =
     let none = no_made (IsMade entity) octets entity.block.fields is.0 empty.0.0 is.2 in
     let rest = inner_made IsMade octets entity.block.end inner is.1 empty.0.1 empty.1 is.4 in
-    is.3 ∙ rw (behind_all octets from entity.at past, none, rest) refl
+    is.3 ∙ rw (following_all octets from entity.at past, none, rest) refl
 
 joined_raws : (octets : List ℕ) (fields : List Field) → concat (map (raw_of octets) fields) ≡ flat_map (raw_of octets) fields
 joined_raws octets [] = refl
@@ -194,7 +194,7 @@ none_changed Holds (raw ∷ raws) (made ∷ mades) all none = elim (cases_Bool (
   | inr other ↦ let some : (if false then 0 else 1) + changed raws mades ≡ 0 = rw other at none in absurd (omega (arith, some))
 ]
 
-inner_counts : (IsMade : FieldRelation) (octets : List ℕ) (from : ℕ) (inner : List Entity) (count : ℕ) → AllByRecursion (IsEmptyBehind from) inner → CountsChanged IsMade octets inner count → count ≡ 0
+inner_counts : (IsMade : FieldRelation) (octets : List ℕ) (from : ℕ) (inner : List Entity) (count : ℕ) → AllByRecursion (IsEmptyAfter from) inner → CountsChanged IsMade octets inner count → count ≡ 0
 inner_counts IsMade octets from [] count empty is = is
 inner_counts IsMade octets from (entity ∷ inner) count empty is =
     let none : changed (raws_of octets entity.block) is.0 ≡ 0 = ap (λ fields. changed (map (raw_of octets) fields) is.0) empty.0.0 in

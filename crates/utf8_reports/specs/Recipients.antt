@@ -1,6 +1,7 @@
 -- What a delivery status tells of one recipient (RFC 3464, 2.3; RFC 6533, 3 and 4).
 use Rattle.std.specs.Prelude.{◌≡◌, ◌≤◌, ◌<◌, ℕ, ◌+◌, ◌/◌, ◌%◌, Bool, true, if◌then◌else◌, List, [], ◌∷◌, ◌++◌, length, codes, Option, Some, None, IfSome}
 use Rattle.std.specs.List.{list_all}
+use Rattle.mail_wire.specs.Characters.{dot}
 use Rattle.mail_wire.specs.Lines.{crlf}
 use Rattle.mail_wire.specs.Numbers.{is_digit}
 use Rattle.mail_wire.specs.Octets.{is_ascii}
@@ -25,7 +26,7 @@ pub record IsStatusCode (text : List ℕ) : Type 0 where
   pub is_class : IsDecimal class_digits
   pub is_subject : IsDecimal subject
   pub is_detail : IsDecimal detail
-  pub whole : text ≡ class_digits ++ 46 ∷ (subject ++ 46 ∷ detail)
+  pub whole : text ≡ class_digits ++ dot ∷ (subject ++ dot ∷ detail)
 
 -- the code of a reply (RFC 5321, 4.2): its first digit is 2 to 5
 pub record IsReplyCode (code : ℕ) : Type 0 where

@@ -8,7 +8,7 @@ ghost use Rattle.address_grammar.specs.Paths.{ComesInPath, HasPath, in_angles};
 ghost use Rattle.utf8_reports.specs.Recipients.{typed_address, utf8_form};
 ghost use Rattle.utf8_reports.specs.private.Reading.{SpellsAddress};
 
-use crate::fields::behind;
+use crate::fields::following;
 use address_grammar::{Address, AddressFault, read_path, write_address};
 use encapsulated_fields::{read_xtext, unitext_of, xtext_of};
 use mail_wire::{Memory, Octets, is_ascii};
@@ -103,14 +103,14 @@ fn typed_text(alloc: Global, typed: &[u8], global: bool) -> Result<Option<Octets
     ensures found { IfOk result (λ o. IfSome o (λ text. typed.now ≡ typed_address global text)) }
     ensures exact { (text : List ℕ) → IsUtf8 text → typed.now ≡ typed_address global text → IfOk result (λ o. o ≡ Some text) }
 {
-    if let Some(text) = behind(typed, b"rfc822; ") {
+    if let Some(text) = following(typed, b"rfc822; ") {
         if !is_ascii(text) {
             return Ok(None);
         }
         let text = Octets::from_slice(alloc, text)?;
         return Ok(Some(text));
     }
-    match behind(typed, b"utf-8; ") {
+    match following(typed, b"utf-8; ") {
         Some(form) => formed_text(alloc, form, global),
         None => Ok(None),
     }

@@ -4,7 +4,7 @@ ghost use Rattle.httpdate.specs.Date.{date_text};
 ghost use Rattle.httpdate.specs.declared.date.HttpDate.{HttpDate as Date};
 ghost use Rattle.utf8_reports.specs.private.Reading.{IsSomeDate};
 
-use crate::fields::behind;
+use crate::fields::following;
 use httpdate::HttpDate;
 
 // The octets of a date's text, but for its zone.

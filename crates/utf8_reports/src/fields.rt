@@ -23,7 +23,7 @@ pub fn push_field(made: &mut Octets, name: &[u8], body: &[u8]) -> Result<(), Mem
 }
 
 /// What follows these octets, where the others begin with them.
-pub fn behind<'a>(octets: &'a [u8], first: &[u8]) -> Option<&'a [u8]>
+pub fn following<'a>(octets: &'a [u8], first: &[u8]) -> Option<&'a [u8]>
     ensures found { IfSome result (λ rest. octets.now ≡ first.now ++ rest.now) }
     ensures none { IfNone result ((rest : List ℕ) → octets.now ≢ first.now ++ rest) }
 {
@@ -46,7 +46,7 @@ pub fn field_body<'a>(octets: &'a [u8], name: &[u8]) -> Option<(&'a [u8], &'a [u
     ensures found { IfSome result (λ x. BeginsFieldLine name.now octets.now x.0.now x.1.now) }
     ensures none { IfNone result ((body rest : List ℕ) → ¬ BeginsFieldLine name.now octets.now body rest) }
 {
-    let Some(after) = behind(octets, name) else {
+    let Some(after) = following(octets, name) else {
         return None;
     };
     split_line(after)

@@ -9,7 +9,7 @@ ghost use Rattle.utf8_reports.specs.private.Reading.{BeginsHeading, EndsHeading,
 use crate::dates::is_date;
 use crate::destinations::{is_reporter, read_destination};
 use crate::failure::{FailedRecipients, Report, ReportFault};
-use crate::fields::{behind, field_body};
+use crate::fields::{field_body, following};
 use crate::recipients::read_recipients;
 use crate::shown::is_some_header;
 use crate::writing::{push_header_heading, push_status_heading};
@@ -28,7 +28,7 @@ struct Heading<'a> {
 }
 
 // What follows the date, and the lines behind it that are the same in each report.
-fn behind_date(octets: &[u8]) -> Option<&[u8]>
+fn after_date(octets: &[u8]) -> Option<&[u8]>
     ensures found { IfSome result (λ rest. EndsHeading octets.now rest.now) }
     ensures none { IfNone result ((rest : List ℕ) → ¬ EndsHeading octets.now rest) }
 {
@@ -38,7 +38,7 @@ fn behind_date(octets: &[u8]) -> Option<&[u8]>
     if !is_date(date) {
         return None;
     }
-    behind(after, FIXED_LINES)
+    following(after, FIXED_LINES)
 }
 
 // The heading with which octets begin.
@@ -59,7 +59,7 @@ fn read_heading(alloc: Global, octets: &[u8]) -> Result<Option<Heading<'_>>, Mem
     let Some(global) = read_destination(alloc, to)? else {
         return Ok(None);
     };
-    match behind_date(after) {
+    match after_date(after) {
         Some(rest) => Ok(Some(Heading { name, global, rest })),
         None => Ok(None),
     }
@@ -87,7 +87,7 @@ fn header_in(alloc: Global, octets: &[u8], global: bool) -> Result<Option<&[u8]>
     ensures none { IfOk result (λ o. IfNone o ((header : List ℕ) → octets.now ≢ header_part_of global header)) }
 {
     let front = header_heading(alloc, global)?;
-    let Some(rest) = behind(octets, front.as_slice()) else {
+    let Some(rest) = following(octets, front.as_slice()) else {
         return Ok(None);
     };
     Ok(rest.strip_suffix(b"--report--\r\n"))
@@ -100,7 +100,7 @@ fn read_failed(alloc: Global, heading: &Heading<'_>) -> Result<Option<FailedReci
         → IfOk result (λ o. IsSomeAnd o (λ found. found ≡ failed)) }
 {
     let front = status_heading(alloc, heading.global, heading.name)?;
-    let Some(fields) = behind(heading.rest, front.as_slice()) else {
+    let Some(fields) = following(heading.rest, front.as_slice()) else {
         return Ok(None);
     };
     let Some((failed, rest)) = read_recipients(alloc, fields, heading.global)? else {

@@ -9,7 +9,7 @@ ghost use Rattle.utf8_reports.specs.private.Reading.{BeginsRecipient, BeginsReci
 use crate::addresses::{read_typed, typed_address};
 use crate::destinations::text_of;
 use crate::failure::{FailedRecipient, FailedRecipients};
-use crate::fields::{behind, field_body, push_field, push_line};
+use crate::fields::{field_body, following, push_field, push_line};
 use crate::statuses::{is_status, push_code, read_code};
 use mail_wire::{Memory, Octets};
 use std::alloc::Global;
@@ -94,7 +94,7 @@ fn read_outcome(octets: &[u8]) -> Option<Outcome<'_>>
         → octets.now ≡ text_line (codes "Action: failed") ++ (field_line (codes "Status: ") status ++ (diagnostic_field code ++ rest))
         → IsSomeAnd result (λ x. (x.status.now ≡ status) × (x.code ≡ code) × (x.rest.now ≡ rest)) }
 {
-    let Some(after) = behind(octets, b"Action: failed\r\n") else {
+    let Some(after) = following(octets, b"Action: failed\r\n") else {
         return None;
     };
     let Some((status, after)) = field_body(after, b"Status: ") else {

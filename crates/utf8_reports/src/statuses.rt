@@ -5,7 +5,7 @@ ghost use Rattle.mail_wire.specs.Spans.{IsSpan};
 ghost use Rattle.utf8_reports.specs.Recipients.{IsDecimal, IsStatusCode, IsReplyCode, code_digits};
 ghost use Rattle.utf8_reports.specs.private.Reading.{BeginsNumber};
 
-use crate::fields::behind;
+use crate::fields::following;
 use mail_wire::{Memory, Octets, are_digits};
 
 fn find_other(octets: &[u8]) -> Option<usize>
@@ -27,7 +27,7 @@ fn split_digits(text: &[u8]) -> (&[u8], &[u8])
 }
 
 // What follows a number and a dot.
-fn behind_number(text: &[u8]) -> Option<&[u8]>
+fn after_number(text: &[u8]) -> Option<&[u8]>
     ensures found { IfSome result (λ rest. BeginsNumber text.now rest.now) }
     ensures none { IfNone result ((rest : List ℕ) → ¬ BeginsNumber text.now rest) }
 {
@@ -35,7 +35,7 @@ fn behind_number(text: &[u8]) -> Option<&[u8]>
     if digits.is_empty() {
         return None;
     }
-    behind(after, b".")
+    following(after, b".")
 }
 
 fn is_decimal(text: &[u8]) -> bool
@@ -48,10 +48,10 @@ fn is_decimal(text: &[u8]) -> bool
 pub fn is_status(text: &[u8]) -> bool
     ensures { IsTrue result ↔ IsStatusCode text.now }
 {
-    let Some(behind_class) = behind_number(text) else {
+    let Some(after_class) = after_number(text) else {
         return false;
     };
-    let Some(detail) = behind_number(behind_class) else {
+    let Some(detail) = after_number(after_class) else {
         return false;
     };
     is_decimal(detail)

@@ -28,13 +28,13 @@ pub record AddsTree (text : List ℕ) (token : Token) (old new : List Comment) :
   pub added : trees_of new ≡ trees_of old ++ first
 
 -- a group's name and what stands behind its colon: no angle bracket opens in the name
-pub record SplitsName (tokens before behind : List TokenValue) : Type 0 where
-  pub splits : SplitsAt 58 tokens before behind
+pub record SplitsName (tokens before following : List TokenValue) : Type 0 where
+  pub splits : SplitsAt 58 tokens before following
   pub closed : lacks_special 60 before ≡ true
 
 abbrev pub SaysGroup : List TokenValue → List TokenValue → ElementValue → Type 0
-SaysGroup before behind (One m) = ⊥
-SaysGroup before behind (Group name members) = IsGroupBy before behind name members
+SaysGroup before following (One m) = ⊥
+SaysGroup before following (Group name members) = IsGroupBy before following name members
 
 abbrev pub SaysSingle : List TokenValue → ElementValue → Type 0
 SaysSingle tokens (One m) = IsMailbox tokens m

@@ -42,8 +42,8 @@ TakesToken old new t is_next_free = (phrase items : List PhraseItem) (given : Li
 
 -- a token is taken, and these units are given
 abbrev pub ReadsToken : PhraseReader → PhraseReader → TokenValue → List TokenValue → List UnitValue → Type 0
-ReadsToken old new t behind said = (phrase : List PhraseItem) (given : List UnitValue) → ReadsPhraseOn phrase given old (item_of t.kind t.octets ∷ phrase_items behind)
-    → ReadsPhraseOn phrase (given ++ said) new (phrase_items behind)
+ReadsToken old new t following said = (phrase : List PhraseItem) (given : List UnitValue) → ReadsPhraseOn phrase given old (item_of t.kind t.octets ∷ phrase_items following)
+    → ReadsPhraseOn phrase (given ++ said) new (phrase_items following)
 
 -- ---- how a phrase is written
 

@@ -43,14 +43,14 @@ abbrev pub AsciiPieces : List TokenValue → List (List ℕ) → Type 0
 AsciiPieces tokens pieces = (text : List TokenValue) × HasText tokens text × (pieces ≡ octets_of text ∷ [])
 
 -- the pieces of a phrase, an address in angle brackets, and then the other comments
-pub record NamedPieces (before behind : List TokenValue) (address : List ℕ) (pieces : List (List ℕ)) : Type 0 where
+pub record NamedPieces (before following : List TokenValue) (address : List ℕ) (pieces : List (List ℕ)) : Type 0 where
   pub core : List TokenValue
   pub trail : List TokenValue
   pub has_core : HasCore before core trail
   pub first : List (List ℕ)
   pub comments : List (List ℕ)
   pub phrase : PhrasePieces (list_all is_ascii (octets_of core)) core first
-  pub comments_are : CommentsPieces (comments_of (trail ++ behind)) comments
+  pub comments_are : CommentsPieces (comments_of (trail ++ following)) comments
   pub pieces_are : pieces ≡ first ++ in_angles address ∷ comments
 
 abbrev pub EndsNoGap : List TokenValue → Type 0
@@ -87,10 +87,10 @@ pub record AreServedMembers (tokens : List TokenValue) (are : Bool) : Type 0 whe
   pub served : are ≡ list_all has_served_address members
 
 -- the same of a group by its name and what stands behind its colon
-pub record IsServedGroupBy (before behind : List TokenValue) (is : Bool) : Type 0 where
+pub record IsServedGroupBy (before following : List TokenValue) (is : Bool) : Type 0 where
   pub name : List UnitValue
   pub members : List MailboxValue
-  pub group : IsGroupBy before behind name members
+  pub group : IsGroupBy before following name members
   pub served : is ≡ list_all has_served_address members
 
 pub record IsServedGroup (tokens : List TokenValue) (is : Bool) : Type 0 where
@@ -140,12 +140,12 @@ pub record GivesPlace (tokens : List TokenValue) (pieces : List (List ℕ)) : Ty
   pub gives : PlaceOfListPieces (are_blank tokens) tokens pieces
 
 -- and behind it stand these tokens
-pub record GivesFollowed (place behind : List TokenValue) (pieces : List (List ℕ)) : Type 0 where
+pub record GivesFollowed (place following : List TokenValue) (pieces : List (List ℕ)) : Type 0 where
   pub elements : List ElementValue
   pub says : SaysPlace place elements
   pub first : List (List ℕ)
   pub gives : PlaceOfListPieces (are_blank place) place first
-  pub pieces_are : pieces ≡ (if not (are_blank place) && list_any is_element_token behind then with_comma first else first)
+  pub pieces_are : pieces ≡ (if not (are_blank place) && list_any is_element_token following then with_comma first else first)
 
 -- the tokens are a list, with these pieces
 pub record GivesPlaces (tokens : List TokenValue) (pieces : List (List ℕ)) : Type 0 where

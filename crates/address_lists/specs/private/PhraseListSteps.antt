@@ -2,7 +2,7 @@
 use Rattle.std.specs.Prelude.{◌≡◌, ℕ, ◌<◌, List, length}
 use Rattle.std.specs.List.{AllByRecursion, join_with_byte}
 use Rattle.mail_wire.specs.Octets.{is_white}
-use Rattle.mail_wire.specs.Spans.{Stops, StopsBehind}
+use Rattle.mail_wire.specs.Spans.{Stops, StopsAfter}
 use Rattle.encoded_words.specs.Words.{UnitValue}
 use Rattle.field_tokens.specs.Tokens.{TokenValue}
 use Rattle.field_tokens.specs.Comments.{CommentValue, IsLinePiece}
@@ -26,6 +26,6 @@ pub record GivesPhrases (tokens : List TokenValue) (pieces : List (List ℕ)) : 
 pub record ArePhrasesAgain (phrases : List (List UnitValue)) (comments : List CommentValue) (pieces : List (List ℕ)) : Type 0 where
   pub says : SaysPhrases (join_with_byte 32 pieces) phrases comments
   pub begins : Stops is_white (join_with_byte 32 pieces)
-  pub ends : StopsBehind is_white (join_with_byte 32 pieces)
+  pub ends : StopsAfter is_white (join_with_byte 32 pieces)
   pub some : 0 < length pieces
   pub are_pieces : AllByRecursion IsLinePiece pieces

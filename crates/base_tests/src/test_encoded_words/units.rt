@@ -30,7 +30,7 @@ fn other_charsets_stay_apart(rt: HostRuntime) -> Result<(), Fail> {
             octets,
             source,
         },
-        Unit::Text(behind),
+        Unit::Text(following),
     ] = units.as_slice()
     else {
         return Err(Fail::from("other units"));
@@ -39,6 +39,6 @@ fn other_charsets_stay_apart(rt: HostRuntime) -> Result<(), Fail> {
     assert_eq!(rt; charset.as_slice(), b"iso-8859-1".as_slice());
     assert_eq!(rt; octets.as_slice(), b"x".as_slice());
     assert_eq!(rt; source.as_slice(), b"=?ISO-8859-1?Q?x?=".as_slice());
-    assert_eq!(rt; behind.as_slice(), b" z".as_slice());
+    assert_eq!(rt; following.as_slice(), b" z".as_slice());
     Ok(())
 }

@@ -11,9 +11,9 @@ abbrev pub GoesInOrder : List ℕ → Type 0
 GoesInOrder next = (block : ℕ) → block + 1 < length next → slice_index next block ≡ block + 1
 
 -- the block so many steps behind a block
-abbrev pub block_behind : List ℕ → ℕ → ℕ → ℕ
-block_behind next block zero = block
-block_behind next block (suc steps) = block_behind next (slice_index next block) steps
+abbrev pub block_after : List ℕ → ℕ → ℕ → ℕ
+block_after next block zero = block
+block_after next block (suc steps) = block_after next (slice_index next block) steps
 
 -- From this block on, the blocks of a chain of so many have this owner (None: they are free), and the rank of each is the number
 -- of those behind it. So no block stands in the chains of two owners, nor twice in one.

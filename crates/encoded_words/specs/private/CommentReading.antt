@@ -1,7 +1,7 @@
 -- How the reader takes the text of a comment.
 use Rattle.std.specs.Prelude.{◌≡◌, ℕ, Bool, true, ◌&&◌, not, if◌then◌else◌, List, [], ◌∷◌, ◌++◌, map, Option, is_some}
 use Rattle.std.specs.List.{flat_map, list_all, list_any}
-use Rattle.mail_wire.specs.Octets.{is_white, is_black}
+use Rattle.mail_wire.specs.Octets.{is_white, is_nonwhite}
 use Rattle.mail_wire.specs.Spans.{Stops, IsSpan}
 use Rattle.encoded_words.specs.declared.units.Merging.{Merging}
 use Rattle.encoded_words.specs.Words.{UnitValue, SaysWhere}
@@ -21,18 +21,18 @@ pub record BeginsOctetItem (text : List ℕ) (octet : ℕ) (rest : List ℕ) : T
   pub octet_is : octet ≡ item_octet item
 
 -- an item comes first that isn't white
-pub record BeginsBlack (text rest : List ℕ) : Type 0 where
+pub record BeginsNonwhite (text rest : List ℕ) : Type 0 where
   pub item : TextItem
   pub begins : BeginsItems text (item ∷ []) rest
-  pub black : not (is_white_item item) ≡ true
+  pub nonwhite : not (is_white_item item) ≡ true
 
 -- the word is the longest front of items that aren't white, and after follows it
 pub record SplitsWord (text word after : List ℕ) : Type 0 where
   pub items : List TextItem
   pub begins : BeginsItems text items after
   pub spelled : word ≡ flat_map item_spelling items
-  pub black : list_all (λ i. not (is_white_item i)) items ≡ true
-  pub stops : Stops is_black after
+  pub nonwhite : list_all (λ i. not (is_white_item i)) items ≡ true
+  pub stops : Stops is_nonwhite after
 
 -- the text is spelled by items that give these octets
 pub record GivesOctets (text octets : List ℕ) : Type 0 where

@@ -24,9 +24,9 @@ pub record CutsTokens (p : TokenValue → Bool) (tokens front rest : List TokenV
   pub begins : EndsOrBeginsSo p rest
 
 -- the tokens behind a semicolon, where there is one
-abbrev pub tokens_behind : Option Lexemes → Option (List TokenValue)
-tokens_behind None = None
-tokens_behind (Some date) = Some (values_of date)
+abbrev pub tokens_after : Option Lexemes → Option (List TokenValue)
+tokens_after None = None
+tokens_after (Some date) = Some (values_of date)
 
 -- the tokens before the first semicolon, and those behind it
 pub record CutsDate (tokens head : List TokenValue) (date : Option (List TokenValue)) : Type 0 where
@@ -35,7 +35,7 @@ pub record CutsDate (tokens head : List TokenValue) (date : Option (List TokenVa
 
 -- the clause of a token and those behind it
 abbrev pub clause_at : TokenValue → List TokenValue → ClauseTokens
-clause_at word behind = record { word = word; behind = behind }
+clause_at word following = record { word = word; following = following }
 
 -- the tokens are clauses, and these are their pieces
 pub record WritesClauses (tokens : List TokenValue) (pieces : List (List ℕ)) : Type 0 where

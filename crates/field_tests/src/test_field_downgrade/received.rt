@@ -37,7 +37,7 @@ fn hosts_are_served_in_their_form(rt: HostRuntime) -> Result<(), Fail> {
 }
 
 #[test]
-fn comments_stand_behind_their_clause(rt: HostRuntime) -> Result<(), Fail> {
+fn comments_stand_after_their_clause(rt: HostRuntime) -> Result<(), Fail> {
     let rows = [
         (
             "Received: (é)\r\n",

@@ -161,13 +161,13 @@ fn gaps_and_comments_become_spaces(rt: HostRuntime) -> Result<(), Fail> {
 fn are(lexemes: Lexemes<'_, '_>, wanted: &[(TokenKind, &[u8])]) -> bool {
     let mut left = lexemes;
     for (kind, octets) in wanted {
-        let Some((lexeme, behind)) = left.split_first() else {
+        let Some((lexeme, following)) = left.split_first() else {
             return false;
         };
         if lexeme.kind != *kind || lexeme.octets != *octets {
             return false;
         }
-        left = behind;
+        left = following;
     }
     left.is_empty() && lexemes.len() == wanted.len()
 }
@@ -191,10 +191,10 @@ fn tokens_are_read_by_their_marks(rt: HostRuntime) -> Result<(), Fail> {
         (TokenKind::Comment, b"(c)"),
     ];
     assert!(rt; are(all, &wanted));
-    let (front, behind) = all.split_at(3);
-    assert!(rt; are(front, &wanted[..3]) && are(behind, &wanted[3..]));
-    let (front, behind) = behind.split_at(7);
-    assert!(rt; are(front, &wanted[3..]) && behind.is_empty());
+    let (front, following) = all.split_at(3);
+    assert!(rt; are(front, &wanted[..3]) && are(following, &wanted[3..]));
+    let (front, following) = following.split_at(7);
+    assert!(rt; are(front, &wanted[3..]) && following.is_empty());
     Ok(())
 }
 

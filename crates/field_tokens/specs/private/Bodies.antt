@@ -43,10 +43,10 @@ body_depth (Before text inner more) = max (body_depth inner + 1) (body_depth mor
 -- the octets begin with a body that is no deeper than this, and a closing parenthesis follows it
 pub record HoldsBody (levels : ℕ) (octets : List ℕ) : Type 0 where
   pub body : Body
-  pub behind : List ℕ
+  pub following : List ℕ
   pub is_body : IsCommentBody body
   pub shallow : body_depth body < levels
-  pub whole : octets ≡ body_octets body ++ 41 ∷ behind
+  pub whole : octets ≡ body_octets body ++ 41 ∷ following
 
 -- the octets are a body, a closing parenthesis and rest, and the tree is the body's
 pub record ReadsBody (end : ℕ) (octets : List ℕ) (tree : Tree) (rest : List ℕ) : Type 0 where

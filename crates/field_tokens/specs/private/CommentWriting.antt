@@ -18,10 +18,10 @@ pub record IsCommentWithin (levels : ℕ) (octets : List ℕ) : Type 0 where
 -- such a comment comes first
 pub record BeginsComment (levels : ℕ) (octets : List ℕ) : Type 0 where
   pub body : Body
-  pub behind : List ℕ
+  pub following : List ℕ
   pub is_body : IsCommentBody body
   pub shallow : body_depth body < levels
-  pub whole : octets ≡ 40 ∷ (body_octets body ++ 41 ∷ behind)
+  pub whole : octets ≡ 40 ∷ (body_octets body ++ 41 ∷ following)
 
 -- a run's pieces were put, and this tells whether it is ASCII
 pub record WritesRun (run : List ℕ) (ascii : Bool) (old new : List ℕ) : Type 0 where

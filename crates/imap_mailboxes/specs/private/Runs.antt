@@ -23,9 +23,9 @@ abbrev pub ArePlainRuns : List ℕ → List Span → Type 0
 ArePlainRuns octets spans = All (IsPlainRun octets) spans
 
 -- the pattern with `*` before each run and before the last one
-abbrev pub behind_wildcards : List (List ℕ) → List ℕ → List ℕ
-behind_wildcards [] last = 42 ∷ last
-behind_wildcards (run ∷ runs) last = 42 ∷ (run ++ behind_wildcards runs last)
+abbrev pub after_wildcards : List (List ℕ) → List ℕ → List ℕ
+after_wildcards [] last = 42 ∷ last
+after_wildcards (run ∷ runs) last = 42 ∷ (run ++ after_wildcards runs last)
 
 -- The pattern of the octets from this place on, behind a wildcard, means the same as these runs and what follows the last
 -- wildcard.
@@ -33,11 +33,11 @@ pub record IsCut (octets : List ℕ) (from : ℕ) (runs : List Span) (last : ℕ
   pub are_runs : ArePlainRuns octets runs
   pub within : last ≤ length octets
   pub plain : list_all is_no_wildcard (drop last octets) ≡ true
-  pub same : (name : List ℕ) → is_match (42 ∷ drop from octets) name ≡ is_match (behind_wildcards (plain_runs octets runs) (drop last octets)) name
+  pub same : (name : List ℕ) → is_match (42 ∷ drop from octets) name ≡ is_match (after_wildcards (plain_runs octets runs) (drop last octets)) name
 
 -- the octets behind the first run mean what is left of the pattern
-abbrev pub behind_front : List ℕ → (first : ℕ) → List Span → (last : ℕ) → List ℕ
-behind_front octets first runs last = if first == length octets then [] else behind_wildcards (plain_runs octets runs) (drop last octets)
+abbrev pub after_front : List ℕ → (first : ℕ) → List Span → (last : ℕ) → List ℕ
+after_front octets first runs last = if first == length octets then [] else after_wildcards (plain_runs octets runs) (drop last octets)
 
 -- a pattern that is cut whole
 pub record IsCutWhole (octets : List ℕ) (plain first : ℕ) (runs : List Span) (last : ℕ) : Type 0 where
@@ -47,4 +47,4 @@ pub record IsCutWhole (octets : List ℕ) (plain first : ℕ) (runs : List Span)
   pub are_runs : ArePlainRuns octets runs
   pub last_within : last ≤ length octets
   pub last_plain : list_all is_no_wildcard (drop last octets) ≡ true
-  pub same : (name : List ℕ) → is_match octets name ≡ is_match (take first octets ++ behind_front octets first runs last) name
+  pub same : (name : List ℕ) → is_match octets name ≡ is_match (take first octets ++ after_front octets first runs last) name

@@ -16,9 +16,9 @@ use Rattle.imap_words.specs.Tokens.{IsSpace, is_digit, is_name_char, IsClosePare
 use Rattle.imap_words.specs.Keywords.{Named, IsWordOf, upper}
 use Rattle.imap_words.specs.Strings.{IsHeaderName}
 use Rattle.imap_words.specs.Dates.{IsDateDayFixed, IsDateTime, IsDateTimeText, IsDigit, IsFourDigits, IsTime, IsTwoDigits, IsZone, months as month_words}
-use Rattle.imap_grammar.specs.Commands.{AppendFront, IsAppendFront, IsBareCommand, IsBehindName, IsBehindUid, IsCommand, IsFetch, IsNaming, IsStore, Tagged, some_flags}
+use Rattle.imap_grammar.specs.Commands.{AppendFront, IsAppendFront, IsBareCommand, IsAfterName, IsAfterUid, IsCommand, IsFetch, IsNaming, IsStore, Tagged, some_flags}
 use Rattle.imap_grammar.specs.Events.{IsDue}
-use Rattle.imap_grammar.specs.Fetching.{IsBehindItem, IsBehindWord, IsFetchAtt, IsFetchItems, IsHeaderList, IsSection, IsSectionItem, IsSectionSpec, IsSectionText, SectionName, macro_items}
+use Rattle.imap_grammar.specs.Fetching.{IsAfterItem, IsAfterWord, IsFetchAtt, IsFetchItems, IsHeaderList, IsSection, IsSectionItem, IsSectionSpec, IsSectionText, SectionName, macro_items}
 use Rattle.imap_grammar.specs.Flags.{bit_of, flags_of}
 use Rattle.imap_grammar.specs.declared.command.Command.{Command}
 use Rattle.imap_grammar.specs.declared.command.Command.TheVariants as command
@@ -184,11 +184,11 @@ any_three (x ∷ y ∷ z ∷ w ∷ octets) len = absurd (omega (arith, len))
 month_fits : AreFitFor (codes "aaa") (IsWordOf month_words)
 month_fits octets value is = any_three octets (month_len octets value is)
 
-abbrev IsBehindMonth : List ℕ → ℕ → Type 0
-IsBehindMonth = After (IsOctet 45) (After IsFourDigits (After IsSpace (After IsTime (After IsSpace IsZone))))
+abbrev IsAfterMonth : List ℕ → ℕ → Type 0
+IsAfterMonth = After (IsOctet 45) (After IsFourDigits (After IsSpace (After IsTime (After IsSpace IsZone))))
 
-behind_month_fits : AreFitFor (codes "-9999 99:99:99 +9999") IsBehindMonth
-behind_month_fits =
+after_month_fits : AreFitFor (codes "-9999 99:99:99 +9999") IsAfterMonth
+after_month_fits =
     after_fits (IsOctet 45) (After IsFourDigits (After IsSpace (After IsTime (After IsSpace IsZone)))) (codes "-") (codes "9999 99:99:99 +9999") dash_fits
     (after_fits IsFourDigits (After IsSpace (After IsTime (After IsSpace IsZone))) (codes "9999") (codes " 99:99:99 +9999") four_fit
     (after_fits IsSpace (After IsTime (After IsSpace IsZone)) (codes " ") (codes "99:99:99 +9999") space_fits
@@ -197,17 +197,17 @@ behind_month_fits =
 
 text_fits : AreFitFor date_shape IsDateTimeText
 text_fits =
-    after_fits IsDateDayFixed (After (IsOctet 45) (After (IsWordOf month_words) IsBehindMonth)) (codes "d9") (codes "-aaa-9999 99:99:99 +9999") day_fits
-    (after_fits (IsOctet 45) (After (IsWordOf month_words) IsBehindMonth) (codes "-") (codes "aaa-9999 99:99:99 +9999") dash_fits
-    (after_fits (IsWordOf month_words) IsBehindMonth (codes "aaa") (codes "-9999 99:99:99 +9999") month_fits behind_month_fits))
+    after_fits IsDateDayFixed (After (IsOctet 45) (After (IsWordOf month_words) IsAfterMonth)) (codes "d9") (codes "-aaa-9999 99:99:99 +9999") day_fits
+    (after_fits (IsOctet 45) (After (IsWordOf month_words) IsAfterMonth) (codes "-") (codes "aaa-9999 99:99:99 +9999") dash_fits
+    (after_fits (IsWordOf month_words) IsAfterMonth (codes "aaa") (codes "-9999 99:99:99 +9999") month_fits after_month_fits))
 
 -- three octets behind three
 middle_three : (day dash month rest : List ℕ) → length day ≡ 2 → length dash ≡ 1 → length month ≡ 3 → slice_range (day ++ (dash ++ (month ++ rest))) 3 6 ≡ month
 middle_three day dash month rest two one three =
     let front : day ++ (dash ++ (month ++ rest)) ≡ (day ++ dash) ++ (month ++ rest) = sym (append_assoc day dash (month ++ rest)) in
     let len : length (day ++ dash) ≡ 3 = let both = length-append day dash in omega (arith, both, two, one) in
-    let behind : drop 3 (day ++ (dash ++ (month ++ rest))) ≡ month ++ rest = ap (drop 3) front ∙ drop_at (day ++ dash) (month ++ rest) 3 len in
-    ap (take 3) behind ∙ take_at month rest 3 three
+    let following : drop 3 (day ++ (dash ++ (month ++ rest))) ≡ month ++ rest = ap (drop 3) front ∙ drop_at (day ++ dash) (month ++ rest) 3 len in
+    ap (take 3) following ∙ take_at month rest 3 three
 
 -- a date of the grammar is one that may be kept
 pub text_date : (octets : List ℕ) (value : ℕ) → IsDateTimeText octets value → IsDate octets
@@ -289,7 +289,7 @@ module _ {V W E : Type 0} (Separator : List ℕ → W → Type 0) (P : List ℕ 
 names_ascii : (utf8 : Bool) (octets : List ℕ) (names : List (List ℕ)) → IsHeaderList utf8 octets names → AllByRecursion IsAsciiName names
 names_ascii utf8 octets names is = list_each IsSpace (IsHeaderName utf8) IsCloseParenthesis IsAsciiName (name_ascii utf8) is.back names is.second
 
-word_ascii : (utf8 : Bool) (w : SectionWord) (octets : List ℕ) (what : SectionPart) → IsBehindWord utf8 w octets what → NamesAscii what
+word_ascii : (utf8 : Bool) (w : SectionWord) (octets : List ℕ) (what : SectionPart) → IsAfterWord utf8 w octets what → NamesAscii what
 word_ascii utf8 section.Header octets what is = subst NamesAscii (sym is.1) tt
 word_ascii utf8 section.Fields octets what is = let names = is.second in subst NamesAscii (sym names.second.1) (names_ascii utf8 names.front names.value names.first)
 word_ascii utf8 section.FieldsNot octets what is = let names = is.second in subst NamesAscii (sym names.second.1) (names_ascii utf8 names.front names.value names.first)
@@ -303,11 +303,11 @@ spec_ascii : (utf8 : Bool) (octets : List ℕ) (named : SectionName) → IsSecti
 spec_ascii utf8 octets named (inl text) =
     let said = text.first in
     subst SectionAscii (sym text.second.1) (word_ascii utf8 said.value said.back text.value said.second)
-spec_ascii utf8 octets named (inr numbers) = behind numbers.back numbers.second
+spec_ascii utf8 octets named (inr numbers) = following numbers.back numbers.second
   where
-    behind : (back : List ℕ) → Or (Is (record { path = numbers.value; part = part.Whole })) (After (IsOctet 46) (Then (IsSectionText utf8) (λ p. Is (record { path = numbers.value; part = p })))) back named → SectionAscii named
-    behind back (inl whole) = subst SectionAscii (sym whole.1) tt
-    behind back (inr dot) =
+    following : (back : List ℕ) → Or (Is (record { path = numbers.value; part = part.Whole })) (After (IsOctet 46) (Then (IsSectionText utf8) (λ p. Is (record { path = numbers.value; part = p })))) back named → SectionAscii named
+    following back (inl whole) = subst SectionAscii (sym whole.1) tt
+    following back (inr dot) =
         let text = dot.second in
         let said = text.first in
         subst SectionAscii (sym text.second.1) (word_ascii utf8 said.value said.back text.value said.second)
@@ -324,7 +324,7 @@ section_ascii utf8 octets named is =
 section_item_ascii : (utf8 peek : Bool) (octets : List ℕ) (asked : FetchItem) → IsSectionItem utf8 peek octets asked → AsksAscii asked
 section_item_ascii utf8 peek octets asked is = subst AsksAscii (sym is.second.second.1) (section_ascii utf8 is.front is.value is.first)
 
-item_ascii : (utf8 : Bool) (w : ItemWord) (octets : List ℕ) (asked : FetchItem) → IsBehindItem utf8 w octets asked → AsksAscii asked
+item_ascii : (utf8 : Bool) (w : ItemWord) (octets : List ℕ) (asked : FetchItem) → IsAfterItem utf8 w octets asked → AsksAscii asked
 item_ascii utf8 word.Flags octets asked is = subst AsksAscii (sym is.1) tt
 item_ascii utf8 word.Uid octets asked is = subst AsksAscii (sym is.1) tt
 item_ascii utf8 word.InternalDate octets asked is = subst AsksAscii (sym is.1) tt
@@ -391,7 +391,7 @@ fetch_says utf8 by_uid octets said is =
 store_says : (by_uid : Bool) (octets : List ℕ) (said : Command) → IsStore by_uid octets said → Says said
 store_says by_uid octets said is = subst Says (sym is.second.second.second.second.second.1) (tt, tt)
 
-uid_says : (utf8 : Bool) (w : UidName) (octets : List ℕ) (said : Command) → IsBehindUid utf8 w octets said → Says said
+uid_says : (utf8 : Bool) (w : UidName) (octets : List ℕ) (said : Command) → IsAfterUid utf8 w octets said → Says said
 uid_says utf8 uid.Fetch octets said is = fetch_says utf8 true octets said is
 uid_says utf8 uid.Store octets said is = store_says true octets said is
 uid_says utf8 uid.NotHere octets said is = subst Says (sym is.1) (tt, tt)
@@ -399,45 +399,45 @@ uid_says utf8 uid.NotHere octets said is = subst Says (sym is.1) (tt, tt)
 naming_says : (utf8 : Bool) (made : List ℕ → Command) (octets : List ℕ) (said : Command) → ((written : List ℕ) → Says (made written)) → IsNaming utf8 made octets said → Says said
 naming_says utf8 made octets said each is = let mailbox = is.second in bare_says (made mailbox.value) mailbox.back said (each mailbox.value) mailbox.second
 
-behind_says : (utf8 : Bool) (n : Name) (octets : List ℕ) (said : Command) → IsBehindName utf8 n octets said → Says said
-behind_says utf8 name.Capability octets said is = bare_says command.Capability octets said (tt, tt) is
-behind_says utf8 name.Noop octets said is = bare_says command.Noop octets said (tt, tt) is
-behind_says utf8 name.Check octets said is = bare_says command.Check octets said (tt, tt) is
-behind_says utf8 name.Logout octets said is = bare_says command.Logout octets said (tt, tt) is
-behind_says utf8 name.Login octets said is =
+after_says : (utf8 : Bool) (n : Name) (octets : List ℕ) (said : Command) → IsAfterName utf8 n octets said → Says said
+after_says utf8 name.Capability octets said is = bare_says command.Capability octets said (tt, tt) is
+after_says utf8 name.Noop octets said is = bare_says command.Noop octets said (tt, tt) is
+after_says utf8 name.Check octets said is = bare_says command.Check octets said (tt, tt) is
+after_says utf8 name.Logout octets said is = bare_says command.Logout octets said (tt, tt) is
+after_says utf8 name.Login octets said is =
     let user = is.second in
     let password = user.second.second in
     bare_says (command.Login user.value password.value) password.back said (tt, tt) password.second
-behind_says utf8 name.Enable octets said is = subst Says (sym is.second.second.1) (tt, tt)
-behind_says utf8 name.Select octets said is = naming_says utf8 command.Select octets said (λ written. (tt, tt)) is
-behind_says utf8 name.Examine octets said is = naming_says utf8 command.Examine octets said (λ written. (tt, tt)) is
-behind_says utf8 name.Create octets said is = naming_says utf8 command.Create octets said (λ written. (tt, tt)) is
-behind_says utf8 name.List octets said is =
+after_says utf8 name.Enable octets said is = subst Says (sym is.second.second.1) (tt, tt)
+after_says utf8 name.Select octets said is = naming_says utf8 command.Select octets said (λ written. (tt, tt)) is
+after_says utf8 name.Examine octets said is = naming_says utf8 command.Examine octets said (λ written. (tt, tt)) is
+after_says utf8 name.Create octets said is = naming_says utf8 command.Create octets said (λ written. (tt, tt)) is
+after_says utf8 name.List octets said is =
     let reference = is.second in
     let pattern = reference.second.second in
     bare_says (command.List reference.value pattern.value) pattern.back said (tt, tt) pattern.second
-behind_says utf8 name.Status octets said is =
+after_says utf8 name.Status octets said is =
     let mailbox = is.second in
     let items = mailbox.second.second in
     bare_says (command.Status mailbox.value items.value) items.back said (tt, tt) items.second
-behind_says utf8 name.Append octets said is =
+after_says utf8 name.Append octets said is =
     let front = is.value in
     let content = is.second in
     subst Says (sym content.second.second.1)
     (append_says front.mailbox (some_flags front.flags) front.date front.announced.utf8 content.value (some_small front.flags) (front_date utf8 is.front front is.first))
-behind_says utf8 name.Fetch octets said is = fetch_says utf8 false octets said is
-behind_says utf8 name.Store octets said is = store_says false octets said is
-behind_says utf8 name.Uid octets said is = uid_says utf8 is.second.value is.second.back said is.second.second
-behind_says utf8 name.Expunge octets said is = bare_says command.Expunge octets said (tt, tt) is
-behind_says utf8 name.Close octets said is = bare_says command.Close octets said (tt, tt) is
-behind_says utf8 name.NotHere octets said is = subst Says (sym is.1) (tt, tt)
+after_says utf8 name.Fetch octets said is = fetch_says utf8 false octets said is
+after_says utf8 name.Store octets said is = store_says false octets said is
+after_says utf8 name.Uid octets said is = uid_says utf8 is.second.value is.second.back said is.second.second
+after_says utf8 name.Expunge octets said is = bare_says command.Expunge octets said (tt, tt) is
+after_says utf8 name.Close octets said is = bare_says command.Close octets said (tt, tt) is
+after_says utf8 name.NotHere octets said is = subst Says (sym is.1) (tt, tt)
 
 command_says : (utf8 : Bool) (octets tag : List ℕ) (said : Command) → IsCommand utf8 octets (record { tag = tag; command = said }) → Says said
 command_says utf8 octets tag said is =
     let named = is.second.second in
-    let behind = named.second in
-    let same : said ≡ behind.value = ap (λ (one : Tagged). one.command) behind.second.1 in
-    subst Says (sym same) (behind_says utf8 named.value behind.front behind.value behind.first)
+    let following = named.second in
+    let same : said ≡ following.value = ap (λ (one : Tagged). one.command) following.second.1 in
+    subst Says (sym same) (after_says utf8 named.value following.front following.value following.first)
 
 -- ---- what is due
 

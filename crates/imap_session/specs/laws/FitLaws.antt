@@ -32,7 +32,7 @@ use Rattle.surrogate_cache.specs.Caching.{Asked}
 use Rattle.surrogate_cache.specs.Served.{Mode, legacy, enabled, is_enabled}
 use Rattle.session_core.specs.Acts.{Act, IsFitAct, asking, asks, changes, changes_in, gives}
 use Rattle.session_core.specs.Desks.{stored_date, stored_octets}
-use Rattle.session_core.specs.Meanings.{Meanings, AreMeanings}
+use Rattle.session_core.specs.Oracles.{Oracles, AreOracles}
 use Rattle.session_core.specs.Moments.{Moment}
 use Rattle.session_core.proofs.StoredLemmas.{dated_at, stored_at, surrogate_shown}
 use Rattle.imap_words.specs.Tokens.{IsTag, is_astring_char, is_atom_char, is_atom_special, is_char, is_resp_special, is_quoted_special, is_tag_char}
@@ -59,7 +59,7 @@ use Rattle.imap_mailboxes.specs.Sets.{is_refused}
 use Rattle.imap_views.specs.Views.{envelope, fields, structure}
 use Rattle.imap_session.specs.laws.CommandLaws.{AsksAscii, FetchesAscii, IsAsciiName, NamesAscii, is_date_date, names_of, said_of}
 use Rattle.imap_session.specs.Items.{asked_of, field_name, fields_parts, fields_word, header_octets, is_flags, is_uid, item_parts, literal_head, octets_at, part_words, partial_octets, partial_span, partial_text, section_at, section_name, section_parts, served_of, shown_parts, size_of, whole_header}
-use Rattle.imap_session.specs.Machine.{State, Step, Numbered, append_in, append_octets, append_unless, appended, authenticated, becomes_seen, chosen, close_step, closing_up, common_step, completed, create_by, create_unless, deleted_ids, done, enable_step, ends_with, exists_lines, expunge_step, fetch_one, fetch_reply, fetch_step, fetch_told, flags_reply, flags_change, folder_lines, folder_named, for_each, line, names_folder, no_such_message, opened_in, out_of_order, refused_as_read_only, says, untagged, is_deleted, list_line, list_lines, login_by, mailbox_step, not_authenticated, not_authenticated_step, opened_words, parts_behind, permanent_flags, reply, seen, select_by, selected, selected_step, authenticated_step, spaced, status_among, status_by, status_line, status_text, step, store_one, store_step, tagged, taken_out, uid_text, unseen_among, with_flags, with_uid, asks_utf8, ended}
+use Rattle.imap_session.specs.Machine.{State, Step, Numbered, append_in, append_octets, append_unless, appended, authenticated, becomes_seen, chosen, close_step, closing_up, common_step, completed, create_by, create_unless, deleted_ids, done, enable_step, ends_with, exists_lines, expunge_step, fetch_one, fetch_reply, fetch_step, fetch_told, flags_reply, flags_change, folder_lines, folder_named, for_each, line, names_folder, no_such_message, opened_in, out_of_order, refused_as_read_only, says, untagged, is_deleted, list_line, list_lines, login_by, mailbox_step, not_authenticated, not_authenticated_step, opened_words, parts_following, permanent_flags, reply, seen, select_by, selected, selected_step, authenticated_step, spaced, status_among, status_by, status_line, status_text, step, store_one, store_step, tagged, taken_out, uid_text, unseen_among, with_flags, with_uid, asks_utf8, ended}
 use Rattle.imap_session.specs.Replies.{AreFit, IsFit, ReplyPart, text, name, shown, viewed}
 use Rattle.imap_session.specs.Session.{IsSaid, date_at, due_step, fits_shape, is_date, long_ago}
 use Rattle.imap_session.specs.laws.ViewLaws.{ascii_envelope, ascii_fields, ascii_header, ascii_structure, first_header}
@@ -72,19 +72,19 @@ MayBeKept (records.Message folder flags date octets) = IsDate date × IsStored o
 MayBeKept other = Unit {0}
 
 -- what is given may be sent, and each message that a change adds may be kept
-abbrev pub IsRightAct : Meanings → Act ReplyPart → Type 0
-IsRightAct meanings (gives part) = IsFit meanings part
-IsRightAct meanings (changes made) = AllByRecursion MayBeKept made
-IsRightAct meanings (asks asked) = Unit {0}
+abbrev pub IsRightAct : Oracles → Act ReplyPart → Type 0
+IsRightAct oracles (gives part) = IsFit oracles part
+IsRightAct oracles (changes made) = AllByRecursion MayBeKept made
+IsRightAct oracles (asks asked) = Unit {0}
 
-abbrev pub AreRight : Meanings → List (Act ReplyPart) → Type 0
-AreRight meanings acts = AllByRecursion (IsRightAct meanings) acts
+abbrev pub AreRight : Oracles → List (Act ReplyPart) → Type 0
+AreRight oracles acts = AllByRecursion (IsRightAct oracles) acts
 
-pub fit_of : (meanings : Meanings) (acts : List (Act ReplyPart)) → AreRight meanings acts → AllByRecursion (IsFitAct (IsFit meanings)) acts
-fit_of meanings [] right = tt
-fit_of meanings (gives part ∷ acts) right = (right.0, fit_of meanings acts right.1)
-fit_of meanings (changes made ∷ acts) right = (tt, fit_of meanings acts right.1)
-fit_of meanings (asks asked ∷ acts) right = (tt, fit_of meanings acts right.1)
+pub fit_of : (oracles : Oracles) (acts : List (Act ReplyPart)) → AreRight oracles acts → AllByRecursion (IsFitAct (IsFit oracles)) acts
+fit_of oracles [] right = tt
+fit_of oracles (gives part ∷ acts) right = (right.0, fit_of oracles acts right.1)
+fit_of oracles (changes made ∷ acts) right = (tt, fit_of oracles acts right.1)
+fit_of oracles (asks asked ∷ acts) right = (tt, fit_of oracles acts right.1)
 
 stored_after : (kept : Kept) (one : Record) → MayBeKept one → AreStored kept.messages → AreStored (after_record kept one).messages
 stored_after kept (records.Folder account folder_name) may stored = stored
@@ -101,35 +101,35 @@ stored_after kept (records.Message folder flags date octets) may stored =
 stored_after kept (records.Queue path addresses octets) may stored = stored
 stored_after kept (records.Settle entry index) may stored = stored
 
-stored_behind : (kept : Kept) (made : List Record) → AllByRecursion MayBeKept made → AreStored kept.messages → (others : List Record)
+stored_following : (kept : Kept) (made : List Record) → AllByRecursion MayBeKept made → AreStored kept.messages → (others : List Record)
     → ((between : Kept) → AreStored between.messages → AreStored (after_all between others).messages) → AreStored (after_all kept (made ++ others)).messages
-stored_behind kept [] may stored others later = later kept stored
-stored_behind kept (one ∷ made) may stored others later = stored_behind (after_record kept one) made may.1 (stored_after kept one may.0 stored) others later
+stored_following kept [] may stored others later = later kept stored
+stored_following kept (one ∷ made) may stored others later = stored_following (after_record kept one) made may.1 (stored_after kept one may.0 stored) others later
 
-pub stored_of : (meanings : Meanings) (kept : Kept) (acts : List (Act ReplyPart)) → AreRight meanings acts → AreStored kept.messages → AreStored (after_all kept (records_of (changes_in acts))).messages
-stored_of meanings kept [] right stored = stored
-stored_of meanings kept (gives part ∷ acts) right stored = stored_of meanings kept acts right.1 stored
-stored_of meanings kept (changes made ∷ acts) right stored =
-    stored_behind kept made right.0 stored (records_of (changes_in acts)) (λ between are. stored_of meanings between acts right.1 are)
-stored_of meanings kept (asks asked ∷ acts) right stored = stored_of meanings kept acts right.1 stored
+pub stored_of : (oracles : Oracles) (kept : Kept) (acts : List (Act ReplyPart)) → AreRight oracles acts → AreStored kept.messages → AreStored (after_all kept (records_of (changes_in acts))).messages
+stored_of oracles kept [] right stored = stored
+stored_of oracles kept (gives part ∷ acts) right stored = stored_of oracles kept acts right.1 stored
+stored_of oracles kept (changes made ∷ acts) right stored =
+    stored_following kept made right.0 stored (records_of (changes_in acts)) (λ between are. stored_of oracles between acts right.1 are)
+stored_of oracles kept (asks asked ∷ acts) right stored = stored_of oracles kept acts right.1 stored
 
 -- ---- lists
 
-reply_right : (meanings : Meanings) (parts : List ReplyPart) → AreFit meanings parts → AreRight meanings (reply parts)
-reply_right meanings [] fit = tt
-reply_right meanings (part ∷ parts) fit = (fit.0, reply_right meanings parts fit.1)
+reply_right : (oracles : Oracles) (parts : List ReplyPart) → AreFit oracles parts → AreRight oracles (reply parts)
+reply_right oracles [] fit = tt
+reply_right oracles (part ∷ parts) fit = (fit.0, reply_right oracles parts fit.1)
 
-asking_right : (meanings : Meanings) (asked : List Asked) (acts : List (Act ReplyPart)) → AreRight meanings acts → AreRight meanings (asking asked acts)
-asking_right meanings [] acts right = right
-asking_right meanings (one ∷ asked) acts right = (tt, asking_right meanings asked acts right)
+asking_right : (oracles : Oracles) (asked : List Asked) (acts : List (Act ReplyPart)) → AreRight oracles acts → AreRight oracles (asking asked acts)
+asking_right oracles [] acts right = right
+asking_right oracles (one ∷ asked) acts right = (tt, asking_right oracles asked acts right)
 
-each_right : {T : Type 0} (meanings : Meanings) (act : T → List (Act ReplyPart)) → ((one : T) → AreRight meanings (act one)) → (all : List T) → AreRight meanings (flat_map act all)
-each_right meanings act right [] = tt
-each_right meanings act right (one ∷ all) = all-append (IsRightAct meanings) (act one) (flat_map act all) (right one) (each_right meanings act right all)
+each_right : {T : Type 0} (oracles : Oracles) (act : T → List (Act ReplyPart)) → ((one : T) → AreRight oracles (act one)) → (all : List T) → AreRight oracles (flat_map act all)
+each_right oracles act right [] = tt
+each_right oracles act right (one ∷ all) = all-append (IsRightAct oracles) (act one) (flat_map act all) (right one) (each_right oracles act right all)
 
-each_fit : {T : Type 0} (meanings : Meanings) (parts : T → List ReplyPart) → ((one : T) → AreFit meanings (parts one)) → (all : List T) → AreFit meanings (flat_map parts all)
-each_fit meanings parts fit [] = tt
-each_fit meanings parts fit (one ∷ all) = all-append (IsFit meanings) (parts one) (flat_map parts all) (fit one) (each_fit meanings parts fit all)
+each_fit : {T : Type 0} (oracles : Oracles) (parts : T → List ReplyPart) → ((one : T) → AreFit oracles (parts one)) → (all : List T) → AreFit oracles (flat_map parts all)
+each_fit oracles parts fit [] = tt
+each_fit oracles parts fit (one ∷ all) = all-append (IsFit oracles) (parts one) (flat_map parts all) (fit one) (each_fit oracles parts fit all)
 
 -- a text between others
 between : (front middle back : List ℕ) → list_all is_ascii front ≡ true → list_all is_ascii middle ≡ true → list_all is_ascii back ≡ true → list_all is_ascii (front ++ (middle ++ back)) ≡ true
@@ -148,28 +148,28 @@ untagged_fit octets fit = line_fit (codes "* " ++ octets) (pass-append is_ascii 
 
 -- ---- the line that ends the replies
 
-module _ (meanings : Meanings) (tag : List ℕ) (tag_fit : list_all is_ascii tag ≡ true) where
-  ends_right : (words : List ℕ) (acts : List (Act ReplyPart)) (state : State) → list_all is_ascii words ≡ true → AreRight meanings acts → AreRight meanings (ends_with tag words acts state).acts
+module _ (oracles : Oracles) (tag : List ℕ) (tag_fit : list_all is_ascii tag ≡ true) where
+  ends_right : (words : List ℕ) (acts : List (Act ReplyPart)) (state : State) → list_all is_ascii words ≡ true → AreRight oracles acts → AreRight oracles (ends_with tag words acts state).acts
   ends_right words acts state fit right =
-      all-append (IsRightAct meanings) acts (reply (tagged tag words ∷ [])) right (line_fit (tag ++ (codes " " ++ words)) (between tag (codes " ") words tag_fit refl fit), tt)
+      all-append (IsRightAct oracles) acts (reply (tagged tag words ∷ [])) right (line_fit (tag ++ (codes " " ++ words)) (between tag (codes " ") words tag_fit refl fit), tt)
 
-  answers_right : (words : List ℕ) (parts : List ReplyPart) (state : State) → list_all is_ascii words ≡ true → AreFit meanings parts → AreRight meanings (ends_with tag words (reply parts) state).acts
-  answers_right words parts state fit parts_fit = ends_right words (reply parts) state fit (reply_right meanings parts parts_fit)
+  answers_right : (words : List ℕ) (parts : List ReplyPart) (state : State) → list_all is_ascii words ≡ true → AreFit oracles parts → AreRight oracles (ends_with tag words (reply parts) state).acts
+  answers_right words parts state fit parts_fit = ends_right words (reply parts) state fit (reply_right oracles parts parts_fit)
 
-  says_right : (words : List ℕ) (state : State) → list_all is_ascii words ≡ true → AreRight meanings (ends_with tag words [] state).acts
+  says_right : (words : List ℕ) (state : State) → list_all is_ascii words ≡ true → AreRight oracles (ends_with tag words [] state).acts
   says_right words state fit = ends_right words [] state fit tt
 
-  either_right : (b : Bool) (one other : Step) → AreRight meanings one.acts → AreRight meanings other.acts → AreRight meanings (if b then one else other).acts
+  either_right : (b : Bool) (one other : Step) → AreRight oracles one.acts → AreRight oracles other.acts → AreRight oracles (if b then one else other).acts
   either_right true one other first second = first
   either_right false one other first second = second
 
   -- ---- LOGIN and ENABLE
 
-  login_right : (found : Option ℕ) → AreRight meanings (login_by tag found).acts
+  login_right : (found : Option ℕ) → AreRight oracles (login_by tag found).acts
   login_right None = says_right (codes "NO no") not_authenticated refl
   login_right (Some account) = says_right done (authenticated legacy account) refl
 
-  enable_right : (mode : Mode) (account : ℕ) (asked : Bool) → AreRight meanings (enable_step tag mode account asked).acts
+  enable_right : (mode : Mode) (account : ℕ) (asked : Bool) → AreRight oracles (enable_step tag mode account asked).acts
   enable_right legacy account true = answers_right done (untagged (codes "ENABLED UTF8=ACCEPT") ∷ []) (authenticated enabled account) refl (refl, tt)
   enable_right legacy account false = answers_right done (untagged (codes "ENABLED") ∷ []) (authenticated legacy account) refl (refl, tt)
   enable_right enabled account asked = answers_right done (untagged (codes "ENABLED") ∷ []) (authenticated enabled account) refl (refl, tt)
@@ -184,7 +184,7 @@ module _ (meanings : Meanings) (tag : List ℕ) (tag_fit : list_all is_ascii tag
   permanent_fit true = refl
   permanent_fit false = refl
 
-  folder_fit : (store : StoreState) (folder : ℕ) (read_only : Bool) → AreFit meanings (folder_lines store folder read_only)
+  folder_fit : (store : StoreState) (folder : ℕ) (read_only : Bool) → AreFit oracles (folder_lines store folder read_only)
   folder_fit store folder read_only =
       let count = decimal (length (listed store.kept folder)) in
       let next = uid_next store.kept folder in
@@ -205,11 +205,11 @@ module _ (meanings : Meanings) (tag : List ℕ) (tag_fit : list_all is_ascii tag
         ),
       )
 
-  select_right : (mode : Mode) (account : ℕ) (read_only : Bool) (store : StoreState) (found : Option ℕ) → AreRight meanings (select_by tag mode account read_only store found).acts
+  select_right : (mode : Mode) (account : ℕ) (read_only : Bool) (store : StoreState) (found : Option ℕ) → AreRight oracles (select_by tag mode account read_only store found).acts
   select_right mode account read_only store None = says_right (codes "NO no such folder") (authenticated mode account) refl
   select_right mode account read_only store (Some folder) = answers_right (opened_words read_only) (folder_lines store folder read_only) (selected mode account folder read_only) (opened_fit read_only) (folder_fit store folder read_only)
 
-  unless_right : (state : State) (account : ℕ) (kept : List ℕ) (refused : Option StoreFault) → AreRight meanings (create_unless tag state account kept refused).acts
+  unless_right : (state : State) (account : ℕ) (kept : List ℕ) (refused : Option StoreFault) → AreRight oracles (create_unless tag state account kept refused).acts
   unless_right state account kept None = ends_right done (changes (records.Folder account kept ∷ []) ∷ []) state refl ((tt, tt), tt)
   unless_right state account kept (Some refusal.Exists) = says_right (codes "NO exists") state refl
   unless_right state account kept (Some refusal.NoSuch) = says_right (codes "NO too large") state refl
@@ -217,7 +217,7 @@ module _ (meanings : Meanings) (tag : List ℕ) (tag_fit : list_all is_ascii tag
   unless_right state account kept (Some refusal.Memory) = says_right (codes "NO too large") state refl
   unless_right state account kept (Some refusal.Keeper) = says_right (codes "NO too large") state refl
 
-  create_right : (state : State) (account : ℕ) (store : StoreState) (given : Option (List ℕ)) → AreRight meanings (create_by tag state account store given).acts
+  create_right : (state : State) (account : ℕ) (store : StoreState) (given : Option (List ℕ)) → AreRight oracles (create_by tag state account store given).acts
   create_right state account store None = says_right (codes "NO bad name") state refl
   create_right state account store (Some given) =
       let refused = folder_refusal store.kept account given in
@@ -239,40 +239,40 @@ in_quotes_all (x ∷ octets) fit =
     let parts = and_parts (is_ascii x) (list_all is_ascii octets) fit in
     pass-append is_ascii (in_quotes x) (flat_map in_quotes octets) (in_quotes_fit x parts.0) (in_quotes_all octets parts.1)
 
-name_fit : (meanings : Meanings) (mode : Mode) (octets : List ℕ) → IsFit meanings (name mode octets)
-name_fit meanings legacy octets = pass-append is_ascii (34 ∷ []) (flat_map in_quotes (modified_utf7 octets) ++ 34 ∷ []) refl (pass-append is_ascii (flat_map in_quotes (modified_utf7 octets)) (34 ∷ []) (in_quotes_all (modified_utf7 octets) (written_ascii [] (chars octets))) refl)
-name_fit meanings enabled octets = tt
+name_fit : (oracles : Oracles) (mode : Mode) (octets : List ℕ) → IsFit oracles (name mode octets)
+name_fit oracles legacy octets = pass-append is_ascii (34 ∷ []) (flat_map in_quotes (modified_utf7 octets) ++ 34 ∷ []) refl (pass-append is_ascii (flat_map in_quotes (modified_utf7 octets)) (34 ∷ []) (in_quotes_all (modified_utf7 octets) (written_ascii [] (chars octets))) refl)
+name_fit oracles enabled octets = tt
 
-list_line_fit : (meanings : Meanings) (mode : Mode) (pattern folder_name : List ℕ) → AreFit meanings (list_line mode pattern folder_name)
-list_line_fit meanings mode pattern folder_name =
-    cond_both (is_match pattern (shown_name (is_enabled mode) folder_name)) (text (codes "* LIST () NIL ") ∷ name mode folder_name ∷ text crlf ∷ []) [] (λ z. AreFit meanings z) (λ _. (refl, (name_fit meanings mode folder_name, (refl, tt)))) (λ _. tt)
+list_line_fit : (oracles : Oracles) (mode : Mode) (pattern folder_name : List ℕ) → AreFit oracles (list_line mode pattern folder_name)
+list_line_fit oracles mode pattern folder_name =
+    cond_both (is_match pattern (shown_name (is_enabled mode) folder_name)) (text (codes "* LIST () NIL ") ∷ name mode folder_name ∷ text crlf ∷ []) [] (λ z. AreFit oracles z) (λ _. (refl, (name_fit oracles mode folder_name, (refl, tt)))) (λ _. tt)
 
-list_fit : (meanings : Meanings) (mode : Mode) (store : StoreState) (account : ℕ) (reference pattern : List ℕ) → AreFit meanings (list_lines mode store account reference pattern)
-list_fit meanings mode store account reference [] = (refl, tt)
-list_fit meanings mode store account reference (x ∷ pattern) =
-    each_fit meanings (list_line mode (reference ++ x ∷ pattern)) (λ folder_name. list_line_fit meanings mode (reference ++ x ∷ pattern) folder_name) (folder_names store.kept account)
+list_fit : (oracles : Oracles) (mode : Mode) (store : StoreState) (account : ℕ) (reference pattern : List ℕ) → AreFit oracles (list_lines mode store account reference pattern)
+list_fit oracles mode store account reference [] = (refl, tt)
+list_fit oracles mode store account reference (x ∷ pattern) =
+    each_fit oracles (list_line mode (reference ++ x ∷ pattern)) (λ folder_name. list_line_fit oracles mode (reference ++ x ∷ pattern) folder_name) (folder_names store.kept account)
 
 -- ---- STATUS
 
-behind_words : (words : List ℕ) (n : ℕ) → list_all is_ascii words ≡ true → list_all is_ascii (words ++ decimal n) ≡ true
-behind_words words n fit = pass-append is_ascii words (decimal n) fit (ascii-decimal n)
+after_words : (words : List ℕ) (n : ℕ) → list_all is_ascii words ≡ true → list_all is_ascii (words ++ decimal n) ≡ true
+after_words words n fit = pass-append is_ascii words (decimal n) fit (ascii-decimal n)
 
 among_fit : (asked : StatusItem) (messages : List Listed) (next : ℕ) → list_all is_ascii (status_among asked messages next) ≡ true
-among_fit status.Messages messages next = behind_words (codes "MESSAGES ") (length messages) refl
+among_fit status.Messages messages next = after_words (codes "MESSAGES ") (length messages) refl
 among_fit status.Recent messages next = refl
-among_fit status.UidNext messages next = behind_words (codes "UIDNEXT ") next refl
+among_fit status.UidNext messages next = after_words (codes "UIDNEXT ") next refl
 among_fit status.UidValidity messages next = refl
-among_fit status.Unseen messages next = behind_words (codes "UNSEEN ") (unseen_among messages) refl
+among_fit status.Unseen messages next = after_words (codes "UNSEEN ") (unseen_among messages) refl
 
 spaced_fit : (store : StoreState) (folder : ℕ) (items : List StatusItem) → list_all is_ascii (spaced (map (status_text store folder) items)) ≡ true
 spaced_fit store folder [] = refl
 spaced_fit store folder (one ∷ []) = among_fit one (listed store.kept folder) (uid_next store.kept folder)
 spaced_fit store folder (one ∷ next ∷ others) = between (status_text store folder one) (codes " ") (spaced (map (status_text store folder) (next ∷ others))) (among_fit one (listed store.kept folder) (uid_next store.kept folder)) refl (spaced_fit store folder (next ∷ others))
 
-status_fit : (meanings : Meanings) (mode : Mode) (store : StoreState) (folder : ℕ) (items : List StatusItem) → AreFit meanings (status_line mode store folder items)
-status_fit meanings mode store folder items =
+status_fit : (oracles : Oracles) (mode : Mode) (store : StoreState) (folder : ℕ) (items : List StatusItem) → AreFit oracles (status_line mode store folder items)
+status_fit oracles mode store folder items =
     let texts = spaced (map (status_text store folder) items) in
-    (refl, (name_fit meanings mode (kept_folder_name store.kept folder), (line_fit (codes " (" ++ (texts ++ codes ")")) (between (codes " (") texts (codes ")") refl (spaced_fit store folder items) refl), tt)))
+    (refl, (name_fit oracles mode (kept_folder_name store.kept folder), (line_fit (codes " (" ++ (texts ++ codes ")")) (between (codes " (") texts (codes ")") refl (spaced_fit store folder items) refl), tt)))
 
 -- ---- FETCH
 
@@ -357,38 +357,38 @@ partial_ascii : (partial : Option (ℕ × ℕ)) (octets : List ℕ) → list_all
 partial_ascii None octets fit = fit
 partial_ascii (Some asked) octets fit = pass-take is_ascii asked.1 (drop asked.0 octets) (pass-drop is_ascii asked.0 octets fit)
 
-shown_fit : (meanings : Meanings) → AreMeanings meanings → (mode : Mode) (store : StoreState) (id at size : ℕ) → AreStored store.kept.messages → IsFit meanings (shown (stored_octets store id) mode at size)
-shown_fit meanings are legacy store id at size stored = surrogate_shown meanings are (stored_octets store id) (stored_at store id stored)
-shown_fit meanings are enabled store id at size stored = tt
+shown_fit : (oracles : Oracles) → AreOracles oracles → (mode : Mode) (store : StoreState) (id at size : ℕ) → AreStored store.kept.messages → IsFit oracles (shown (stored_octets store id) mode at size)
+shown_fit oracles are legacy store id at size stored = surrogate_shown oracles are (stored_octets store id) (stored_at store id stored)
+shown_fit oracles are enabled store id at size stored = tt
 
 -- the headers of what a legacy session is shown are ASCII
-blocks_of : (meanings : Meanings) → AreMeanings meanings → (store : StoreState) (id : ℕ) → AreStored store.kept.messages → HasAsciiBlocks (meanings.surrogate (stored_octets store id))
-blocks_of meanings are store id stored = (surrogate_shown meanings are (stored_octets store id) (stored_at store id stored)).1
+blocks_of : (oracles : Oracles) → AreOracles oracles → (store : StoreState) (id : ℕ) → AreStored store.kept.messages → HasAsciiBlocks (oracles.surrogate (stored_octets store id))
+blocks_of oracles are store id stored = (surrogate_shown oracles are (stored_octets store id) (stored_at store id stored)).1
 
-structure_fit : (meanings : Meanings) → AreMeanings meanings → (mode : Mode) (store : StoreState) → AreStored store.kept.messages → (one : Listed) (extended : Bool)
-    → IsFit meanings (viewed mode (meanings.view_of (structure extended) (served_of meanings mode store one)))
-structure_fit meanings are legacy store stored one extended = ascii_structure meanings are (meanings.surrogate (stored_octets store one.id)) (blocks_of meanings are store one.id stored) extended
-structure_fit meanings are enabled store stored one extended = tt
+structure_fit : (oracles : Oracles) → AreOracles oracles → (mode : Mode) (store : StoreState) → AreStored store.kept.messages → (one : Listed) (extended : Bool)
+    → IsFit oracles (viewed mode (oracles.view_of (structure extended) (served_of oracles mode store one)))
+structure_fit oracles are legacy store stored one extended = ascii_structure oracles are (oracles.surrogate (stored_octets store one.id)) (blocks_of oracles are store one.id stored) extended
+structure_fit oracles are enabled store stored one extended = tt
 
-envelope_fit : (meanings : Meanings) → AreMeanings meanings → (mode : Mode) (store : StoreState) → AreStored store.kept.messages → (one : Listed)
-    → IsFit meanings (viewed mode (meanings.view_of envelope (whole_header meanings mode store one)))
-envelope_fit meanings are legacy store stored one =
-    let octets = meanings.surrogate (stored_octets store one.id) in
-    let blocks = blocks_of meanings are store one.id stored in
-    let first = first_header meanings are octets blocks in
-    subst (λ found. list_all is_ascii (meanings.view_of envelope (header_octets meanings legacy store one found)) ≡ true) (sym first.1)
-    (ascii_envelope meanings are (octets_at meanings legacy store one first.0) (ascii_header meanings are octets blocks [] first.0 first.1))
-envelope_fit meanings are enabled store stored one = tt
+envelope_fit : (oracles : Oracles) → AreOracles oracles → (mode : Mode) (store : StoreState) → AreStored store.kept.messages → (one : Listed)
+    → IsFit oracles (viewed mode (oracles.view_of envelope (whole_header oracles mode store one)))
+envelope_fit oracles are legacy store stored one =
+    let octets = oracles.surrogate (stored_octets store one.id) in
+    let blocks = blocks_of oracles are store one.id stored in
+    let first = first_header oracles are octets blocks in
+    subst (λ found. list_all is_ascii (oracles.view_of envelope (header_octets oracles legacy store one found)) ≡ true) (sym first.1)
+    (ascii_envelope oracles are (octets_at oracles legacy store one first.0) (ascii_header oracles are octets blocks [] first.0 first.1))
+envelope_fit oracles are enabled store stored one = tt
 
-chosen_fit : (meanings : Meanings) → AreMeanings meanings → (mode : Mode) (store : StoreState) → AreStored store.kept.messages → (one : Listed) (path : List ℕ) (names : List (List ℕ)) (negated : Bool)
-    (partial : Option (ℕ × ℕ)) (span : Span) → section_at meanings mode store one path place.Header ≡ Some span
-    → IsFit meanings (viewed mode (partial_octets partial (meanings.view_of (fields names negated) (octets_at meanings mode store one span))))
-chosen_fit meanings are legacy store stored one path names negated partial span is =
-    let octets = meanings.surrogate (stored_octets store one.id) in
-    let header = octets_at meanings legacy store one span in
-    partial_ascii partial (meanings.view_of (fields names negated) header)
-    (ascii_fields meanings are header names negated (ascii_header meanings are octets (blocks_of meanings are store one.id stored) path span is))
-chosen_fit meanings are enabled store stored one path names negated partial span is = tt
+chosen_fit : (oracles : Oracles) → AreOracles oracles → (mode : Mode) (store : StoreState) → AreStored store.kept.messages → (one : Listed) (path : List ℕ) (names : List (List ℕ)) (negated : Bool)
+    (partial : Option (ℕ × ℕ)) (span : Span) → section_at oracles mode store one path place.Header ≡ Some span
+    → IsFit oracles (viewed mode (partial_octets partial (oracles.view_of (fields names negated) (octets_at oracles mode store one span))))
+chosen_fit oracles are legacy store stored one path names negated partial span is =
+    let octets = oracles.surrogate (stored_octets store one.id) in
+    let header = octets_at oracles legacy store one span in
+    partial_ascii partial (oracles.view_of (fields names negated) header)
+    (ascii_fields oracles are header names negated (ascii_header oracles are octets (blocks_of oracles are store one.id stored) path span is))
+chosen_fit oracles are enabled store stored one path names negated partial span is = tt
 
 -- items that are added ask for no names
 uid_ascii : (by_uid : Bool) (items : List FetchItem) → AllByRecursion AsksAscii items → AllByRecursion AsksAscii (with_uid by_uid items)
@@ -398,71 +398,71 @@ flags_ascii : (changed : Bool) (items : List FetchItem) → AllByRecursion AsksA
 flags_ascii changed items ascii =
     cond_both (changed && not (list_any is_flags items)) (items ++ item.Flags ∷ []) items (λ z. AllByRecursion AsksAscii z) (λ _. all-append AsksAscii items (item.Flags ∷ []) ascii (tt, tt)) (λ _. ascii)
 
-module _ (meanings : Meanings) (are : AreMeanings meanings) (mode : Mode) (store : StoreState) (stored : AreStored store.kept.messages) where
-  head_fit : (asked : List ℕ) (size : ℕ) → list_all is_ascii asked ≡ true → IsFit meanings (literal_head asked size)
+module _ (oracles : Oracles) (are : AreOracles oracles) (mode : Mode) (store : StoreState) (stored : AreStored store.kept.messages) where
+  head_fit : (asked : List ℕ) (size : ℕ) → list_all is_ascii asked ≡ true → IsFit oracles (literal_head asked size)
   head_fit asked size fit = pass-append is_ascii asked (codes " {" ++ (decimal size ++ codes "}\r\n")) fit (number_fit (codes " {") size (codes "}\r\n") refl refl)
 
-  nil_fit : (asked : List ℕ) → list_all is_ascii asked ≡ true → AreFit meanings (text (asked ++ codes " NIL") ∷ [])
+  nil_fit : (asked : List ℕ) → list_all is_ascii asked ≡ true → AreFit oracles (text (asked ++ codes " NIL") ∷ [])
   nil_fit asked fit = (pass-append is_ascii asked (codes " NIL") fit refl, tt)
 
-  span_fit : (one : Listed) (asked : List ℕ) (partial : Option (ℕ × ℕ)) (found : Option Span) → list_all is_ascii asked ≡ true → AreFit meanings (shown_parts mode store one asked partial found)
+  span_fit : (one : Listed) (asked : List ℕ) (partial : Option (ℕ × ℕ)) (found : Option Span) → list_all is_ascii asked ≡ true → AreFit oracles (shown_parts mode store one asked partial found)
   span_fit one asked partial None fit = nil_fit asked fit
   span_fit one asked partial (Some span) fit =
       let at = partial_span partial span in
-      (head_fit asked at.len fit, (shown_fit meanings are mode store one.id at.at at.len stored, tt))
+      (head_fit asked at.len fit, (shown_fit oracles are mode store one.id at.at at.len stored, tt))
 
   chosen_parts_fit : (one : Listed) (asked path : List ℕ) (names : List (List ℕ)) (negated : Bool) (partial : Option (ℕ × ℕ)) (found : Option Span) → list_all is_ascii asked ≡ true
-      → section_at meanings mode store one path place.Header ≡ found → AreFit meanings (fields_parts meanings mode store one asked partial (fields names negated) found)
+      → section_at oracles mode store one path place.Header ≡ found → AreFit oracles (fields_parts oracles mode store one asked partial (fields names negated) found)
   chosen_parts_fit one asked path names negated partial None fit at = nil_fit asked fit
   chosen_parts_fit one asked path names negated partial (Some span) fit at =
-      let told = partial_octets partial (meanings.view_of (fields names negated) (octets_at meanings mode store one span)) in
-      (head_fit asked (length told) fit, (chosen_fit meanings are mode store stored one path names negated partial span at, tt))
+      let told = partial_octets partial (oracles.view_of (fields names negated) (octets_at oracles mode store one span)) in
+      (head_fit asked (length told) fit, (chosen_fit oracles are mode store stored one path names negated partial span at, tt))
 
   section_fit : (one : Listed) (asked path : List ℕ) (what : SectionPart) (partial : Option (ℕ × ℕ)) → list_all is_ascii asked ≡ true
-      → AreFit meanings (section_parts meanings mode store one asked path what partial)
+      → AreFit oracles (section_parts oracles mode store one asked path what partial)
   section_fit one asked path (part.Fields names negated) partial fit = chosen_parts_fit one asked path names negated partial _ fit refl
   section_fit one asked path part.Whole partial fit = span_fit one asked partial _ fit
   section_fit one asked path part.Header partial fit = span_fit one asked partial _ fit
   section_fit one asked path part.Text partial fit = span_fit one asked partial _ fit
   section_fit one asked path part.Mime partial fit = span_fit one asked partial _ fit
 
-  item_fit : (one : Listed) (asked : FetchItem) → AsksAscii asked → AreFit meanings (item_parts meanings mode store one asked)
+  item_fit : (one : Listed) (asked : FetchItem) → AsksAscii asked → AreFit oracles (item_parts oracles mode store one asked)
   item_fit one item.Flags ascii = (flags_fit one.flags, tt)
-  item_fit one item.Uid ascii = (behind_words (codes "UID ") one.uid refl, tt)
+  item_fit one item.Uid ascii = (after_words (codes "UID ") one.uid refl, tt)
   item_fit one item.InternalDate ascii = (between (codes "INTERNALDATE \"") (stored_date store one.id) (codes "\"") refl (dated_at store one.id stored) refl, tt)
-  item_fit one item.Size ascii = (behind_words (codes "RFC822.SIZE ") (size_of meanings mode store one) refl, tt)
+  item_fit one item.Size ascii = (after_words (codes "RFC822.SIZE ") (size_of oracles mode store one) refl, tt)
   item_fit one item.Rfc822 ascii = section_fit one (codes "RFC822") [] part.Whole None refl
   item_fit one item.Rfc822Header ascii = section_fit one (codes "RFC822.HEADER") [] part.Header None refl
   item_fit one item.Rfc822Text ascii = section_fit one (codes "RFC822.TEXT") [] part.Text None refl
-  item_fit one item.Envelope ascii = (refl, (envelope_fit meanings are mode store stored one, tt))
-  item_fit one item.Body ascii = (refl, (structure_fit meanings are mode store stored one false, tt))
-  item_fit one item.BodyStructure ascii = (refl, (structure_fit meanings are mode store stored one true, tt))
+  item_fit one item.Envelope ascii = (refl, (envelope_fit oracles are mode store stored one, tt))
+  item_fit one item.Body ascii = (refl, (structure_fit oracles are mode store stored one false, tt))
+  item_fit one item.BodyStructure ascii = (refl, (structure_fit oracles are mode store stored one true, tt))
   item_fit one (item.Section peek path what partial) ascii = section_fit one (section_name path what partial) path what partial (section_name_fit path what partial ascii)
 
-  behind_fit : (others : Bool) (one : Listed) (items : List FetchItem) → AllByRecursion AsksAscii items → AreFit meanings (parts_behind others (map (item_parts meanings mode store one) items))
-  behind_fit others one [] ascii = tt
-  behind_fit false one (asked ∷ items) ascii =
-      all-append (IsFit meanings) (item_parts meanings mode store one asked) (parts_behind true (map (item_parts meanings mode store one) items)) (item_fit one asked ascii.0) (behind_fit true one items ascii.1)
-  behind_fit true one (asked ∷ items) ascii = (
+  after_fit : (others : Bool) (one : Listed) (items : List FetchItem) → AllByRecursion AsksAscii items → AreFit oracles (parts_following others (map (item_parts oracles mode store one) items))
+  after_fit others one [] ascii = tt
+  after_fit false one (asked ∷ items) ascii =
+      all-append (IsFit oracles) (item_parts oracles mode store one asked) (parts_following true (map (item_parts oracles mode store one) items)) (item_fit one asked ascii.0) (after_fit true one items ascii.1)
+  after_fit true one (asked ∷ items) ascii = (
     refl,
-    all-append (IsFit meanings) (item_parts meanings mode store one asked) (parts_behind true (map (item_parts meanings mode store one) items)) (item_fit one asked ascii.0) (behind_fit true one items ascii.1),
+    all-append (IsFit oracles) (item_parts oracles mode store one asked) (parts_following true (map (item_parts oracles mode store one) items)) (item_fit one asked ascii.0) (after_fit true one items ascii.1),
   )
 
-  fetch_fit : (number : ℕ) (one : Listed) (items : List FetchItem) → AllByRecursion AsksAscii items → AreFit meanings (fetch_reply meanings mode store number one items)
+  fetch_fit : (number : ℕ) (one : Listed) (items : List FetchItem) → AllByRecursion AsksAscii items → AreFit oracles (fetch_reply oracles mode store number one items)
   fetch_fit number one items ascii = (
     number_fit (codes "* ") number (codes " FETCH (") refl refl,
-    all-append (IsFit meanings) (parts_behind false (map (item_parts meanings mode store one) items)) (line (codes ")") ∷ []) (behind_fit false one items ascii) (refl, tt),
+    all-append (IsFit oracles) (parts_following false (map (item_parts oracles mode store one) items)) (line (codes ")") ∷ []) (after_fit false one items ascii) (refl, tt),
   )
 
-  fetch_one_right : (by_uid read_only : Bool) (items : List FetchItem) → AllByRecursion AsksAscii items → (one : Numbered) → AreRight meanings (fetch_one meanings mode store by_uid read_only items one)
+  fetch_one_right : (by_uid read_only : Bool) (items : List FetchItem) → AllByRecursion AsksAscii items → (one : Numbered) → AreRight oracles (fetch_one oracles mode store by_uid read_only items one)
   fetch_one_right by_uid read_only items ascii one =
       let now_seen = seen one.listed in
-      let told : (is : Listed) (changed : Bool) → AreRight meanings (fetch_told meanings mode store by_uid items one.number is changed) = λ is changed.
+      let told : (is : Listed) (changed : Bool) → AreRight oracles (fetch_told oracles mode store by_uid items one.number is changed) = λ is changed.
       (let all = with_flags changed (with_uid by_uid items) in
-      asking_right meanings (asked_of mode store items is.id) (reply (fetch_reply meanings mode store one.number is all))
-      (reply_right meanings (fetch_reply meanings mode store one.number is all) (fetch_fit one.number is all (flags_ascii changed (with_uid by_uid items) (uid_ascii by_uid items ascii))))) in
-      cond_both (becomes_seen read_only items one.listed) (changes (flags_change one.listed now_seen.flags) ∷ fetch_told meanings mode store by_uid items one.number now_seen true)
-      (fetch_told meanings mode store by_uid items one.number one.listed false) (λ z. AreRight meanings z) (λ _. ((tt, tt), told now_seen true)) (λ _. told one.listed false)
+      asking_right oracles (asked_of mode store items is.id) (reply (fetch_reply oracles mode store one.number is all))
+      (reply_right oracles (fetch_reply oracles mode store one.number is all) (fetch_fit one.number is all (flags_ascii changed (with_uid by_uid items) (uid_ascii by_uid items ascii))))) in
+      cond_both (becomes_seen read_only items one.listed) (changes (flags_change one.listed now_seen.flags) ∷ fetch_told oracles mode store by_uid items one.number now_seen true)
+      (fetch_told oracles mode store by_uid items one.number one.listed false) (λ z. AreRight oracles z) (λ _. ((tt, tt), told now_seen true)) (λ _. told one.listed false)
 
 -- ---- STORE, EXPUNGE and CLOSE
 
@@ -470,9 +470,9 @@ uid_fit : (by_uid : Bool) (one : Listed) → list_all is_ascii (uid_text by_uid 
 uid_fit true one = number_fit (codes "UID ") one.uid (codes " ") refl refl
 uid_fit false one = refl
 
-told_fit : (meanings : Meanings) (by_uid silent : Bool) (one : Numbered) (flags : ℕ) → AreFit meanings (flags_reply by_uid silent one flags)
-told_fit meanings by_uid true one flags = tt
-told_fit meanings by_uid false one flags =
+told_fit : (oracles : Oracles) (by_uid silent : Bool) (one : Numbered) (flags : ℕ) → AreFit oracles (flags_reply by_uid silent one flags)
+told_fit oracles by_uid true one flags = tt
+told_fit oracles by_uid false one flags =
     let uid = uid_text by_uid one.listed in
     let back = uid ++ (flags_text flags ++ codes ")") in
     let back_fit : list_all is_ascii back ≡ true = between uid (flags_text flags) (codes ")") (uid_fit by_uid one.listed) (flags_fit flags) refl in
@@ -484,94 +484,94 @@ expunged_quiet : (ids : List ℕ) → AllByRecursion MayBeKept (expunged ids)
 expunged_quiet [] = tt
 expunged_quiet (id ∷ ids) = (tt, expunged_quiet ids)
 
-taken_right : (meanings : Meanings) (ids : List ℕ) → AreRight meanings (taken_out ids)
-taken_right meanings [] = tt
-taken_right meanings (id ∷ ids) = (expunged_quiet (id ∷ ids), tt)
+taken_right : (oracles : Oracles) (ids : List ℕ) → AreRight oracles (taken_out ids)
+taken_right oracles [] = tt
+taken_right oracles (id ∷ ids) = (expunged_quiet (id ∷ ids), tt)
 
-closing_fit : (meanings : Meanings) (number : ℕ) (messages : List Listed) → AreFit meanings (closing_up number messages)
-closing_fit meanings number [] = tt
-closing_fit meanings number (one ∷ others) =
-    cond_both (is_deleted one) (untagged (decimal number ++ codes " EXPUNGE") ∷ closing_up number others) (closing_up (number + 1) others) (λ z. AreFit meanings z)
-    (λ _. (untagged_fit (decimal number ++ codes " EXPUNGE") (pass-append is_ascii (decimal number) (codes " EXPUNGE") (ascii-decimal number) refl), closing_fit meanings number others)) (λ _. closing_fit meanings (number + 1) others)
+closing_fit : (oracles : Oracles) (number : ℕ) (messages : List Listed) → AreFit oracles (closing_up number messages)
+closing_fit oracles number [] = tt
+closing_fit oracles number (one ∷ others) =
+    cond_both (is_deleted one) (untagged (decimal number ++ codes " EXPUNGE") ∷ closing_up number others) (closing_up (number + 1) others) (λ z. AreFit oracles z)
+    (λ _. (untagged_fit (decimal number ++ codes " EXPUNGE") (pass-append is_ascii (decimal number) (codes " EXPUNGE") (ascii-decimal number) refl), closing_fit oracles number others)) (λ _. closing_fit oracles (number + 1) others)
 
 -- ---- commands
 
-module _ (meanings : Meanings) (are : AreMeanings meanings) (now : List ℕ) (dated : IsDate now) (store : StoreState) (stored : AreStored store.kept.messages) (tag : List ℕ)
+module _ (oracles : Oracles) (are : AreOracles oracles) (now : List ℕ) (dated : IsDate now) (store : StoreState) (stored : AreStored store.kept.messages) (tag : List ℕ)
     (tag_fit : list_all is_ascii tag ≡ true) where
-  each_message_right : (state : State) (by_uid : Bool) (set : Set) (messages : List Listed) (act : Numbered → List (Act ReplyPart)) → ((one : Numbered) → AreRight meanings (act one))
-      → AreRight meanings (for_each tag state by_uid set messages act).acts
+  each_message_right : (state : State) (by_uid : Bool) (set : Set) (messages : List Listed) (act : Numbered → List (Act ReplyPart)) → ((one : Numbered) → AreRight oracles (act one))
+      → AreRight oracles (for_each tag state by_uid set messages act).acts
   each_message_right state by_uid set messages act right =
       let acts = flat_map act (chosen by_uid set messages) in
-      either_right meanings tag tag_fit (is_refused by_uid set messages) (no_such_message tag state) (ends_with tag done acts state) (says_right meanings tag tag_fit (codes "BAD no such message") state refl)
-      (ends_right meanings tag tag_fit done acts state refl (each_right meanings act right (chosen by_uid set messages)))
+      either_right oracles tag tag_fit (is_refused by_uid set messages) (no_such_message tag state) (ends_with tag done acts state) (says_right oracles tag tag_fit (codes "BAD no such message") state refl)
+      (ends_right oracles tag tag_fit done acts state refl (each_right oracles act right (chosen by_uid set messages)))
 
   fetch_right : (state : State) (mode : Mode) (folder : ℕ) (read_only by_uid : Bool) (set : Set) (items : List FetchItem) → AllByRecursion AsksAscii items
-      → AreRight meanings (fetch_step meanings tag state mode folder read_only store by_uid set items).acts
+      → AreRight oracles (fetch_step oracles tag state mode folder read_only store by_uid set items).acts
   fetch_right state mode folder read_only by_uid set items ascii =
-      each_message_right state by_uid set (listed store.kept folder) (fetch_one meanings mode store by_uid read_only items) (fetch_one_right meanings are mode store stored by_uid read_only items ascii)
+      each_message_right state by_uid set (listed store.kept folder) (fetch_one oracles mode store by_uid read_only items) (fetch_one_right oracles are mode store stored by_uid read_only items ascii)
 
-  exists_fit : (opened : Option ℕ) (kept : Kept) (folder : ℕ) → AreFit meanings (exists_lines opened kept folder)
+  exists_fit : (opened : Option ℕ) (kept : Kept) (folder : ℕ) → AreFit oracles (exists_lines opened kept folder)
   exists_fit None kept folder = tt
   exists_fit (Some opened) kept folder =
       let count = decimal (length (listed kept folder)) in
-      cond_both (opened == folder) (untagged (count ++ codes " EXISTS") ∷ []) [] (λ z. AreFit meanings z)
+      cond_both (opened == folder) (untagged (count ++ codes " EXISTS") ∷ []) [] (λ z. AreFit oracles z)
       (λ _. (untagged_fit (count ++ codes " EXISTS") (pass-append is_ascii count (codes " EXISTS") (ascii-decimal (length (listed kept folder))) refl), tt)) (λ _. tt)
 
   unless_kept_right : (state : State) (opened : Option ℕ) (folder : ℕ) (made : Record) (refused : Option StoreFault) → MayBeKept made
-      → AreRight meanings (append_unless tag state opened store.kept folder made refused).acts
+      → AreRight oracles (append_unless tag state opened store.kept folder made refused).acts
   unless_kept_right state opened folder made None may =
       let told = exists_lines opened (after_record store.kept made) folder in
-      ends_right meanings tag tag_fit done (changes (made ∷ []) ∷ reply told) state refl ((may, tt), reply_right meanings told (exists_fit opened (after_record store.kept made) folder))
-  unless_kept_right state opened folder made (Some refusal.Exists) may = says_right meanings tag tag_fit (codes "NO too large") state refl
-  unless_kept_right state opened folder made (Some refusal.NoSuch) may = says_right meanings tag tag_fit (codes "NO too large") state refl
-  unless_kept_right state opened folder made (Some refusal.TooLarge) may = says_right meanings tag tag_fit (codes "NO too large") state refl
-  unless_kept_right state opened folder made (Some refusal.Memory) may = says_right meanings tag tag_fit (codes "NO too large") state refl
-  unless_kept_right state opened folder made (Some refusal.Keeper) may = says_right meanings tag tag_fit (codes "NO too large") state refl
+      ends_right oracles tag tag_fit done (changes (made ∷ []) ∷ reply told) state refl ((may, tt), reply_right oracles told (exists_fit opened (after_record store.kept made) folder))
+  unless_kept_right state opened folder made (Some refusal.Exists) may = says_right oracles tag tag_fit (codes "NO too large") state refl
+  unless_kept_right state opened folder made (Some refusal.NoSuch) may = says_right oracles tag tag_fit (codes "NO too large") state refl
+  unless_kept_right state opened folder made (Some refusal.TooLarge) may = says_right oracles tag tag_fit (codes "NO too large") state refl
+  unless_kept_right state opened folder made (Some refusal.Memory) may = says_right oracles tag tag_fit (codes "NO too large") state refl
+  unless_kept_right state opened folder made (Some refusal.Keeper) may = says_right oracles tag tag_fit (codes "NO too large") state refl
 
   octets_right : (state : State) (opened : Option ℕ) (folder flags : ℕ) (date octets : List ℕ) → IsDate date
-      → AreRight meanings (append_octets (meanings.has_tree octets) tag state opened store folder flags date octets).acts
+      → AreRight oracles (append_octets (oracles.has_tree octets) tag state opened store folder flags date octets).acts
   octets_right state opened folder flags date octets dated =
       let refused = append_refusal store octets in
       let made = appended folder flags date octets in
-      cond_both (meanings.has_tree octets) (append_unless tag state opened store.kept folder made refused) (says tag (codes "NO not a message") state) (λ (one : Step). AreRight meanings one.acts)
-      (λ is. unless_kept_right state opened folder made refused (dated, (are.trees octets).0 is)) (λ _. says_right meanings tag tag_fit (codes "NO not a message") state refl)
+      cond_both (oracles.has_tree octets) (append_unless tag state opened store.kept folder made refused) (says tag (codes "NO not a message") state) (λ (one : Step). AreRight oracles one.acts)
+      (λ is. unless_kept_right state opened folder made refused (dated, (are.trees octets).0 is)) (λ _. says_right oracles tag tag_fit (codes "NO not a message") state refl)
 
   append_right : (state : State) (opened : Option ℕ) (mode : Mode) (flags : ℕ) (date : List ℕ) (in_utf8 : Bool) (octets : List ℕ) (found : Option ℕ) → IsDate date
-      → AreRight meanings (append_in meanings tag state opened mode store flags date in_utf8 octets found).acts
-  append_right state opened mode flags date in_utf8 octets None dated = says_right meanings tag tag_fit (codes "NO no such folder") state refl
+      → AreRight oracles (append_in oracles tag state opened mode store flags date in_utf8 octets found).acts
+  append_right state opened mode flags date in_utf8 octets None dated = says_right oracles tag tag_fit (codes "NO no such folder") state refl
   append_right state opened mode flags date in_utf8 octets (Some folder) dated =
-      either_right meanings tag tag_fit (in_utf8 && not (is_enabled mode)) (says tag (codes "NO not enabled") state)
-      (append_octets (meanings.has_tree (completed octets)) tag state opened store folder flags date (completed octets)) (says_right meanings tag tag_fit (codes "NO not enabled") state refl)
+      either_right oracles tag tag_fit (in_utf8 && not (is_enabled mode)) (says tag (codes "NO not enabled") state)
+      (append_octets (oracles.has_tree (completed octets)) tag state opened store folder flags date (completed octets)) (says_right oracles tag tag_fit (codes "NO not enabled") state refl)
       (octets_right state opened folder flags date (completed octets) dated)
 
-  store_right : (state : State) (folder : ℕ) (read_only by_uid : Bool) (set : Set) (op : StoreOp) (silent : Bool) (named : ℕ) → AreRight meanings (store_step tag state folder read_only store by_uid set op silent named).acts
+  store_right : (state : State) (folder : ℕ) (read_only by_uid : Bool) (set : Set) (op : StoreOp) (silent : Bool) (named : ℕ) → AreRight oracles (store_step tag state folder read_only store by_uid set op silent named).acts
   store_right state folder read_only by_uid set op silent named =
       let act = store_one by_uid silent op named in
-      either_right meanings tag tag_fit read_only (refused_as_read_only tag state) (for_each tag state by_uid set (listed store.kept folder) act) (says_right meanings tag tag_fit (codes "NO read only") state refl)
+      either_right oracles tag tag_fit read_only (refused_as_read_only tag state) (for_each tag state by_uid set (listed store.kept folder) act) (says_right oracles tag tag_fit (codes "NO read only") state refl)
       (each_message_right state by_uid set (listed store.kept folder) act (λ one.
       let flags = stored_flags op one.listed.flags named in
-      ((tt, tt), reply_right meanings (flags_reply by_uid silent one flags) (told_fit meanings by_uid silent one flags))))
+      ((tt, tt), reply_right oracles (flags_reply by_uid silent one flags) (told_fit oracles by_uid silent one flags))))
 
-  expunge_right : (state : State) (read_only : Bool) (messages : List Listed) → AreRight meanings (expunge_step tag state read_only messages).acts
+  expunge_right : (state : State) (read_only : Bool) (messages : List Listed) → AreRight oracles (expunge_step tag state read_only messages).acts
   expunge_right state read_only messages =
       let taken = taken_out (deleted_ids messages) in
       let told = closing_up 1 messages in
-      either_right meanings tag tag_fit read_only (refused_as_read_only tag state) (ends_with tag done (taken ++ reply told) state) (says_right meanings tag tag_fit (codes "NO read only") state refl)
-      (ends_right meanings tag tag_fit done (taken ++ reply told) state refl
-      (all-append (IsRightAct meanings) taken (reply told) (taken_right meanings (deleted_ids messages)) (reply_right meanings told (closing_fit meanings 1 messages))))
+      either_right oracles tag tag_fit read_only (refused_as_read_only tag state) (ends_with tag done (taken ++ reply told) state) (says_right oracles tag tag_fit (codes "NO read only") state refl)
+      (ends_right oracles tag tag_fit done (taken ++ reply told) state refl
+      (all-append (IsRightAct oracles) taken (reply told) (taken_right oracles (deleted_ids messages)) (reply_right oracles told (closing_fit oracles 1 messages))))
 
-  close_right : (state : State) (read_only : Bool) (messages : List Listed) → AreRight meanings (close_step tag state read_only messages).acts
-  close_right state true messages = says_right meanings tag tag_fit done state refl
-  close_right state false messages = ends_right meanings tag tag_fit done (taken_out (deleted_ids messages)) state refl (taken_right meanings (deleted_ids messages))
+  close_right : (state : State) (read_only : Bool) (messages : List Listed) → AreRight oracles (close_step tag state read_only messages).acts
+  close_right state true messages = says_right oracles tag tag_fit done state refl
+  close_right state false messages = ends_right oracles tag tag_fit done (taken_out (deleted_ids messages)) state refl (taken_right oracles (deleted_ids messages))
 
-  out_right : (state : State) → AreRight meanings (out_of_order tag state).acts
-  out_right state = says_right meanings tag tag_fit (codes "BAD out of order") state refl
+  out_right : (state : State) → AreRight oracles (out_of_order tag state).acts
+  out_right state = says_right oracles tag tag_fit (codes "BAD out of order") state refl
 
-  common_right : (state : State) (said : Command) → AreRight meanings (common_step tag state said).acts
-  common_right state command.Capability = answers_right meanings tag tag_fit done (untagged (codes "CAPABILITY IMAP4rev1 ENABLE UTF8=ACCEPT") ∷ []) state refl (refl, tt)
-  common_right state command.Noop = says_right meanings tag tag_fit done state refl
-  common_right state command.Logout = answers_right meanings tag tag_fit done (untagged (codes "BYE bye") ∷ []) ended refl (refl, tt)
-  common_right state command.NotHere = says_right meanings tag tag_fit (codes "NO not here") state refl
+  common_right : (state : State) (said : Command) → AreRight oracles (common_step tag state said).acts
+  common_right state command.Capability = answers_right oracles tag tag_fit done (untagged (codes "CAPABILITY IMAP4rev1 ENABLE UTF8=ACCEPT") ∷ []) state refl (refl, tt)
+  common_right state command.Noop = says_right oracles tag tag_fit done state refl
+  common_right state command.Logout = answers_right oracles tag tag_fit done (untagged (codes "BYE bye") ∷ []) ended refl (refl, tt)
+  common_right state command.NotHere = says_right oracles tag tag_fit (codes "NO not here") state refl
   common_right state command.Check = out_right state
   common_right state (command.Login user password) = out_right state
   common_right state (command.Enable words) = out_right state
@@ -586,8 +586,8 @@ module _ (meanings : Meanings) (are : AreMeanings meanings) (now : List ℕ) (da
   common_right state command.Expunge = out_right state
   common_right state command.Close = out_right state
 
-  unauthenticated_right : (said : Command) → AreRight meanings (not_authenticated_step meanings tag store said).acts
-  unauthenticated_right (command.Login user password) = login_right meanings tag tag_fit (logged_in meanings.path_of store.kept user password)
+  unauthenticated_right : (said : Command) → AreRight oracles (not_authenticated_step oracles tag store said).acts
+  unauthenticated_right (command.Login user password) = login_right oracles tag tag_fit (logged_in oracles.path_of store.kept user password)
   unauthenticated_right command.Capability = common_right not_authenticated command.Capability
   unauthenticated_right command.Noop = common_right not_authenticated command.Noop
   unauthenticated_right command.Logout = common_right not_authenticated command.Logout
@@ -605,19 +605,19 @@ module _ (meanings : Meanings) (are : AreMeanings meanings) (now : List ℕ) (da
   unauthenticated_right command.Expunge = common_right not_authenticated command.Expunge
   unauthenticated_right command.Close = common_right not_authenticated command.Close
 
-  mailbox_right : (state : State) (mode : Mode) (account : ℕ) (said : Command) → IsSaid said → AreRight meanings (mailbox_step meanings now tag state mode account store said).acts
-  mailbox_right state mode account (command.Select written) said = select_right meanings tag tag_fit mode account false store (folder_named meanings mode store account written)
-  mailbox_right state mode account (command.Examine written) said = select_right meanings tag tag_fit mode account true store (folder_named meanings mode store account written)
-  mailbox_right state mode account (command.Create written) said = create_right meanings tag tag_fit state account store (meanings.name_of (is_enabled mode) written)
-  mailbox_right state mode account (command.List reference pattern) said = answers_right meanings tag tag_fit done (list_lines mode store account reference pattern) state refl (list_fit meanings mode store account reference pattern)
-  mailbox_right state mode account (command.Status written items) said = status_right (folder_named meanings mode store account written)
+  mailbox_right : (state : State) (mode : Mode) (account : ℕ) (said : Command) → IsSaid said → AreRight oracles (mailbox_step oracles now tag state mode account store said).acts
+  mailbox_right state mode account (command.Select written) said = select_right oracles tag tag_fit mode account false store (folder_named oracles mode store account written)
+  mailbox_right state mode account (command.Examine written) said = select_right oracles tag tag_fit mode account true store (folder_named oracles mode store account written)
+  mailbox_right state mode account (command.Create written) said = create_right oracles tag tag_fit state account store (oracles.name_of (is_enabled mode) written)
+  mailbox_right state mode account (command.List reference pattern) said = answers_right oracles tag tag_fit done (list_lines mode store account reference pattern) state refl (list_fit oracles mode store account reference pattern)
+  mailbox_right state mode account (command.Status written items) said = status_right (folder_named oracles mode store account written)
     where
-      status_right : (found : Option ℕ) → AreRight meanings (status_by tag state mode store items found).acts
-      status_right None = says_right meanings tag tag_fit (codes "NO no such folder") state refl
-      status_right (Some folder) = answers_right meanings tag tag_fit done (status_line mode store folder items) state refl (status_fit meanings mode store folder items)
-  mailbox_right state mode account (command.Append written flags None utf8 octets) said = append_right state (opened_in state) mode flags now utf8 octets (folder_named meanings mode store account written) dated
+      status_right : (found : Option ℕ) → AreRight oracles (status_by tag state mode store items found).acts
+      status_right None = says_right oracles tag tag_fit (codes "NO no such folder") state refl
+      status_right (Some folder) = answers_right oracles tag tag_fit done (status_line mode store folder items) state refl (status_fit oracles mode store folder items)
+  mailbox_right state mode account (command.Append written flags None utf8 octets) said = append_right state (opened_in state) mode flags now utf8 octets (folder_named oracles mode store account written) dated
   mailbox_right state mode account (command.Append written flags (Some date) utf8 octets) said =
-      append_right state (opened_in state) mode flags date utf8 octets (folder_named meanings mode store account written) said.0
+      append_right state (opened_in state) mode flags date utf8 octets (folder_named oracles mode store account written) said.0
   mailbox_right state mode account command.Capability said = common_right state command.Capability
   mailbox_right state mode account command.Noop said = common_right state command.Noop
   mailbox_right state mode account command.Logout said = common_right state command.Logout
@@ -630,8 +630,8 @@ module _ (meanings : Meanings) (are : AreMeanings meanings) (now : List ℕ) (da
   mailbox_right state mode account command.Expunge said = common_right state command.Expunge
   mailbox_right state mode account command.Close said = common_right state command.Close
 
-  authenticated_right : (mode : Mode) (account : ℕ) (said : Command) → IsSaid said → AreRight meanings (authenticated_step meanings now tag mode account store said).acts
-  authenticated_right mode account (command.Enable words) said = enable_right meanings tag tag_fit mode account (asks_utf8 words)
+  authenticated_right : (mode : Mode) (account : ℕ) (said : Command) → IsSaid said → AreRight oracles (authenticated_step oracles now tag mode account store said).acts
+  authenticated_right mode account (command.Enable words) said = enable_right oracles tag tag_fit mode account (asks_utf8 words)
   authenticated_right mode account (command.Select written) said = mailbox_right (authenticated mode account) mode account (command.Select written) said
   authenticated_right mode account (command.Examine written) said = mailbox_right (authenticated mode account) mode account (command.Examine written) said
   authenticated_right mode account (command.Create written) said = mailbox_right (authenticated mode account) mode account (command.Create written) said
@@ -649,8 +649,8 @@ module _ (meanings : Meanings) (are : AreMeanings meanings) (now : List ℕ) (da
   authenticated_right mode account command.Expunge said = common_right (authenticated mode account) command.Expunge
   authenticated_right mode account command.Close said = common_right (authenticated mode account) command.Close
 
-  selected_right : (mode : Mode) (account folder : ℕ) (read_only : Bool) (said : Command) → IsSaid said → FetchesAscii said → AreRight meanings (selected_step meanings now tag mode account folder read_only store said).acts
-  selected_right mode account folder read_only command.Check said ascii = says_right meanings tag tag_fit done (selected mode account folder read_only) refl
+  selected_right : (mode : Mode) (account folder : ℕ) (read_only : Bool) (said : Command) → IsSaid said → FetchesAscii said → AreRight oracles (selected_step oracles now tag mode account folder read_only store said).acts
+  selected_right mode account folder read_only command.Check said ascii = says_right oracles tag tag_fit done (selected mode account folder read_only) refl
   selected_right mode account folder read_only (command.Fetch by_uid set items) said ascii = fetch_right (selected mode account folder read_only) mode folder read_only by_uid set items ascii
   selected_right mode account folder read_only (command.Store by_uid set op silent flags) said ascii = store_right (selected mode account folder read_only) folder read_only by_uid set op silent flags
   selected_right mode account folder read_only command.Expunge said ascii = expunge_right (selected mode account folder read_only) read_only (listed store.kept folder)
@@ -668,7 +668,7 @@ module _ (meanings : Meanings) (are : AreMeanings meanings) (now : List ℕ) (da
   selected_right mode account folder read_only (command.Login user password) said ascii = common_right (selected mode account folder read_only) (command.Login user password)
   selected_right mode account folder read_only (command.Enable words) said ascii = common_right (selected mode account folder read_only) (command.Enable words)
 
-  pub step_right : (state : State) (said : Command) → IsSaid said → FetchesAscii said → AreRight meanings (step meanings now state store tag said).acts
+  pub step_right : (state : State) (said : Command) → IsSaid said → FetchesAscii said → AreRight oracles (step oracles now state store tag said).acts
   unfolding step
   step_right not_authenticated said is ascii = unauthenticated_right said
   step_right (authenticated mode account) said is ascii = authenticated_right mode account said is
@@ -702,16 +702,16 @@ append_tag utf8 octets appends is =
     let same : appends.tag ≡ is.value = ap (λ (one : Appends). one.tag) is.second.second.second.second.1 in
     rw same (run_ascii is.front is.value is.first)
 
-pub due_right : (meanings : Meanings) → AreMeanings meanings → (now : List ℕ) → IsDate now → (state : State) (store : StoreState) → AreStored store.kept.messages → (utf8 : Bool) (octets : List ℕ) (event : Event)
-    → IsDue utf8 octets event → AreRight meanings (due_step meanings now state store event).acts
-due_right meanings are now dated state store stored utf8 octets More due = absurd due
-due_right meanings are now dated state store stored utf8 octets Go due = (refl, tt)
-due_right meanings are now dated state store stored utf8 octets (CommandEvent tag said) due =
-    step_right meanings are now dated store stored tag (command_tag utf8 octets tag said due.1) state said (said_of utf8 octets (CommandEvent tag said) due) (names_of utf8 octets tag said due)
-due_right meanings are now dated state store stored utf8 octets (Bad (Some tag) at) due = says_right meanings tag (run_ascii tag tag due.3.is_tag) (codes "BAD syntax") state refl
-due_right meanings are now dated state store stored utf8 octets (Bad None at) due = (refl, tt)
-due_right meanings are now dated state store stored utf8 octets (TooLarge tag) due = says_right meanings tag (rw due.1.2 (append_tag utf8 octets due.1.0 due.1.1)) (codes "NO too large") state refl
-due_right meanings are now dated state store stored utf8 octets TooLong due = (refl, tt)
+pub due_right : (oracles : Oracles) → AreOracles oracles → (now : List ℕ) → IsDate now → (state : State) (store : StoreState) → AreStored store.kept.messages → (utf8 : Bool) (octets : List ℕ) (event : Event)
+    → IsDue utf8 octets event → AreRight oracles (due_step oracles now state store event).acts
+due_right oracles are now dated state store stored utf8 octets More due = absurd due
+due_right oracles are now dated state store stored utf8 octets Go due = (refl, tt)
+due_right oracles are now dated state store stored utf8 octets (CommandEvent tag said) due =
+    step_right oracles are now dated store stored tag (command_tag utf8 octets tag said due.1) state said (said_of utf8 octets (CommandEvent tag said) due) (names_of utf8 octets tag said due)
+due_right oracles are now dated state store stored utf8 octets (Bad (Some tag) at) due = says_right oracles tag (run_ascii tag tag due.3.is_tag) (codes "BAD syntax") state refl
+due_right oracles are now dated state store stored utf8 octets (Bad None at) due = (refl, tt)
+due_right oracles are now dated state store stored utf8 octets (TooLarge tag) due = says_right oracles tag (rw due.1.2 (append_tag utf8 octets due.1.0 due.1.1)) (codes "NO too large") state refl
+due_right oracles are now dated state store stored utf8 octets TooLong due = (refl, tt)
 
 -- ---- dates
 

@@ -12,7 +12,7 @@ use Rattle.imap_grammar.specs.declared.event.Event.TheVariants.{More, Go, Comman
 use Rattle.imap_grammar.proofs.OneEvent.{first_stays}
 use Rattle.session_core.specs.Acts.{Act}
 use Rattle.session_core.specs.Desks.{IsOpen}
-use Rattle.session_core.specs.Meanings.{Meanings, AreMeanings}
+use Rattle.session_core.specs.Oracles.{Oracles, AreOracles}
 use Rattle.session_core.specs.Moments.{Moment}
 use Rattle.session_core.specs.Protocol.{IsFitTurn}
 use Rattle.session_core.specs.Turns.{Turn, IsFramed, followed_by}
@@ -58,27 +58,27 @@ seen-more seen octets more used TooLong other within = refl
 -- ---- turns
 
 -- what is due first where a turn comes
-pub record ComesOf (meanings : Meanings) (machine : Machine) (octets : List ℕ) (turn : Turn Machine (Act ReplyPart)) : Type 0 where
+pub record ComesOf (oracles : Oracles) (machine : Machine) (octets : List ℕ) (turn : Turn Machine (Act ReplyPart)) : Type 0 where
   pub due : Due
-  pub event_is : meanings.event_of (is_enabled (mode_of machine.state)) machine.seen octets ≡ Some due
-  pub turn_is : turn ≡ due_turn meanings machine octets due
+  pub event_is : oracles.event_of (is_enabled (mode_of machine.state)) machine.seen octets ≡ Some due
+  pub turn_is : turn ≡ due_turn oracles machine octets due
 
-comes_by : (meanings : Meanings) (machine : Machine) (octets : List ℕ) (turn : Turn Machine (Act ReplyPart)) (found : Option Due)
-    → meanings.event_of (is_enabled (mode_of machine.state)) machine.seen octets ≡ found → option_map (due_turn meanings machine octets) found ≡ Some turn → ComesOf meanings machine octets turn
-comes_by meanings machine octets turn None at is = cc
-comes_by meanings machine octets turn (Some due) at is = record { due = due; event_is = at; turn_is = sym (same_Some _ _ is) }
+comes_by : (oracles : Oracles) (machine : Machine) (octets : List ℕ) (turn : Turn Machine (Act ReplyPart)) (found : Option Due)
+    → oracles.event_of (is_enabled (mode_of machine.state)) machine.seen octets ≡ found → option_map (due_turn oracles machine octets) found ≡ Some turn → ComesOf oracles machine octets turn
+comes_by oracles machine octets turn None at is = cc
+comes_by oracles machine octets turn (Some due) at is = record { due = due; event_is = at; turn_is = sym (same_Some _ _ is) }
 
-comes_from : (meanings : Meanings) (state : State) (machine : Machine) (octets : List ℕ) (turn : Turn Machine (Act ReplyPart)) → turn_from meanings state machine octets ≡ Some turn
-    → ComesOf meanings machine octets turn
-comes_from meanings not_authenticated machine octets turn is = comes_by meanings machine octets turn _ refl is
-comes_from meanings (authenticated mode account) machine octets turn is = comes_by meanings machine octets turn _ refl is
-comes_from meanings (selected mode account folder read_only) machine octets turn is = comes_by meanings machine octets turn _ refl is
-comes_from meanings ended machine octets turn is = cc
+comes_from : (oracles : Oracles) (state : State) (machine : Machine) (octets : List ℕ) (turn : Turn Machine (Act ReplyPart)) → turn_from oracles state machine octets ≡ Some turn
+    → ComesOf oracles machine octets turn
+comes_from oracles not_authenticated machine octets turn is = comes_by oracles machine octets turn _ refl is
+comes_from oracles (authenticated mode account) machine octets turn is = comes_by oracles machine octets turn _ refl is
+comes_from oracles (selected mode account folder read_only) machine octets turn is = comes_by oracles machine octets turn _ refl is
+comes_from oracles ended machine octets turn is = cc
 
-pub comes : (meanings : Meanings) (machine : Machine) (octets : List ℕ) (turn : Turn Machine (Act ReplyPart)) → next_turn meanings machine octets ≡ Some turn
-    → ComesOf meanings machine octets turn
+pub comes : (oracles : Oracles) (machine : Machine) (octets : List ℕ) (turn : Turn Machine (Act ReplyPart)) → next_turn oracles machine octets ≡ Some turn
+    → ComesOf oracles machine octets turn
 unfolding next_turn
-comes meanings machine octets turn is = comes_from meanings machine.state machine octets turn is
+comes oracles machine octets turn is = comes_from oracles machine.state machine octets turn is
 
 never_ended : (session : ImapState) → state_of session ≡ ended → ⊥
 never_ended (imap.NotAuthenticated session) is = cc
@@ -91,91 +91,91 @@ pub goes_on_by : (more : List Moment) (session : ImapMachine) (kept : List ℕ) 
     → ¬ (machine.state ≡ ended)
 goes_on_by more session kept desk machine rest stands is = never_ended session.state (sym stands.state_is ∙ is)
 
-pub quiet_by : (meanings : Meanings) (machine : Machine) (rest : List ℕ) → machine.state ≡ ended → next_turn meanings machine rest ≡ None
+pub quiet_by : (oracles : Oracles) (machine : Machine) (rest : List ℕ) → machine.state ≡ ended → next_turn oracles machine rest ≡ None
 unfolding next_turn
-quiet_by meanings machine rest is = ap (λ state. turn_from meanings state machine rest) is
+quiet_by oracles machine rest is = ap (λ state. turn_from oracles state machine rest) is
 
-none_due : (meanings : Meanings) → AreMeanings meanings → (utf8 : Bool) (seen rest : List ℕ) (found : Option Due) → meanings.event_of utf8 seen rest ≡ found → IsFirstDue utf8 seen rest found
+none_due : (oracles : Oracles) → AreOracles oracles → (utf8 : Bool) (seen rest : List ℕ) (found : Option Due) → oracles.event_of utf8 seen rest ≡ found → IsFirstDue utf8 seen rest found
     → NothingBefore utf8 seen rest (length rest + 1) → found ≡ None
-none_due meanings are utf8 seen rest None at first quiet = refl
-none_due meanings are utf8 seen rest (Some due) at first quiet =
+none_due oracles are utf8 seen rest None at first quiet = refl
+none_due oracles are utf8 seen rest (Some due) at first quiet =
     let is = at_due utf8 seen rest due first in
     let low : due.used < length rest + 1 = let w = is.within in omega (arith, w) in
     absurd (quiet due.used is.some low due.event is.is_due)
 
-waits_from : (meanings : Meanings) (state : State) (machine : Machine) (rest : List ℕ) → meanings.event_of (is_enabled (mode_of machine.state)) machine.seen rest ≡ None
-    → turn_from meanings state machine rest ≡ None
-waits_from meanings not_authenticated machine rest is = ap (option_map (due_turn meanings machine rest)) is
-waits_from meanings (authenticated mode account) machine rest is = ap (option_map (due_turn meanings machine rest)) is
-waits_from meanings (selected mode account folder read_only) machine rest is = ap (option_map (due_turn meanings machine rest)) is
-waits_from meanings ended machine rest is = refl
+waits_from : (oracles : Oracles) (state : State) (machine : Machine) (rest : List ℕ) → oracles.event_of (is_enabled (mode_of machine.state)) machine.seen rest ≡ None
+    → turn_from oracles state machine rest ≡ None
+waits_from oracles not_authenticated machine rest is = ap (option_map (due_turn oracles machine rest)) is
+waits_from oracles (authenticated mode account) machine rest is = ap (option_map (due_turn oracles machine rest)) is
+waits_from oracles (selected mode account folder read_only) machine rest is = ap (option_map (due_turn oracles machine rest)) is
+waits_from oracles ended machine rest is = refl
 
-pub waits_by : (meanings : Meanings) → AreMeanings meanings → (more : List Moment) (session : ImapMachine) (kept : List ℕ) (desk : Desk) (machine : Machine) (rest : List ℕ)
-    → ImapReady session kept desk → ImapStands more session kept desk machine rest → next_turn meanings machine rest ≡ None
+pub waits_by : (oracles : Oracles) → AreOracles oracles → (more : List Moment) (session : ImapMachine) (kept : List ℕ) (desk : Desk) (machine : Machine) (rest : List ℕ)
+    → ImapReady session kept desk → ImapStands more session kept desk machine rest → next_turn oracles machine rest ≡ None
 unfolding next_turn
-waits_by meanings are more session kept desk machine rest ready stands =
+waits_by oracles are more session kept desk machine rest ready stands =
     let utf8 = is_enabled (mode_of machine.state) in
-    waits_from meanings machine.state machine rest (none_due meanings are utf8 machine.seen rest _ refl (are.commands utf8 machine.seen rest) stands.quiet)
+    waits_from oracles machine.state machine rest (none_due oracles are utf8 machine.seen rest _ refl (are.commands utf8 machine.seen rest) stands.quiet)
 
 -- ---- turns don't depend on what comes later
 
 -- what is due first where a turn comes
-first_of : (meanings : Meanings) → AreMeanings meanings → (machine : Machine) (octets : List ℕ) (turn : Turn Machine (Act ReplyPart)) (of : ComesOf meanings machine octets turn)
+first_of : (oracles : Oracles) → AreOracles oracles → (machine : Machine) (octets : List ℕ) (turn : Turn Machine (Act ReplyPart)) (of : ComesOf oracles machine octets turn)
     → IsFirstDue (is_enabled (mode_of machine.state)) machine.seen octets (Some of.due)
-first_of meanings are machine octets turn of =
+first_of oracles are machine octets turn of =
     let utf8 = is_enabled (mode_of machine.state) in
     subst (λ found. IsFirstDue utf8 machine.seen octets found) of.event_is (are.commands utf8 machine.seen octets)
 
 -- the turn is the same with more octets behind
-same_turn : (meanings : Meanings) (machine : Machine) (octets more : List ℕ) (due : Due) → (due.event ≡ More → ⊥) → due.used ≤ length octets
-    → due_turn meanings machine (octets ++ more) due ≡ followed_by more (due_turn meanings machine octets due)
-same_turn meanings machine octets more due other within =
+same_turn : (oracles : Oracles) (machine : Machine) (octets more : List ℕ) (due : Due) → (due.event ≡ More → ⊥) → due.used ≤ length octets
+    → due_turn oracles machine (octets ++ more) due ≡ followed_by more (due_turn oracles machine octets due)
+same_turn oracles machine octets more due other within =
     rw (seen-more machine.seen octets more due.used due.event other within, drop-append-le due.used octets more within) refl
 
-more_from : (meanings : Meanings) (state : State) (machine : Machine) (octets more : List ℕ) (turn : Turn Machine (Act ReplyPart)) (due : Due) → turn_from meanings state machine octets ≡ Some turn
-    → meanings.event_of (is_enabled (mode_of machine.state)) machine.seen (octets ++ more) ≡ Some due → turn_from meanings state machine (octets ++ more) ≡ Some (due_turn meanings machine (octets ++ more) due)
-more_from meanings not_authenticated machine octets more turn due is found = ap (option_map (due_turn meanings machine (octets ++ more))) found
-more_from meanings (authenticated mode account) machine octets more turn due is found = ap (option_map (due_turn meanings machine (octets ++ more))) found
-more_from meanings (selected mode account folder read_only) machine octets more turn due is found = ap (option_map (due_turn meanings machine (octets ++ more))) found
-more_from meanings ended machine octets more turn due is found = cc
+more_from : (oracles : Oracles) (state : State) (machine : Machine) (octets more : List ℕ) (turn : Turn Machine (Act ReplyPart)) (due : Due) → turn_from oracles state machine octets ≡ Some turn
+    → oracles.event_of (is_enabled (mode_of machine.state)) machine.seen (octets ++ more) ≡ Some due → turn_from oracles state machine (octets ++ more) ≡ Some (due_turn oracles machine (octets ++ more) due)
+more_from oracles not_authenticated machine octets more turn due is found = ap (option_map (due_turn oracles machine (octets ++ more))) found
+more_from oracles (authenticated mode account) machine octets more turn due is found = ap (option_map (due_turn oracles machine (octets ++ more))) found
+more_from oracles (selected mode account folder read_only) machine octets more turn due is found = ap (option_map (due_turn oracles machine (octets ++ more))) found
+more_from oracles ended machine octets more turn due is found = cc
 
-shorter_by : (meanings : Meanings) → AreMeanings meanings → (machine : Machine) (octets : List ℕ) (turn : Turn Machine (Act ReplyPart)) → next_turn meanings machine octets ≡ Some turn
+shorter_by : (oracles : Oracles) → AreOracles oracles → (machine : Machine) (octets : List ℕ) (turn : Turn Machine (Act ReplyPart)) → next_turn oracles machine octets ≡ Some turn
     → length turn.rest < length octets
-shorter_by meanings are machine octets turn is =
-    let of = comes meanings machine octets turn is in
-    let at = at_due (is_enabled (mode_of machine.state)) machine.seen octets of.due (first_of meanings are machine octets turn of) in
+shorter_by oracles are machine octets turn is =
+    let of = comes oracles machine octets turn is in
+    let at = at_due (is_enabled (mode_of machine.state)) machine.seen octets of.due (first_of oracles are machine octets turn of) in
     let rest : turn.rest ≡ drop of.due.used octets = ap (λ (t : Turn Machine (Act ReplyPart)). t.rest) of.turn_is in
     let left : length (drop of.due.used octets) ≡ length octets - of.due.used = length-drop of.due.used octets in
     let some = at.some in
     let within = at.within in
     rw rest (omega (arith, left, some, within))
 
-stays_by : (meanings : Meanings) → AreMeanings meanings → (machine : Machine) (octets more : List ℕ) (turn : Turn Machine (Act ReplyPart)) → next_turn meanings machine octets ≡ Some turn
-    → next_turn meanings machine (octets ++ more) ≡ Some (followed_by more turn)
+stays_by : (oracles : Oracles) → AreOracles oracles → (machine : Machine) (octets more : List ℕ) (turn : Turn Machine (Act ReplyPart)) → next_turn oracles machine octets ≡ Some turn
+    → next_turn oracles machine (octets ++ more) ≡ Some (followed_by more turn)
 unfolding next_turn
-stays_by meanings are machine octets more turn is =
+stays_by oracles are machine octets more turn is =
     let utf8 = is_enabled (mode_of machine.state) in
-    let of = comes meanings machine octets turn is in
-    let first = first_of meanings are machine octets turn of in
+    let of = comes oracles machine octets turn is in
+    let first = first_of oracles are machine octets turn of in
     let at = at_due utf8 machine.seen octets of.due first in
     let found = first_stays utf8 machine.seen octets more of.due _ first (are.commands utf8 machine.seen (octets ++ more)) in
-    more_from meanings machine.state machine octets more turn of.due is found
-    ∙ ap Some (same_turn meanings machine octets more of.due first.1 at.within ∙ ap (followed_by more) (sym of.turn_is))
+    more_from oracles machine.state machine octets more turn of.due is found
+    ∙ ap Some (same_turn oracles machine octets more of.due first.1 at.within ∙ ap (followed_by more) (sym of.turn_is))
 
-pub framed_by : (meanings : Meanings) → AreMeanings meanings → IsFramed (next_turn meanings)
-framed_by meanings are = record { shorter = shorter_by meanings are; stays = stays_by meanings are }
+pub framed_by : (oracles : Oracles) → AreOracles oracles → IsFramed (next_turn oracles)
+framed_by oracles are = record { shorter = shorter_by oracles are; stays = stays_by oracles are }
 
 -- ---- whatever is asked for, the replies may be sent
 
-pub begins_fit_by : (meanings : Meanings) → AreMeanings meanings → (moments : List Moment) (desk : Desk) → IsOpen desk
-    → IsFitTurn imap_protocol meanings (record { parts = reply greeting; after = start_of desk.store moments; rest = [] })
-begins_fit_by meanings are moments desk opens = record { fit = (refl, tt); sound = opens.stored }
+pub begins_fit_by : (oracles : Oracles) → AreOracles oracles → (moments : List Moment) (desk : Desk) → IsOpen desk
+    → IsFitTurn imap_protocol oracles (record { parts = reply greeting; after = start_of desk.store moments; rest = [] })
+begins_fit_by oracles are moments desk opens = record { fit = (refl, tt); sound = opens.stored }
 
-pub fits_by : (meanings : Meanings) → AreMeanings meanings → (machine : Machine) (octets : List ℕ) (turn : Turn Machine (Act ReplyPart)) → AreStored machine.store.kept.messages
-    → next_turn meanings machine octets ≡ Some turn → IsFitTurn imap_protocol meanings turn
-fits_by meanings are machine octets turn sound is =
-    let of = comes meanings machine octets turn is in
-    let at = at_due (is_enabled (mode_of machine.state)) machine.seen octets of.due (first_of meanings are machine octets turn of) in
+pub fits_by : (oracles : Oracles) → AreOracles oracles → (machine : Machine) (octets : List ℕ) (turn : Turn Machine (Act ReplyPart)) → AreStored machine.store.kept.messages
+    → next_turn oracles machine octets ≡ Some turn → IsFitTurn imap_protocol oracles turn
+fits_by oracles are machine octets turn sound is =
+    let of = comes oracles machine octets turn is in
+    let at = at_due (is_enabled (mode_of machine.state)) machine.seen octets of.due (first_of oracles are machine octets turn of) in
     let dated = date_at_date machine.moments in
-    let right = due_right meanings are (date_at machine.moments) dated machine.state machine.store sound (is_enabled (mode_of machine.state)) (machine.seen ++ take of.due.used octets) of.due.event at.is_due in
-    rw of.turn_is (record { fit = fit_of meanings _ right; sound = stored_of meanings machine.store.kept _ right sound })
+    let right = due_right oracles are (date_at machine.moments) dated machine.state machine.store sound (is_enabled (mode_of machine.state)) (machine.seen ++ take of.due.used octets) of.due.event at.is_due in
+    rw of.turn_is (record { fit = fit_of oracles _ right; sound = stored_of oracles machine.store.kept _ right sound })

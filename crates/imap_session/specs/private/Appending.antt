@@ -8,24 +8,24 @@ use Rattle.mail_store.specs.Changing.{append_refusal}
 use Rattle.mail_store.specs.StoreState.{StoreState}
 use Rattle.mail_store.specs.declared.changing.StoreFault.{StoreFault}
 use Rattle.surrogate_cache.specs.Served.{Mode, is_enabled}
-use Rattle.session_core.specs.Meanings.{Meanings}
+use Rattle.session_core.specs.Oracles.{Oracles}
 use Rattle.session_core.specs.Moments.{Moment, IsTold}
 use Rattle.imap_grammar.specs.declared.command.Command.{Command}
 use Rattle.imap_grammar.specs.declared.command.Command.TheVariants as command
 use Rattle.imap_session.specs.Machine.{State, Step, append_in, appended, completed, done, exists_lines, folder_named}
 use Rattle.imap_session.specs.Replies.{ReplyPart}
-use Rattle.imap_session.specs.declared.appending.Letter.{Letter}
+use Rattle.imap_session.specs.declared.appending.AppendRequest.{AppendRequest}
 use Rattle.imap_session.specs.declared.appending.Put.{Put}
 use Rattle.imap_session.specs.declared.appending.Put.TheVariants as put
 
 -- the command that says it
-abbrev pub command_of : Letter → Command
-command_of letter = command.Append letter.written.now letter.flags letter.date.now letter.in_utf8 letter.octets.now
+abbrev pub command_of : AppendRequest → Command
+command_of request = command.Append request.written.now request.flags request.date.now request.in_utf8 request.octets.now
 
 -- its step, with this date
-abbrev pub letter_step : Meanings → (tag : List ℕ) → State → (opened : Option ℕ) → Mode → (account : ℕ) → StoreState → Letter → (date : List ℕ) → Step
-letter_step meanings tag state opened mode account store letter date =
-    append_in meanings tag state opened mode store letter.flags date letter.in_utf8 letter.octets.now (folder_named meanings mode store account letter.written.now)
+abbrev pub request_step : Oracles → (tag : List ℕ) → State → (opened : Option ℕ) → Mode → (account : ℕ) → StoreState → AppendRequest → (date : List ℕ) → Step
+request_step oracles tag state opened mode account store request date =
+    append_in oracles tag state opened mode store request.flags date request.in_utf8 request.octets.now (folder_named oracles mode store account request.written.now)
 
 -- where octets are put, or why they aren't
 abbrev pub put_unless : (folder : ℕ) → Option StoreFault → Put
@@ -35,13 +35,13 @@ put_unless folder (Some other) = put.TooLarge
 abbrev pub put_octets : (has_tree : Bool) → StoreState → (folder : ℕ) → (octets : List ℕ) → Put
 put_octets has_tree store folder octets = if has_tree then put_unless folder (append_refusal store octets) else put.NoMessage
 
-abbrev pub put_named : Meanings → Mode → StoreState → (in_utf8 : Bool) → (octets : List ℕ) → Option ℕ → Put
-put_named meanings mode store in_utf8 octets None = put.NoFolder
-put_named meanings mode store in_utf8 octets (Some folder) =
-    if in_utf8 && not (is_enabled mode) then put.NotEnabled else put_octets (meanings.has_tree (completed octets)) store folder (completed octets)
+abbrev pub put_named : Oracles → Mode → StoreState → (in_utf8 : Bool) → (octets : List ℕ) → Option ℕ → Put
+put_named oracles mode store in_utf8 octets None = put.NoFolder
+put_named oracles mode store in_utf8 octets (Some folder) =
+    if in_utf8 && not (is_enabled mode) then put.NotEnabled else put_octets (oracles.has_tree (completed octets)) store folder (completed octets)
 
-abbrev pub put_of : Meanings → Mode → (account : ℕ) → StoreState → Letter → Put
-put_of meanings mode account store letter = put_named meanings mode store letter.in_utf8 letter.octets.now (folder_named meanings mode store account letter.written.now)
+abbrev pub put_of : Oracles → Mode → (account : ℕ) → StoreState → AppendRequest → Put
+put_of oracles mode account store request = put_named oracles mode store request.in_utf8 request.octets.now (folder_named oracles mode store account request.written.now)
 
 -- the change, if there is one
 abbrev pub put_changes : (flags : ℕ) → (date octets : List ℕ) → Put → List (List Record)
@@ -61,17 +61,17 @@ words_of_put put.NotEnabled = codes "NO not enabled"
 words_of_put put.NoMessage = codes "NO not a message"
 words_of_put put.TooLarge = codes "NO too large"
 
--- what the store keeps behind a letter with these flags, and what it kept before: the message that was put is the last one, or all is as it was
-abbrev pub IsBehind : (old new : Kept) → (flags : ℕ) → Put → Type 0
-IsBehind old new flags (put.In folder) =
+-- what the store keeps behind a request with these flags, and what it kept before: the message that was put is the last one, or all is as it was
+abbrev pub IsAfter : (old new : Kept) → (flags : ℕ) → Put → Type 0
+IsAfter old new flags (put.In folder) =
     (date : List ℕ) × (octets : List ℕ) × (new ≡ after_record old (appended folder flags date octets)) × (length old.messages < THINGS_MAX)
-IsBehind old new flags other = new ≡ old
+IsAfter old new flags other = new ≡ old
 
--- these were the messages of the opened folder before the letter
-pub record WereListed (kept : Kept) (opened flags : ℕ) (came : Put) (messages : List Listed) : Type 0 where
+-- these were the messages of the opened folder before the request
+pub record WereListed (kept : Kept) (opened flags : ℕ) (advance : Put) (messages : List Listed) : Type 0 where
   pub old : Kept
   pub were : messages ≡ listed old opened
-  pub behind : IsBehind old kept flags came
+  pub following : IsAfter old kept flags advance
 
 -- the date is the given one, or that of a moment that the clock told, which may tell a fixed reading
 abbrev pub IsDateFrom : (reading : Option ℕ) → (given : Option (List ℕ)) → (date : List ℕ) → Type 0

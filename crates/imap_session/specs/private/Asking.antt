@@ -7,7 +7,7 @@ use Rattle.mime_tree.specs.declared.sections.Part.TheVariants as place
 use Rattle.kept_mail.specs.declared.kept.Listed.{Listed}
 use Rattle.mail_store.specs.StoreState.{StoreState}
 use Rattle.surrogate_cache.specs.Served.{Mode}
-use Rattle.session_core.specs.Meanings.{Meanings}
+use Rattle.session_core.specs.Oracles.{Oracles}
 use Rattle.imap_grammar.specs.declared.command.FetchItem.{FetchItem}
 use Rattle.imap_grammar.specs.declared.command.SectionPart.{SectionPart}
 use Rattle.imap_views.specs.Chosen.{AreChosen}
@@ -23,9 +23,9 @@ use Rattle.imap_session.specs.declared.sections.Wanted.TheVariants as want
 use Rattle.imap_session.specs.private.Shown.{asks_section, shows}
 
 -- an octet where something stands before what comes next
-abbrev pub apart_octets : (octet : ℕ) → (apart : Bool) → List ℕ
-apart_octets octet false = []
-apart_octets octet true = octet ∷ []
+abbrev pub separator_octets : (octet : ℕ) → (is_separated : Bool) → List ℕ
+separator_octets octet false = []
+separator_octets octet true = octet ∷ []
 
 -- the header of a literal
 abbrev pub head_octets : (asked : List ℕ) → (size : ℕ) → List ℕ
@@ -47,19 +47,19 @@ wanted_place (want.Octets what) = what
 wanted_place (want.Fields chosen) = place.Header
 
 -- what is told of it, where the section stands there or nowhere
-abbrev pub wanted_parts : Meanings → Mode → StoreState → Listed → (asked : List ℕ) → Option (ℕ × ℕ) → Wanted → Option Span → List ReplyPart
-wanted_parts meanings mode store one asked partial (want.Octets what) span = shown_parts mode store one asked partial span
-wanted_parts meanings mode store one asked partial (want.Fields chosen) span = fields_parts meanings mode store one asked partial (fields chosen.names.now chosen.negated) span
+abbrev pub wanted_parts : Oracles → Mode → StoreState → Listed → (asked : List ℕ) → Option (ℕ × ℕ) → Wanted → Option Span → List ReplyPart
+wanted_parts oracles mode store one asked partial (want.Octets what) span = shown_parts mode store one asked partial span
+wanted_parts oracles mode store one asked partial (want.Fields chosen) span = fields_parts oracles mode store one asked partial (fields chosen.names.now chosen.negated) span
 
-abbrev pub asked_parts : Meanings → Mode → StoreState → Listed → Asked → List ReplyPart
-asked_parts meanings mode store one asked =
-    wanted_parts meanings mode store one (name_of asked) asked.partial asked.wanted (section_at meanings mode store one asked.path.now (wanted_place asked.wanted))
+abbrev pub asked_parts : Oracles → Mode → StoreState → Listed → Asked → List ReplyPart
+asked_parts oracles mode store one asked =
+    wanted_parts oracles mode store one (name_of asked) asked.partial asked.wanted (section_at oracles mode store one asked.path.now (wanted_place asked.wanted))
 
 -- what the words of a section want
 pub record IsWanted (what : SectionPart) (wanted : Wanted) : Type 0 where
   pub at : place_of what ≡ wanted_place wanted
-  pub parts : (meanings : Meanings) (mode : Mode) (store : StoreState) (one : Listed) (asked : List ℕ) (partial : Option (ℕ × ℕ)) (span : Option Span)
-      → found_parts meanings mode store one asked partial what span ≡ wanted_parts meanings mode store one asked partial wanted span
+  pub parts : (oracles : Oracles) (mode : Mode) (store : StoreState) (one : Listed) (asked : List ℕ) (partial : Option (ℕ × ℕ)) (span : Option Span)
+      → found_parts oracles mode store one asked partial what span ≡ wanted_parts oracles mode store one asked partial wanted span
 
 -- octets of the whole message, under this name
 pub record IsOfMessage (word : List ℕ) (what : Part) (asked : Asked) : Type 0 where
@@ -79,7 +79,7 @@ abbrev pub IsAsked : FetchItem → Option Asked → Type 0
 IsAsked item None = asks_section item ≡ false
 IsAsked item (Some asked) =
     ((enabled : Bool) → shows enabled item ≡ false → AsksStored enabled asked)
-    × ((meanings : Meanings) (mode : Mode) (store : StoreState) (one : Listed) → item_parts meanings mode store one item ≡ asked_parts meanings mode store one asked)
+    × ((oracles : Oracles) (mode : Mode) (store : StoreState) (one : Listed) → item_parts oracles mode store one item ≡ asked_parts oracles mode store one asked)
 
 -- ---- fields
 

@@ -25,6 +25,6 @@ end_octets false one = codes ")\r\n"
 end_octets true one = codes " " ++ (flags_text one.flags ++ codes ")\r\n")
 
 -- a space where something stands before what comes next
-abbrev pub space_octets : (apart : Bool) → List ℕ
+abbrev pub space_octets : (is_separated : Bool) → List ℕ
 space_octets false = []
 space_octets true = codes " "

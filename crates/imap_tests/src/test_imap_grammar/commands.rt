@@ -1,5 +1,5 @@
 //! Whole commands, in single octets and in pieces. A row has the octets, and what is told of them.
-use crate::test_imap_grammar::telling::{tells, tells_always};
+use crate::test_imap_grammar::telling::{observed, tells_always};
 use std::test::Fail;
 
 type Row = (&'static [u8], &'static [u8]);
@@ -201,12 +201,12 @@ fn data_of_append(rt: HostRuntime) -> Result<(), Fail> {
 fn strings_where_utf8_is_enabled(rt: HostRuntime) -> Result<(), Fail> {
     let alloc = rt.alloc();
     let command = "a SELECT \"é あ\"\r\n".as_bytes();
-    assert!(rt; tells(alloc, true, command, "19 a Select <é あ>\n".as_bytes())?);
-    assert!(rt; tells(alloc, false, command, b"19 bad 10 <a>\n")?);
+    assert!(rt; observed(alloc, true, command, "19 a Select <é あ>\n".as_bytes())?);
+    assert!(rt; observed(alloc, false, command, b"19 bad 10 <a>\n")?);
     assert!(rt; tells_always(alloc, "a SELECT é\r\n".as_bytes(), b"13 bad 9 <a>\n")?);
     let cut_short = b"a SELECT \"\xe3\x81\"\r\n";
-    assert!(rt; tells(alloc, true, cut_short, b"15 bad 12 <a>\n")?);
-    assert!(rt; tells(alloc, false, cut_short, b"15 bad 10 <a>\n")?);
+    assert!(rt; observed(alloc, true, cut_short, b"15 bad 12 <a>\n")?);
+    assert!(rt; observed(alloc, false, cut_short, b"15 bad 10 <a>\n")?);
     Ok(())
 }
 
@@ -254,7 +254,7 @@ fn bad_octets_of_sets_and_items(rt: HostRuntime) -> Result<(), Fail> {
 }
 
 #[test]
-fn bad_octets_behind_a_literal(rt: HostRuntime) -> Result<(), Fail> {
+fn bad_octets_after_a_literal(rt: HostRuntime) -> Result<(), Fail> {
     let rows: [Row; 4] = [
         (b"a LOGIN {1}\r\nxy\r\n", b"13 go\n17 bad 14 <a>\n"),
         (

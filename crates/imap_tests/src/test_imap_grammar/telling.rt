@@ -87,7 +87,7 @@ pub fn told_cut(alloc: Global, utf8: bool, front: &[u8], back: &[u8]) -> Result<
 }
 
 /// Whether these are the events of the octets, whole, octet by octet, and wherever they are cut in two.
-pub fn tells(alloc: Global, utf8: bool, octets: &[u8], wanted: &[u8]) -> Result<bool, Memory> {
+pub fn observed(alloc: Global, utf8: bool, octets: &[u8], wanted: &[u8]) -> Result<bool, Memory> {
     if told_singly(alloc, utf8, octets)?.as_slice() != wanted {
         return Ok(false);
     }
@@ -102,8 +102,8 @@ pub fn tells(alloc: Global, utf8: bool, octets: &[u8], wanted: &[u8]) -> Result<
 
 /// The same of a session that has enabled UTF-8 and of another.
 pub fn tells_always(alloc: Global, octets: &[u8], wanted: &[u8]) -> Result<bool, Memory> {
-    if !tells(alloc, false, octets, wanted)? {
+    if !observed(alloc, false, octets, wanted)? {
         return Ok(false);
     }
-    tells(alloc, true, octets, wanted)
+    observed(alloc, true, octets, wanted)
 }

@@ -22,7 +22,7 @@ fn stops(text: &[u8], stop: Stop) -> bool {
 }
 
 // Whether a date whose octets behind a front are these two is refused at the first of them.
-fn stops_behind(alloc: Global, front: &[u8], octet: u8) -> Result<bool, Fail> {
+fn stops_after(alloc: Global, front: &[u8], octet: u8) -> Result<bool, Fail> {
     let mut text = Octets::from_slice(alloc, front)?;
     text.push(octet)?;
     text.push(b'x')?;
@@ -117,8 +117,8 @@ fn an_octet_of_no_date_is_told_where_it_comes(rt: HostRuntime) -> Result<(), Fai
     let alloc = rt.alloc();
     for end in 0..WHOLE.len() {
         let (front, _) = WHOLE.split_at(end);
-        assert!(rt; stops_behind(alloc, front, b'!')?);
-        assert!(rt; stops_behind(alloc, front, 0xff)?);
+        assert!(rt; stops_after(alloc, front, b'!')?);
+        assert!(rt; stops_after(alloc, front, 0xff)?);
     }
     Ok(())
 }

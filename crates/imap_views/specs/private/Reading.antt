@@ -14,7 +14,7 @@ use Rattle.imap_views.specs.declared.structures.Seeing.{Seeing}
 use Rattle.imap_views.specs.Envelopes.{AreAddressesOf, AreAddressesOr}
 use Rattle.imap_views.specs.Fields.{HasSomeBlock}
 use Rattle.imap_views.specs.Parts.{PartValue}
-use Rattle.imap_views.specs.Structures.{Seen, behind_spaces, header_at}
+use Rattle.imap_views.specs.Structures.{Seen, after_spaces, header_at}
 
 -- the header was read: its block is that of its octets
 abbrev pub IsRead : Header → Type 0
@@ -75,8 +75,8 @@ abbrev pub HoldsNames : List (List ℕ) → (List ℕ → Bool) → Type 0
 HoldsNames asked has = (name : List ℕ) → has name ≡ list_any (λ one. bytes_eq name (str_to_ascii_lowercase one)) asked
 
 -- new is old with a space behind it, and then a text of which this holds
-abbrev pub AddsBehindSpace : (List ℕ → Type 0) → List ℕ → List ℕ → Type 0
-AddsBehindSpace Holds old new = (text : List ℕ) × Holds text × (new ≡ old ++ 32 ∷ text)
+abbrev pub AddsAfterSpace : (List ℕ → Type 0) → List ℕ → List ℕ → Type 0
+AddsAfterSpace Holds old new = (text : List ℕ) × Holds text × (new ≡ old ++ 32 ∷ text)
 
 -- who wrote a message, who sent it and who is answered, in their order, each behind a space
 pub record HasSenders (raws : List (List ℕ)) (text : List ℕ) : Type 0 where
@@ -86,7 +86,7 @@ pub record HasSenders (raws : List (List ℕ)) (text : List ℕ) : Type 0 where
   pub is_sender : AreAddressesOr from (codes "Sender") raws sender
   pub reply_to : List ℕ
   pub is_reply_to : AreAddressesOr from (codes "Reply-To") raws reply_to
-  pub text_is : text ≡ behind_spaces (from ∷ sender ∷ reply_to ∷ [])
+  pub text_is : text ≡ after_spaces (from ∷ sender ∷ reply_to ∷ [])
 
 -- the addresses of an envelope, in their order, each behind a space
 pub record HasAllAddresses (raws : List (List ℕ)) (text : List ℕ) : Type 0 where
@@ -102,4 +102,4 @@ pub record HasAllAddresses (raws : List (List ℕ)) (text : List ℕ) : Type 0 w
   pub is_cc : AreAddressesOf (codes "Cc") raws cc
   pub bcc : List ℕ
   pub is_bcc : AreAddressesOf (codes "Bcc") raws bcc
-  pub text_is : text ≡ behind_spaces (from ∷ sender ∷ reply_to ∷ to ∷ cc ∷ bcc ∷ [])
+  pub text_is : text ≡ after_spaces (from ∷ sender ∷ reply_to ∷ to ∷ cc ∷ bcc ∷ [])

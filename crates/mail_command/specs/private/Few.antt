@@ -1,10 +1,10 @@
 -- How many messages a command may make.
 use Rattle.std.specs.Prelude.{◌≤◌}
-use Rattle.mail_command.specs.declared.apart.Apart.{Apart}
-use Rattle.mail_command.specs.declared.apart.Apart.TheVariants as apart
+use Rattle.mail_command.specs.declared.standalone.Standalone.{Standalone}
+use Rattle.mail_command.specs.declared.standalone.Standalone.TheVariants as standalone
 
 -- as many as its words may say
-abbrev pub MakesFew : Apart → Type 0
-MakesFew (apart.Message one) = Unit {0}
-MakesFew (apart.Gen number) = number ≤ 100000
-MakesFew apart.Help = Unit {0}
+abbrev pub MakesFew : Standalone → Type 0
+MakesFew (standalone.Message one) = Unit {0}
+MakesFew (standalone.Gen number) = number ≤ 100000
+MakesFew standalone.Help = Unit {0}

@@ -1,7 +1,7 @@
 -- Words of the private calls that go over a journal.
 use Rattle.std.specs.Prelude.{◌≡◌, ◌⊎◌, ℕ, ◌+◌, ◌≤◌, List, [], ◌++◌, take, drop, Option, Some, None, IfSome, IsTrue, ◌==◌, if◌then◌else◌}
 use Rattle.std.specs.List.{flat_map}
-use Rattle.mail_wire.specs.KeeperTelling.{KeeperTelling}
+use Rattle.mail_wire.specs.KeeperState.{KeeperState}
 use Rattle.mail_store.specs.declared.opening.OpenFault.{OpenFault}
 use Rattle.mail_store.specs.declared.opening.OpenFault.TheVariants as faults
 use Rattle.journal_records.specs.declared.records.Record.{Record}
@@ -14,7 +14,7 @@ use Rattle.mail_store.specs.StoreState.{StoreState, with_records}
 use Rattle.mail_store.specs.private.Adding.{NotAdded}
 
 -- the octets are as before, nothing was appended, the count of faults isn't less, and a keeper that never fails goes on
-pub record KeeperStays (before now : KeeperTelling) : Type 0 where
+pub record KeeperStays (before now : KeeperState) : Type 0 where
   pub same : now.octets ≡ before.octets
   pub unappended : now.appends ≡ before.appends
   pub later : before.faults ≤ now.faults
@@ -44,7 +44,7 @@ pub record IsReadTo (told : Option (List ℕ)) (first store : StoreState) : Type
   pub text : IfSome told (λ octets. drop first.end octets ≡ flat_map record_text more ++ drop store.end octets)
 
 -- what a loop over a journal keeps
-pub record IsGoing (before now : KeeperTelling) (had : ℕ) (first store : StoreState) : Type 0 where
+pub record IsGoing (before now : KeeperState) (had : ℕ) (first store : StoreState) : Type 0 where
   pub so_far : IsReadTo before.octets first store
   pub stays : KeeperStays before now
   pub within : store.end ≤ had

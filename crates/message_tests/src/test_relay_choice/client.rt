@@ -1,14 +1,14 @@
 //! Whole runs over the octets of a server, which come one by one: what is said, and what comes of the recipients.
 ghost use Rattle.std.specs.Prelude.{IfOk, IfSome};
 ghost use Rattle.std.specs.List.{All};
-ghost use Rattle.relay_choice.specs.Letters.{HasTextDomain, IsAddressed};
+ghost use Rattle.relay_choice.specs.MailObjects.{HasTextDomain, IsAddressed};
 
 use address_grammar::Address;
 use mail_wire::{Items, Octets};
 use mime_tree::read_tree;
 use relay_choice::{
-    Act, Acts, Client, Letter, Letters, Outcome, ReplyRead, ReplyReader, Taken, Turn, letter_of,
-    push_data, read_reply,
+    Act, Acts, Client, MailObject, MailObjects, Outcome, ReplyRead, ReplyReader, Taken, Turn,
+    mail_object_of, push_data, read_reply,
 };
 use std::alloc::Global;
 use std::test::Fail;
@@ -52,8 +52,8 @@ fn path_of(alloc: Global, parts: Option<Parts>) -> Result<Option<Address>, Fail>
     }
 }
 
-// The letter of a message; none of octets that are no message.
-fn queued_letter(alloc: Global, queued: &Queued) -> Result<Option<Letter>, Fail>
+// The mail object of a message; none of octets that are no message.
+fn queued_mail_object(alloc: Global, queued: &Queued) -> Result<Option<MailObject>, Fail>
     ensures { IfOk result (λ found. IfSome found IsAddressed) }
 {
     let Ok(tree) = read_tree(alloc, queued.octets) else {
@@ -61,20 +61,20 @@ fn queued_letter(alloc: Global, queued: &Queued) -> Result<Option<Letter>, Fail>
     };
     let path = path_of(alloc, queued.path)?;
     let recipients = addresses_of(alloc, queued.recipients)?;
-    Ok(Some(letter_of(alloc, path, recipients, queued.octets, &tree)?))
+    Ok(Some(mail_object_of(alloc, path, recipients, queued.octets, &tree)?))
 }
 
-fn queued_letters(alloc: Global, queue: &[Queued]) -> Result<Option<Letters>, Fail>
+fn queued_mail_objects(alloc: Global, queue: &[Queued]) -> Result<Option<MailObjects>, Fail>
     ensures { IfOk result (λ found. IfSome found (All IsAddressed)) }
 {
-    let mut letters = Items::new(alloc);
+    let mut mail_objects = Items::new(alloc);
     for queued in queue {
-        match queued_letter(alloc, queued)? {
-            Some(letter) => letters.push(letter)?,
+        match queued_mail_object(alloc, queued)? {
+            Some(mail_object) => mail_objects.push(mail_object)?,
             None => return Ok(None),
         }
     }
-    Ok(Some(letters))
+    Ok(Some(mail_objects))
 }
 
 fn put_outcome(made: &mut Octets, outcome: Outcome) -> Result<(), Fail> {
@@ -114,12 +114,17 @@ fn put_acts(made: &mut Octets, acts: &Acts, queue: &[Queued]) -> Result<(), Fail
 }
 
 // What a run over the server's octets gives, and `!` and the octets that stop it.
-fn run(alloc: Global, letters: Letters, queue: &[Queued], peer: &[u8]) -> Result<Octets, Fail>
-    requires { All IsAddressed letters }
+fn run(
+    alloc: Global,
+    mail_objects: MailObjects,
+    queue: &[Queued],
+    peer: &[u8],
+) -> Result<Octets, Fail>
+    requires { All IsAddressed mail_objects }
 {
     let mut made = Octets::new(alloc);
     let name = Octets::from_slice(alloc, b"example.org")?;
-    let mut client = Client::new(alloc, name, letters);
+    let mut client = Client::new(alloc, name, mail_objects);
     let mut reader = ReplyReader::new(alloc);
     for octet in peer.chunks(1) {
         match reader.take(octet)? {
@@ -154,10 +159,10 @@ fn run(alloc: Global, letters: Letters, queue: &[Queued], peer: &[u8]) -> Result
 }
 
 fn gives(alloc: Global, queue: &[Queued], peer: &[u8], wanted: &str) -> Result<bool, Fail> {
-    let Some(letters) = queued_letters(alloc, queue)? else {
+    let Some(mail_objects) = queued_mail_objects(alloc, queue)? else {
         return Ok(false);
     };
-    let made = run(alloc, letters, queue, peer)?;
+    let made = run(alloc, mail_objects, queue, peer)?;
     Ok(made.as_slice() == wanted.as_bytes())
 }
 
@@ -254,7 +259,7 @@ fn nothing_is_said_after_a_reply_that_stops_the_run(rt: HostRuntime) -> Result<(
 }
 
 #[test]
-fn letters_follow_each_other(rt: HostRuntime) -> Result<(), Fail> {
+fn mail_objects_follow_each_other(rt: HostRuntime) -> Result<(), Fail> {
     let alloc = rt.alloc();
     let peer =
         b"220 x\r\n250-x\r\n250 8BITMIME\r\n250 ok\r\n250 ok\r\n250 ok\r\n354 go\r\n250 ok\r\n";

@@ -112,10 +112,14 @@ fn is_decided_at_each_cut(alloc: Global, octets: &[u8], wanted: usize) -> Result
         let Taken::Begun(reader) = ReplyReader::new(alloc).take(first)? else {
             return Ok(false);
         };
-        let Taken::Decided { octets: came, used } = reader.take(second)? else {
+        let Taken::Decided {
+            octets: advance,
+            used,
+        } = reader.take(second)?
+        else {
             return Ok(false);
         };
-        if used != wanted - cut || came.as_slice() != &octets[..wanted] {
+        if used != wanted - cut || advance.as_slice() != &octets[..wanted] {
             return Ok(false);
         }
     }

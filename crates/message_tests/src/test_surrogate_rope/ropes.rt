@@ -275,13 +275,13 @@ fn has_runs(rope: &Rope, msg: &[u8], made: &[u8], lens: &[usize]) -> bool
     let mut at = 0;
     for len in lens {
         let run = rope.run_at(msg, at);
-        let Some(behind) = rest.strip_prefix(run) else {
+        let Some(following) = rest.strip_prefix(run) else {
             return false;
         };
         if run.len() != *len {
             return false;
         }
-        rest = behind;
+        rest = following;
         at += run.len();
     }
     rest.is_empty() && rope.run_at(msg, at).is_empty()

@@ -4,14 +4,14 @@ use Rattle.std.specs.List.{flat_map}
 use Rattle.mail_wire.specs.Lines.{crlf}
 
 -- a piece on a line of its own, behind what is put last in the line before
-abbrev pub line_behind : List ℕ → List ℕ → List ℕ
-line_behind lead piece = lead ++ (crlf ++ 32 ∷ piece)
+abbrev pub line_after : List ℕ → List ℕ → List ℕ
+line_after lead piece = lead ++ (crlf ++ 32 ∷ piece)
 
-abbrev pub lines_behind : List ℕ → List (List ℕ) → List ℕ
-lines_behind lead pieces = flat_map (line_behind lead) pieces
+abbrev pub lines_after : List ℕ → List (List ℕ) → List ℕ
+lines_after lead pieces = flat_map (line_after lead) pieces
 
 -- new is old and lines of pieces of which this holds, each behind such an end of the line before
-pub record AddsBehind (lead : List ℕ) (P : List (List ℕ) → Type 0) (old new : List ℕ) : Type 0 where
+pub record AddsAfter (lead : List ℕ) (P : List (List ℕ) → Type 0) (old new : List ℕ) : Type 0 where
   pub pieces : List (List ℕ)
   pub holds : P pieces
-  pub added : new ≡ old ++ lines_behind lead pieces
+  pub added : new ≡ old ++ lines_after lead pieces

@@ -19,17 +19,17 @@ at_line_end scan =
     else record scan { lines = scan.lines - 1 }
 
 -- behind an octet
-abbrev pub behind_octet : Scan → ℕ → Scan
-behind_octet scan x =
+abbrev pub following_octet : Scan → ℕ → Scan
+following_octet scan x =
     let after = (if is_start (next_place scan.place x) then at_line_end scan else scan) in
     record after { place = next_place scan.place x; is_second = is_start scan.place }
 
 -- behind the octets of a piece that are shown
-abbrev pub all_behind : Scan → List ℕ → Scan
-all_behind scan [] = scan
-all_behind scan (x ∷ rest) = if is_ended scan then scan else all_behind (behind_octet scan x) rest
+abbrev pub all_after : Scan → List ℕ → Scan
+all_after scan [] = scan
+all_after scan (x ∷ rest) = if is_ended scan then scan else all_after (following_octet scan x) rest
 
 -- how many octets of a piece are shown
 abbrev pub count_from : Scan → List ℕ → ℕ
 count_from scan [] = 0
-count_from scan (x ∷ rest) = if is_ended scan then 0 else suc (count_from (behind_octet scan x) rest)
+count_from scan (x ∷ rest) = if is_ended scan then 0 else suc (count_from (following_octet scan x) rest)

@@ -3,19 +3,19 @@ use Rattle.std.specs.Prelude.{◌≡◌, ℕ, ◌+◌, [], ◌∷◌, slice_get,
 use Rattle.relay_choice.specs.declared.plans.Offer.{Offer}
 use Rattle.relay_choice.specs.declared.plans.Plan.{Plan}
 use Rattle.relay_choice.specs.declared.plans.Plan.TheVariants as plan
-use Rattle.relay_choice.specs.declared.letters.Recipient.{Recipient}
-use Rattle.relay_choice.specs.declared.letters.Letter.{Letter}
-use Rattle.relay_choice.specs.Relay.{sent_behind}
+use Rattle.relay_choice.specs.declared.mail_objects.Recipient.{Recipient}
+use Rattle.relay_choice.specs.declared.mail_objects.MailObject.{MailObject}
+use Rattle.relay_choice.specs.Relay.{sent_after}
 
--- the first recipient from a place on to whom the letter is sent has this place, and what stands behind it
-pub record AsksFor (offer : Offer) (letter : Letter) (from place : ℕ) : Type 0 where
+-- the first recipient from a place on to whom the mail object is sent has this place, and what stands behind it
+pub record AsksFor (offer : Offer) (mail_object : MailObject) (from place : ℕ) : Type 0 where
   pub recipient : Recipient
-  pub there : slice_get letter.recipients place ≡ Some recipient
-  pub first : sent_behind offer letter from ≡ recipient ∷ sent_behind offer letter (place + 1)
+  pub there : slice_get mail_object.recipients place ≡ Some recipient
+  pub first : sent_after offer mail_object from ≡ recipient ∷ sent_after offer mail_object (place + 1)
 
-abbrev pub AsksNext : Offer → Letter → (from : ℕ) → Option ℕ → Type 0
-AsksNext offer letter from None = sent_behind offer letter from ≡ []
-AsksNext offer letter from (Some place) = AsksFor offer letter from place
+abbrev pub AsksNext : Offer → MailObject → (from : ℕ) → Option ℕ → Type 0
+AsksNext offer mail_object from None = sent_after offer mail_object from ≡ []
+AsksNext offer mail_object from (Some place) = AsksFor offer mail_object from place
 
 -- the detail of a report
 abbrev pub detail_of : Plan → ℕ

@@ -60,4 +60,4 @@ pub record EndsReplyLine (line : List ℕ) (octet : ℕ) : Type 0 where
   pub ends : octet ≡ 10
   pub front : List ℕ
   pub line_is : line ≡ front ++ 13 ∷ []
-  pub behind_code : 3 ≤ length front
+  pub after_code : 3 ≤ length front

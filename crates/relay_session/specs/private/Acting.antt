@@ -14,15 +14,15 @@ use Rattle.mail_wire.specs.declared.outside.Fault.{Fault}
 use Rattle.mail_wire.specs.declared.outside.Fault.TheVariants as fault
 use Rattle.relay_choice.specs.Relay.{outcomes_in, sent_count}
 use Rattle.relay_choice.specs.Settling.{IsFitOutcome}
-use Rattle.relay_choice.specs.declared.letters.Act.{Act as ClientAct}
-use Rattle.relay_choice.specs.declared.letters.Act.TheVariants as act
-use Rattle.relay_choice.specs.declared.letters.Outcome.{Outcome}
+use Rattle.relay_choice.specs.declared.mail_objects.Act.{Act as ClientAct}
+use Rattle.relay_choice.specs.declared.mail_objects.Act.TheVariants as act
+use Rattle.relay_choice.specs.declared.mail_objects.Outcome.{Outcome}
 use Rattle.session_core.specs.Acts.{Act, changes, gives}
 use Rattle.session_core.specs.Around.{Around}
 use Rattle.session_core.specs.Doing.{Does, Makes, Replies}
 use Rattle.session_core.specs.Moments.{IsTold, Moment}
 use Rattle.relay_session.specs.Carrying.{CarriesActs, IsSettled}
-use Rattle.relay_session.specs.Letters.{entry_octets, messages_of}
+use Rattle.relay_session.specs.MailObjects.{entry_octets, messages_of}
 use Rattle.relay_session.specs.Reporting.{Reports}
 use Rattle.relay_session.specs.declared.ends.Tally.{Tally}
 use Rattle.relay_session.specs.declared.reporting.Destination.{Destination}
@@ -77,7 +77,7 @@ MakesReport path_of before now queued outcomes (Err fault.Memory) = Makes before
 abbrev pub DoesActs : (before now : Around) → Option Fault → List (Act (List ℕ)) → Type 0
 DoesActs before now met acts = Does (λ octets. octets) before now met acts
 
--- how many of these outcomes are that of a recipient to whom the letter was sent
+-- how many of these outcomes are that of a recipient to whom the mail object was sent
 abbrev pub sent_among : List Outcome → ℕ
 sent_among outcomes = sent_count (act.Settle 0 outcomes ∷ [])
 

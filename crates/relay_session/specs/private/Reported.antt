@@ -6,7 +6,7 @@ use Rattle.kept_mail.specs.declared.delivery.Delivery.{Delivery}
 use Rattle.mail_store.specs.declared.queue.Queued.{Queued}
 use Rattle.session_core.specs.Moments.{Moment}
 use Rattle.utf8_reports.specs.declared.failure.FailedRecipient.{FailedRecipient}
-use Rattle.relay_session.specs.Letters.{entry_octets}
+use Rattle.relay_session.specs.MailObjects.{entry_octets}
 use Rattle.relay_session.specs.Reporting.{IsReportAt, delivery_to, destination_of}
 
 -- the report of these failures at a moment, as a delivery to where it goes

@@ -10,18 +10,18 @@ use Rattle.mail_wire.specs.Transcript.{given_of, taken_of}
 use Rattle.mail_wire.specs.declared.outside.Entry.{Entry}
 use Rattle.mail_wire.specs.declared.outside.Fault.{Fault}
 use Rattle.relay_choice.specs.Pieces.{HasBegunReply}
-use Rattle.relay_choice.specs.Relay.{behind_acts, left_count, sent_count, sent_octets, waits}
+use Rattle.relay_choice.specs.Relay.{after_acts, left_count, sent_count, sent_octets, waits}
 use Rattle.relay_choice.specs.Standing.{replies_left, rest_of, standing_of}
 use Rattle.relay_choice.specs.declared.replies.TheConstants.{REPLY_LINES, REPLY_LINE_MAX}
 use Rattle.relay_choice.specs.declared.replies.Reply.{Reply}
 use Rattle.session_core.specs.Around.{Around}
-use Rattle.relay_session.specs.Letters.{Mailbag, messages_of}
+use Rattle.relay_session.specs.MailObjects.{Mailbag, messages_of}
 use Rattle.relay_session.specs.Relaying.{DoesRun, RelaysTo, SpeaksInTurn, run_of}
 use Rattle.relay_session.specs.Streams.{AreReplies}
 use Rattle.relay_session.specs.declared.ends.LeftCause.TheVariants as cause
 use Rattle.relay_session.specs.declared.ends.RelayEnd.{RelayEnd}
-use Rattle.relay_session.specs.declared.running.Came.{Came}
-use Rattle.relay_session.specs.declared.running.Came.TheVariants as came
+use Rattle.relay_session.specs.declared.running.Advance.{Advance}
+use Rattle.relay_session.specs.declared.running.Advance.TheVariants as advance
 use Rattle.relay_session.specs.declared.running.Run.{Run}
 use Rattle.relay_session.specs.private.Acting.{AreKnown, AreOpenFrom, settled_count}
 
@@ -33,20 +33,20 @@ pub record IsAtWork (before now : Around) (bag : Mailbag before.desk.store.kept)
   pub replies : List Reply
   pub are : AreReplies (taken_of entries) replies (run.reader.octets ++ pending)
   pub begun : HasBegunReply run.reader
-  pub given : given_of entries ≡ sent_octets (messages_of before.desk.store.kept bag.queue) (run_of before bag.letters replies).acts
+  pub given : given_of entries ≡ sent_octets (messages_of before.desk.store.kept bag.queue) (run_of before bag.mail_objects replies).acts
   pub messages : messages_of now.desk.store.kept bag.queue ≡ messages_of before.desk.store.kept bag.queue
   pub name : name_of now.desk.store.kept ≡ name_of before.desk.store.kept
   pub clock : now.clock ≡ before.clock
   pub faults : before.wire.faults ≤ now.wire.faults
   pub few : told_count bag.queue ≤ THINGS_MAX
-  pub few_letters : length bag.letters ≤ THINGS_MAX
+  pub few_mail_objects : length bag.mail_objects ≤ THINGS_MAX
   pub known : AreKnown now.desk.store.kept bag.queue
-  pub unsettled : AreOpenFrom now.desk.store.kept bag.queue (settled_count (run_of before bag.letters replies).acts)
-  pub waiting : (run_of before bag.letters replies).end ≡ waits
-  pub goes : (left : List Reply) → run_of before bag.letters (replies ++ left) ≡ behind_acts (run_of before bag.letters replies).acts (rest_of run.client left)
-  pub sent : run.tally.sent ≡ sent_count (run_of before bag.letters replies).acts
-  pub left : run.tally.left ≡ left_count bag.letters (run_of before bag.letters replies).acts
-  pub reported : run.tally.reported ≤ settled_count (run_of before bag.letters replies).acts
+  pub unsettled : AreOpenFrom now.desk.store.kept bag.queue (settled_count (run_of before bag.mail_objects replies).acts)
+  pub waiting : (run_of before bag.mail_objects replies).end ≡ waits
+  pub goes : (left : List Reply) → run_of before bag.mail_objects (replies ++ left) ≡ after_acts (run_of before bag.mail_objects replies).acts (rest_of run.client left)
+  pub sent : run.tally.sent ≡ sent_count (run_of before bag.mail_objects replies).acts
+  pub left : run.tally.left ≡ left_count bag.mail_objects (run_of before bag.mail_objects replies).acts
+  pub reported : run.tally.reported ≤ settled_count (run_of before bag.mail_objects replies).acts
 
 -- and all was done over the replies so far
 pub record IsRunning (path_of : List ℕ → Option (Option Address)) (before now : Around) (bag : Mailbag before.desk.store.kept) (run : Run) (pending : List ℕ) : Type 0 where
@@ -55,28 +55,28 @@ pub record IsRunning (path_of : List ℕ → Option (Option Address)) (before no
   pub reported : run.tally.reported ≡ does.count
 
 -- what holds of a run that goes on
-abbrev pub OnGoes : (Run → Type 0) → Came → Type 0
-OnGoes P (came.Goes run) = P run
-OnGoes P (came.Ends end) = Unit {0}
+abbrev pub OnGoes : (Run → Type 0) → Advance → Type 0
+OnGoes P (advance.Goes run) = P run
+OnGoes P (advance.Ends end) = Unit {0}
 
 -- what holds of the end of a run
-abbrev pub OnEnds : (RelayEnd → Type 0) → Came → Type 0
-OnEnds P (came.Goes run) = Unit {0}
-OnEnds P (came.Ends end) = P end
+abbrev pub OnEnds : (RelayEnd → Type 0) → Advance → Type 0
+OnEnds P (advance.Goes run) = Unit {0}
+OnEnds P (advance.Ends end) = P end
 
 -- the run goes on, or this is how it ended
-abbrev pub CameTo : (path_of : List ℕ → Option (Option Address)) (before now : Around) (bag : Mailbag before.desk.store.kept) (pending : List ℕ) → Result Came Fault → Type 0
-CameTo path_of before now bag pending (Ok (came.Goes run)) = IsRunning path_of before now bag run pending
-CameTo path_of before now bag pending (Ok (came.Ends end)) = RelaysTo path_of before now bag (Ok end)
-CameTo path_of before now bag pending (Err met) = RelaysTo path_of before now bag (Err met)
+abbrev pub AdvancesTo : (path_of : List ℕ → Option (Option Address)) (before now : Around) (bag : Mailbag before.desk.store.kept) (pending : List ℕ) → Result Advance Fault → Type 0
+AdvancesTo path_of before now bag pending (Ok (advance.Goes run)) = IsRunning path_of before now bag run pending
+AdvancesTo path_of before now bag pending (Ok (advance.Ends end)) = RelaysTo path_of before now bag (Ok end)
+AdvancesTo path_of before now bag pending (Err met) = RelaysTo path_of before now bag (Err met)
 
 -- how many octets a run takes at most
 abbrev pub octets_left : Run → ℕ
 octets_left run = replies_left (standing_of run.client) * (REPLY_LINES * REPLY_LINE_MAX) - length run.reader.octets
 
 -- it takes so many octets fewer
-abbrev pub StaysShort : Run → (taken : List ℕ) → Came → Type 0
-StaysShort run taken came = OnGoes (λ next. octets_left next + length taken ≤ octets_left run) came
+abbrev pub StaysShort : Run → (taken : List ℕ) → Advance → Type 0
+StaysShort run taken advance = OnGoes (λ next. octets_left next + length taken ≤ octets_left run) advance
 
 -- the wire is told to have failed only where it did
 abbrev pub IsWireCause : Around → Around → RelayEnd → Type 0

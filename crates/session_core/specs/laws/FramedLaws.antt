@@ -8,7 +8,7 @@ use Rattle.session_core.specs.Turns.{Turn, IsFramed, followed_by}
 use Rattle.mail_wire.proofs.FramingLemmas.{IsSteady, steady, le_true, le_false, at_most_of}
 use Rattle.session_core.specs.Acts.{Act}
 use Rattle.session_core.specs.Grammar.{Grammar, IsFitRow, LongRowsFit, RowsFit, count_cut, cut_by, protocol_of, turn_by, turn_in}
-use Rattle.session_core.specs.Meanings.{Meanings, AreMeanings}
+use Rattle.session_core.specs.Oracles.{Oracles, AreOracles}
 use Rattle.session_core.specs.Protocol.{IsFitTurn}
 use Rattle.session_core.specs.declared.rows.Wants.{Wants}
 use Rattle.session_core.specs.declared.rows.Wants.TheVariants as wants
@@ -62,44 +62,44 @@ steady_cut (wants.Count n) octets = count_steady n octets
 unsome : {A : Type 0} {a b : A} → Some a ≡ Some b → a ≡ b
 unsome h = cc
 
-shorter_by : (grammar : Grammar) (meanings : Meanings) (state : grammar.S) (want : Wants) (octets : List ℕ) (turn : Turn grammar.S (Act grammar.P)) (framed : Framed) → IsSteadyCut want octets framed
-    → turn_by grammar meanings state framed ≡ Some turn → length turn.rest < length octets
-shorter_by grammar meanings state want octets turn waiting steady is = cc
-shorter_by grammar meanings state want octets turn (whole unit rest) steady is =
+shorter_by : (grammar : Grammar) (oracles : Oracles) (state : grammar.S) (want : Wants) (octets : List ℕ) (turn : Turn grammar.S (Act grammar.P)) (framed : Framed) → IsSteadyCut want octets framed
+    → turn_by grammar oracles state framed ≡ Some turn → length turn.rest < length octets
+shorter_by grammar oracles state want octets turn waiting steady is = cc
+shorter_by grammar oracles state want octets turn (whole unit rest) steady is =
     let same : rest ≡ turn.rest = ap (λ (t : Turn grammar.S (Act grammar.P)). t.rest) (unsome is) in rw (← same) steady.0
-shorter_by grammar meanings state want octets turn (too_long rest) steady is =
+shorter_by grammar oracles state want octets turn (too_long rest) steady is =
     let same : rest ≡ turn.rest = ap (λ (t : Turn grammar.S (Act grammar.P)). t.rest) (unsome is) in rw (← same) steady.0
 
-stays_by : (grammar : Grammar) (meanings : Meanings) (state : grammar.S) (want : Wants) (octets more : List ℕ) (turn : Turn grammar.S (Act grammar.P)) (framed : Framed) → IsSteadyCut want octets framed
-    → turn_by grammar meanings state framed ≡ Some turn → turn_by grammar meanings state (cut_by want (octets ++ more)) ≡ Some (followed_by more turn)
-stays_by grammar meanings state want octets more turn waiting steady is = cc
-stays_by grammar meanings state want octets more turn (whole unit rest) steady is =
-    ap (turn_by grammar meanings state) (steady.1 more) ∙ ap (λ (t : Turn grammar.S (Act grammar.P)). Some (followed_by more t)) (unsome is)
-stays_by grammar meanings state want octets more turn (too_long rest) steady is =
-    ap (turn_by grammar meanings state) (steady.1 more) ∙ ap (λ (t : Turn grammar.S (Act grammar.P)). Some (followed_by more t)) (unsome is)
+stays_by : (grammar : Grammar) (oracles : Oracles) (state : grammar.S) (want : Wants) (octets more : List ℕ) (turn : Turn grammar.S (Act grammar.P)) (framed : Framed) → IsSteadyCut want octets framed
+    → turn_by grammar oracles state framed ≡ Some turn → turn_by grammar oracles state (cut_by want (octets ++ more)) ≡ Some (followed_by more turn)
+stays_by grammar oracles state want octets more turn waiting steady is = cc
+stays_by grammar oracles state want octets more turn (whole unit rest) steady is =
+    ap (turn_by grammar oracles state) (steady.1 more) ∙ ap (λ (t : Turn grammar.S (Act grammar.P)). Some (followed_by more t)) (unsome is)
+stays_by grammar oracles state want octets more turn (too_long rest) steady is =
+    ap (turn_by grammar oracles state) (steady.1 more) ∙ ap (λ (t : Turn grammar.S (Act grammar.P)). Some (followed_by more t)) (unsome is)
 
-shorter_in : (grammar : Grammar) (meanings : Meanings) (state : grammar.S) (want : Option Wants) (octets : List ℕ) (turn : Turn grammar.S (Act grammar.P))
-    → turn_in grammar meanings state want octets ≡ Some turn → length turn.rest < length octets
-shorter_in grammar meanings state None octets turn is = cc
-shorter_in grammar meanings state (Some want) octets turn is = shorter_by grammar meanings state want octets turn (cut_by want octets) (steady_cut want octets) is
+shorter_in : (grammar : Grammar) (oracles : Oracles) (state : grammar.S) (want : Option Wants) (octets : List ℕ) (turn : Turn grammar.S (Act grammar.P))
+    → turn_in grammar oracles state want octets ≡ Some turn → length turn.rest < length octets
+shorter_in grammar oracles state None octets turn is = cc
+shorter_in grammar oracles state (Some want) octets turn is = shorter_by grammar oracles state want octets turn (cut_by want octets) (steady_cut want octets) is
 
-stays_in : (grammar : Grammar) (meanings : Meanings) (state : grammar.S) (want : Option Wants) (octets more : List ℕ) (turn : Turn grammar.S (Act grammar.P))
-    → turn_in grammar meanings state want octets ≡ Some turn → turn_in grammar meanings state want (octets ++ more) ≡ Some (followed_by more turn)
-stays_in grammar meanings state None octets more turn is = cc
-stays_in grammar meanings state (Some want) octets more turn is = stays_by grammar meanings state want octets more turn (cut_by want octets) (steady_cut want octets) is
+stays_in : (grammar : Grammar) (oracles : Oracles) (state : grammar.S) (want : Option Wants) (octets more : List ℕ) (turn : Turn grammar.S (Act grammar.P))
+    → turn_in grammar oracles state want octets ≡ Some turn → turn_in grammar oracles state want (octets ++ more) ≡ Some (followed_by more turn)
+stays_in grammar oracles state None octets more turn is = cc
+stays_in grammar oracles state (Some want) octets more turn is = stays_by grammar oracles state want octets more turn (cut_by want octets) (steady_cut want octets) is
 
-pub framed_by : (grammar : Grammar) (meanings : Meanings) → IsFramed ((protocol_of grammar).next meanings)
-framed_by grammar meanings = record {
-  shorter = λ state octets turn is. shorter_in grammar meanings state (grammar.wants state) octets turn is;
-  stays = λ state octets more turn is. stays_in grammar meanings state (grammar.wants state) octets more turn is;
+pub framed_by : (grammar : Grammar) (oracles : Oracles) → IsFramed ((protocol_of grammar).next oracles)
+framed_by grammar oracles = record {
+  shorter = λ state octets turn is. shorter_in grammar oracles state (grammar.wants state) octets turn is;
+  stays = λ state octets more turn is. stays_in grammar oracles state (grammar.wants state) octets more turn is;
 }
 
-pub waits_by : (grammar : Grammar) (meanings : Meanings) (want : Wants) (kept : List ℕ) (state : grammar.S) (rest : List ℕ) → grammar.wants state ≡ Some want → cut_by want kept ≡ waiting → rest ≡ kept
-    → (protocol_of grammar).next meanings state rest ≡ None
-waits_by grammar meanings want kept state rest wanted none same = rw (wanted, same, none) refl
+pub waits_by : (grammar : Grammar) (oracles : Oracles) (want : Wants) (kept : List ℕ) (state : grammar.S) (rest : List ℕ) → grammar.wants state ≡ Some want → cut_by want kept ≡ waiting → rest ≡ kept
+    → (protocol_of grammar).next oracles state rest ≡ None
+waits_by grammar oracles want kept state rest wanted none same = rw (wanted, same, none) refl
 
-pub quiet_by : (grammar : Grammar) (meanings : Meanings) (state : grammar.S) (rest : List ℕ) → grammar.wants state ≡ None → (protocol_of grammar).next meanings state rest ≡ None
-quiet_by grammar meanings state rest ended = rw ended refl
+pub quiet_by : (grammar : Grammar) (oracles : Oracles) (state : grammar.S) (rest : List ℕ) → grammar.wants state ≡ None → (protocol_of grammar).next oracles state rest ≡ None
+quiet_by grammar oracles state rest ended = rw ended refl
 
 -- what wants something hasn't ended
 pub goes_on_by : (grammar : Grammar) (want : Wants) (state : grammar.S) → grammar.wants state ≡ Some want → grammar.wants state ≡ None → ⊥
@@ -107,19 +107,19 @@ goes_on_by grammar want state wanted ended = let apart : Some want ≡ None = sy
 
 -- ---- what may be sent
 
-fit_by : (grammar : Grammar) (meanings : Meanings) (state : grammar.S) (turn : Turn grammar.S (Act grammar.P)) (framed : Framed) → ((unit : List ℕ) → IsFitRow grammar meanings (grammar.row meanings state unit))
-    → IsFitRow grammar meanings (grammar.long_row meanings state) → turn_by grammar meanings state framed ≡ Some turn → IsFitTurn (protocol_of grammar) meanings turn
-fit_by grammar meanings state turn waiting rows long is = cc
-fit_by grammar meanings state turn (whole unit rest) rows long is =
+fit_by : (grammar : Grammar) (oracles : Oracles) (state : grammar.S) (turn : Turn grammar.S (Act grammar.P)) (framed : Framed) → ((unit : List ℕ) → IsFitRow grammar oracles (grammar.row oracles state unit))
+    → IsFitRow grammar oracles (grammar.long_row oracles state) → turn_by grammar oracles state framed ≡ Some turn → IsFitTurn (protocol_of grammar) oracles turn
+fit_by grammar oracles state turn waiting rows long is = cc
+fit_by grammar oracles state turn (whole unit rest) rows long is =
     let row = rows unit in rw (← unsome is) (record { fit = row.fit; sound = row.sound })
-fit_by grammar meanings state turn (too_long rest) rows long is = rw (← unsome is) (record { fit = long.fit; sound = long.sound })
+fit_by grammar oracles state turn (too_long rest) rows long is = rw (← unsome is) (record { fit = long.fit; sound = long.sound })
 
-fit_in : (grammar : Grammar) (meanings : Meanings) (state : grammar.S) (octets : List ℕ) (turn : Turn grammar.S (Act grammar.P)) (want : Option Wants) → ((unit : List ℕ) → IsFitRow grammar meanings (grammar.row meanings state unit))
-    → IsFitRow grammar meanings (grammar.long_row meanings state) → turn_in grammar meanings state want octets ≡ Some turn → IsFitTurn (protocol_of grammar) meanings turn
-fit_in grammar meanings state octets turn None rows long is = cc
-fit_in grammar meanings state octets turn (Some want) rows long is = fit_by grammar meanings state turn (cut_by want octets) rows long is
+fit_in : (grammar : Grammar) (oracles : Oracles) (state : grammar.S) (octets : List ℕ) (turn : Turn grammar.S (Act grammar.P)) (want : Option Wants) → ((unit : List ℕ) → IsFitRow grammar oracles (grammar.row oracles state unit))
+    → IsFitRow grammar oracles (grammar.long_row oracles state) → turn_in grammar oracles state want octets ≡ Some turn → IsFitTurn (protocol_of grammar) oracles turn
+fit_in grammar oracles state octets turn None rows long is = cc
+fit_in grammar oracles state octets turn (Some want) rows long is = fit_by grammar oracles state turn (cut_by want octets) rows long is
 
-pub fits_by : (grammar : Grammar) → RowsFit grammar → LongRowsFit grammar → (meanings : Meanings) → AreMeanings meanings → (state : grammar.S) (octets : List ℕ) (turn : Turn grammar.S (Act grammar.P)) → grammar.IsSound state
-    → (protocol_of grammar).next meanings state octets ≡ Some turn → IsFitTurn (protocol_of grammar) meanings turn
-fits_by grammar rows long meanings are state octets turn sound is =
-    fit_in grammar meanings state octets turn (grammar.wants state) (λ unit. rows meanings are state unit sound) (long meanings are state sound) is
+pub fits_by : (grammar : Grammar) → RowsFit grammar → LongRowsFit grammar → (oracles : Oracles) → AreOracles oracles → (state : grammar.S) (octets : List ℕ) (turn : Turn grammar.S (Act grammar.P)) → grammar.IsSound state
+    → (protocol_of grammar).next oracles state octets ≡ Some turn → IsFitTurn (protocol_of grammar) oracles turn
+fits_by grammar rows long oracles are state octets turn sound is =
+    fit_in grammar oracles state octets turn (grammar.wants state) (λ unit. rows oracles are state unit sound) (long oracles are state sound) is

@@ -23,7 +23,7 @@ all_fit (changes records ∷ acts) = (tt, all_fit acts)
 all_fit (asks asked ∷ acts) = (tt, all_fit acts)
 
 pub rows_fit_by : RowsFit echo_grammar
-rows_fit_by meanings are state unit sound = record { fit = all_fit (row_of state unit).acts; sound = tt }
+rows_fit_by oracles are state unit sound = record { fit = all_fit (row_of state unit).acts; sound = tt }
 
 pub lines_fit : LongRowsFit echo_grammar
-lines_fit meanings are state sound = record { fit = (tt, tt); sound = tt }
+lines_fit oracles are state sound = record { fit = (tt, tt); sound = tt }

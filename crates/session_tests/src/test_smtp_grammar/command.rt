@@ -1,5 +1,5 @@
 //! Commands, paths and parameters, each public call with ample memory and a row or two for each rule.
-use smtp_grammar::{Parameters, Verb, is_client, path_behind, read_command, read_parameters};
+use smtp_grammar::{Parameters, Verb, is_client, path_after, read_command, read_parameters};
 use std::alloc::Global;
 use std::test::Fail;
 
@@ -12,11 +12,11 @@ fn reads(line: &[u8], verb: Verb, argument: &[u8]) -> bool {
 }
 
 fn is_path(argument: &[u8], path: &[u8], rest: &[u8]) -> bool {
-    path_behind(b"FROM:", argument).is_some_and(|found| found.path == path && found.rest == rest)
+    path_after(b"FROM:", argument).is_some_and(|found| found.path == path && found.rest == rest)
 }
 
 fn is_no_path(argument: &[u8]) -> bool {
-    path_behind(b"FROM:", argument).is_none()
+    path_after(b"FROM:", argument).is_none()
 }
 
 fn sound(unknown: bool, smtputf8: bool, size: u64) -> Parameters {
@@ -78,7 +78,7 @@ fn clients_say_names_and_literals(rt: HostRuntime) -> Result<(), Fail> {
 }
 
 #[test]
-fn paths_begin_behind_one_space(rt: HostRuntime) -> Result<(), Fail> {
+fn paths_begin_after_one_space(rt: HostRuntime) -> Result<(), Fail> {
     assert!(rt; is_path(b"FROM:<a@b>", b"<a@b>", b""));
     assert!(rt; is_path(b"from:<> SIZE=1", b"<>", b" SIZE=1"));
     assert!(rt; is_path(b"FROM: <a@b>\tX", b"<a@b>", b"\tX"));
@@ -89,7 +89,7 @@ fn paths_begin_behind_one_space(rt: HostRuntime) -> Result<(), Fail> {
     assert!(rt; is_no_path(b"FROM:a@b"));
     assert!(rt; is_no_path(b"FROM:"));
     assert!(rt; is_no_path(b"FR"));
-    assert!(rt; path_behind(b"TO:", b"tO:<a@b>").is_some());
+    assert!(rt; path_after(b"TO:", b"tO:<a@b>").is_some());
     Ok(())
 }
 

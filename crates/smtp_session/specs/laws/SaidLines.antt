@@ -9,11 +9,11 @@ use Rattle.mail_store.specs.StoreState.{StoreState}
 use Rattle.kept_mail.specs.declared.limits.TheConstants.{RECIPIENTS_MAX}
 use Rattle.smtp_grammar.specs.declared.command.Verb.{Verb}
 use Rattle.smtp_grammar.specs.declared.command.Verb.TheVariants as verb
-use Rattle.smtp_grammar.specs.Commands.{is_client, path_behind, parameter_of, are_malformed, is_unknown, is_smtputf8, announced}
+use Rattle.smtp_grammar.specs.Commands.{is_client, path_after, parameter_of, are_malformed, is_unknown, is_smtputf8, announced}
 use Rattle.smtp_session.specs.declared.states.Client.{Client}
 use Rattle.smtp_session.specs.declared.states.Envelope.{Envelope}
-use Rattle.smtp_session.specs.Machine.{State, fresh, greeted, mail, collecting, ended, Step, step, offers, client_of, answers, says, bad_argument, ehlo_step, helo_step, lacks_smtputf8, path_read, words_behind, mail_by, mail_step, mail_to, is_same_remote, envelope_recipient_count, with_room, rcpt_local, rcpt_remote, rcpt_to, alone, rcpt_step, data_step}
-use Rattle.session_core.specs.Meanings.{Meanings}
+use Rattle.smtp_session.specs.Machine.{State, fresh, greeted, mail, collecting, ended, Step, step, offers, client_of, answers, says, bad_argument, ehlo_step, helo_step, lacks_smtputf8, path_read, words_after, mail_by, mail_step, mail_to, is_same_remote, envelope_recipient_count, with_room, rcpt_local, rcpt_remote, rcpt_to, alone, rcpt_step, data_step}
+use Rattle.session_core.specs.Oracles.{Oracles}
 
 -- `Fits` holds of each line that a command may be answered over this store
 pub record SaidLines (Fits : List ℕ → Type 0) (store : StoreState) : Type 0 where
@@ -68,15 +68,15 @@ mail_by_said : (Fits : List ℕ → Type 0) (client : Client) (store : StoreStat
 mail_by_said Fits client store None words lines = (lines.bad, tt)
 mail_by_said Fits client store (Some path) words lines = mail_to_said Fits client store (list_any (λ word. is_smtputf8 (parameter_of word)) words) path words lines
 
-mail_said : (Fits : List ℕ → Type 0) (meanings : Meanings) (state : State) (store : StoreState) (argument : List ℕ) → SaidLines Fits store
-    → AllByRecursion Fits (mail_step meanings state store argument).reply
-mail_said Fits meanings (greeted client) store argument lines =
-    let given = path_behind (codes "FROM:") argument in
-    mail_by_said Fits client store (path_read meanings given) (words_behind given) lines
-mail_said Fits meanings fresh store argument lines = (lines.disordered, tt)
-mail_said Fits meanings (mail client envelope) store argument lines = (lines.disordered, tt)
-mail_said Fits meanings (collecting client envelope) store argument lines = (lines.disordered, tt)
-mail_said Fits meanings ended store argument lines = (lines.disordered, tt)
+mail_said : (Fits : List ℕ → Type 0) (oracles : Oracles) (state : State) (store : StoreState) (argument : List ℕ) → SaidLines Fits store
+    → AllByRecursion Fits (mail_step oracles state store argument).reply
+mail_said Fits oracles (greeted client) store argument lines =
+    let given = path_after (codes "FROM:") argument in
+    mail_by_said Fits client store (path_read oracles given) (words_after given) lines
+mail_said Fits oracles fresh store argument lines = (lines.disordered, tt)
+mail_said Fits oracles (mail client envelope) store argument lines = (lines.disordered, tt)
+mail_said Fits oracles (collecting client envelope) store argument lines = (lines.disordered, tt)
+mail_said Fits oracles ended store argument lines = (lines.disordered, tt)
 
 -- RCPT
 
@@ -96,22 +96,22 @@ remote_said : (Fits : List ℕ → Type 0) (store : StoreState) (client : Client
 remote_said Fits store client envelope address lines =
     room_said Fits store (list_any (λ other. is_same_remote other address) envelope.remote) client envelope (record envelope { remote = envelope.remote ++ address ∷ [] }) lines
 
-rcpt_to_said : (Fits : List ℕ → Type 0) (meanings : Meanings) (client : Client) (envelope : Envelope) (store : StoreState) (path : Option (Option Address)) → SaidLines Fits store
-    → AllByRecursion Fits (rcpt_to meanings client envelope store path).reply
-rcpt_to_said Fits meanings client envelope store None lines = (lines.bad, tt)
-rcpt_to_said Fits meanings client envelope store (Some None) lines = (lines.bad, tt)
-rcpt_to_said Fits meanings client envelope store (Some (Some address)) lines =
+rcpt_to_said : (Fits : List ℕ → Type 0) (oracles : Oracles) (client : Client) (envelope : Envelope) (store : StoreState) (path : Option (Option Address)) → SaidLines Fits store
+    → AllByRecursion Fits (rcpt_to oracles client envelope store path).reply
+rcpt_to_said Fits oracles client envelope store None lines = (lines.bad, tt)
+rcpt_to_said Fits oracles client envelope store (Some None) lines = (lines.bad, tt)
+rcpt_to_said Fits oracles client envelope store (Some (Some address)) lines =
     either Fits (lacks_smtputf8 envelope.smtputf8 (Some address)) _ _ (lines.plain_only, tt) (either Fits (is_local store.kept address.domain) _ _
-    (local_said Fits store client envelope (find_account meanings.path_of store.kept address) lines) (remote_said Fits store client envelope address lines))
+    (local_said Fits store client envelope (find_account oracles.path_of store.kept address) lines) (remote_said Fits store client envelope address lines))
 
-rcpt_said : (Fits : List ℕ → Type 0) (meanings : Meanings) (state : State) (store : StoreState) (argument : List ℕ) → SaidLines Fits store
-    → AllByRecursion Fits (rcpt_step meanings state store argument).reply
-rcpt_said Fits meanings (mail client envelope) store argument lines =
-    rcpt_to_said Fits meanings client envelope store (path_read meanings (alone (path_behind (codes "TO:") argument))) lines
-rcpt_said Fits meanings fresh store argument lines = (lines.disordered, tt)
-rcpt_said Fits meanings (greeted client) store argument lines = (lines.disordered, tt)
-rcpt_said Fits meanings (collecting client envelope) store argument lines = (lines.disordered, tt)
-rcpt_said Fits meanings ended store argument lines = (lines.disordered, tt)
+rcpt_said : (Fits : List ℕ → Type 0) (oracles : Oracles) (state : State) (store : StoreState) (argument : List ℕ) → SaidLines Fits store
+    → AllByRecursion Fits (rcpt_step oracles state store argument).reply
+rcpt_said Fits oracles (mail client envelope) store argument lines =
+    rcpt_to_said Fits oracles client envelope store (path_read oracles (alone (path_after (codes "TO:") argument))) lines
+rcpt_said Fits oracles fresh store argument lines = (lines.disordered, tt)
+rcpt_said Fits oracles (greeted client) store argument lines = (lines.disordered, tt)
+rcpt_said Fits oracles (collecting client envelope) store argument lines = (lines.disordered, tt)
+rcpt_said Fits oracles ended store argument lines = (lines.disordered, tt)
 
 -- DATA, and each command
 
@@ -122,16 +122,16 @@ data_said Fits (greeted client) store lines = (lines.disordered, tt)
 data_said Fits (collecting client envelope) store lines = (lines.disordered, tt)
 data_said Fits ended store lines = (lines.disordered, tt)
 
-pub step_said : (Fits : List ℕ → Type 0) (meanings : Meanings) (state : State) (store : StoreState) (word : Verb) (argument : List ℕ) → SaidLines Fits store
-    → AllByRecursion Fits (step meanings state store word argument).reply
+pub step_said : (Fits : List ℕ → Type 0) (oracles : Oracles) (state : State) (store : StoreState) (word : Verb) (argument : List ℕ) → SaidLines Fits store
+    → AllByRecursion Fits (step oracles state store word argument).reply
 unfolding step
-step_said Fits meanings state store verb.Ehlo argument lines = ehlo_said Fits state store argument lines
-step_said Fits meanings state store verb.Helo argument lines = helo_said Fits state store argument lines
-step_said Fits meanings state store verb.Mail argument lines = mail_said Fits meanings state store argument lines
-step_said Fits meanings state store verb.Rcpt argument lines = rcpt_said Fits meanings state store argument lines
-step_said Fits meanings state store verb.Data argument lines = data_said Fits state store lines
-step_said Fits meanings state store verb.Rset argument lines = (lines.fine, tt)
-step_said Fits meanings state store verb.Noop argument lines = (lines.fine, tt)
-step_said Fits meanings state store verb.Vrfy argument lines = (lines.unverified, tt)
-step_said Fits meanings state store verb.Quit argument lines = (lines.goodbye, tt)
-step_said Fits meanings state store verb.Other argument lines = (lines.unknown, tt)
+step_said Fits oracles state store verb.Ehlo argument lines = ehlo_said Fits state store argument lines
+step_said Fits oracles state store verb.Helo argument lines = helo_said Fits state store argument lines
+step_said Fits oracles state store verb.Mail argument lines = mail_said Fits oracles state store argument lines
+step_said Fits oracles state store verb.Rcpt argument lines = rcpt_said Fits oracles state store argument lines
+step_said Fits oracles state store verb.Data argument lines = data_said Fits state store lines
+step_said Fits oracles state store verb.Rset argument lines = (lines.fine, tt)
+step_said Fits oracles state store verb.Noop argument lines = (lines.fine, tt)
+step_said Fits oracles state store verb.Vrfy argument lines = (lines.unverified, tt)
+step_said Fits oracles state store verb.Quit argument lines = (lines.goodbye, tt)
+step_said Fits oracles state store verb.Other argument lines = (lines.unknown, tt)

@@ -25,7 +25,7 @@ use Rattle.mail_store.specs.Following.{records_of}
 use Rattle.mail_store.specs.StoreState.{StoreState, with_records}
 use Rattle.kept_mail.specs.declared.delivery.Delivery.{Delivery}
 use Rattle.kept_mail.specs.declared.limits.TheConstants.{RECIPIENTS_MAX}
-use Rattle.smtp_grammar.specs.Commands.{command_of, announced, are_malformed, is_client, is_smtputf8, is_unknown, parameter_of, path_behind}
+use Rattle.smtp_grammar.specs.Commands.{command_of, announced, are_malformed, is_client, is_smtputf8, is_unknown, parameter_of, path_after}
 use Rattle.smtp_grammar.specs.Data.{data_cut}
 use Rattle.smtp_grammar.specs.declared.command.Verb.{Verb}
 use Rattle.smtp_grammar.proofs.DataLemmas.{data_cut-shorter, data_cut-stays}
@@ -33,7 +33,7 @@ use Rattle.smtp_grammar.proofs.ReadingLemmas.{read_unended}
 use Rattle.smtp_grammar.specs.declared.command.Verb.TheVariants as verb
 use Rattle.session_core.specs.Acts.{Act}
 use Rattle.session_core.specs.Desks.{IsOpen, IsStoreName}
-use Rattle.session_core.specs.Meanings.{Meanings, AreMeanings}
+use Rattle.session_core.specs.Oracles.{Oracles, AreOracles}
 use Rattle.session_core.specs.Moments.{Moment}
 use Rattle.session_core.specs.Protocol.{IsFitTurn}
 use Rattle.session_core.specs.Turns.{Turn, IsFramed, followed_by}
@@ -45,76 +45,76 @@ use Rattle.smtp_session.specs.declared.states.Client.{Client}
 use Rattle.smtp_session.specs.declared.states.Envelope.{Envelope}
 use Rattle.smtp_session.specs.declared.states.SmtpState.{SmtpState}
 use Rattle.smtp_session.specs.declared.states.SmtpState.TheVariants as smtp
-use Rattle.smtp_session.specs.Machine.{State, collecting, delivery_of, end_data, ended, fresh, greeted, mail, step, Step, end_by, alone, data_step, is_same_remote, lacks_smtputf8, mail_by, mail_step, mail_to, path_read, rcpt_local, rcpt_remote, rcpt_step, rcpt_to, envelope_recipient_count, with_room, words_behind}
+use Rattle.smtp_session.specs.Machine.{State, collecting, delivery_of, end_data, ended, fresh, greeted, mail, step, Step, end_by, alone, data_step, is_same_remote, lacks_smtputf8, mail_by, mail_step, mail_to, path_read, rcpt_local, rcpt_remote, rcpt_step, rcpt_to, envelope_recipient_count, with_room, words_after}
 use Rattle.smtp_session.specs.Session.{IsFit, SmtpReady, Machine, SmtpStands, data_turn, greeting, line_too_long, line_turn, machine_of, next_moment, next_turn, smtp_protocol, turn_from, AreFit, HasRest, IsUnfinished, state_of}
 use Rattle.smtp_session.specs.laws.SaidLines.{SaidLines, step_said}
 
 -- ---- turns don't depend on what comes later
 
 -- a line takes an octet at least
-line_shorter : (meanings : Meanings) (machine : Machine) (octets : List ℕ) (framed : Framed) (turn : Turn Machine (Act (List ℕ))) → IsSteady octets framed
-    → line_turn meanings machine framed ≡ Some turn → length turn.rest < length octets
-line_shorter meanings machine octets waiting turn steady is = cc
-line_shorter meanings machine octets (whole line rest) turn steady is = let same : rest ≡ turn.rest = cc in rw (← same) steady.0
-line_shorter meanings machine octets (too_long rest) turn steady is = let same : rest ≡ turn.rest = cc in rw (← same) steady.0
+line_shorter : (oracles : Oracles) (machine : Machine) (octets : List ℕ) (framed : Framed) (turn : Turn Machine (Act (List ℕ))) → IsSteady octets framed
+    → line_turn oracles machine framed ≡ Some turn → length turn.rest < length octets
+line_shorter oracles machine octets waiting turn steady is = cc
+line_shorter oracles machine octets (whole line rest) turn steady is = let same : rest ≡ turn.rest = cc in rw (← same) steady.0
+line_shorter oracles machine octets (too_long rest) turn steady is = let same : rest ≡ turn.rest = cc in rw (← same) steady.0
 
 -- more octets stay behind a line
-line_stays : (meanings : Meanings) (machine : Machine) (octets more : List ℕ) (framed : Framed) (turn : Turn Machine (Act (List ℕ))) → IsSteady octets framed
-    → line_turn meanings machine framed ≡ Some turn → line_turn meanings machine (next_line (octets ++ more)) ≡ Some (followed_by more turn)
-line_stays meanings machine octets more waiting turn steady is = cc
-line_stays meanings machine octets more (whole line rest) turn steady is = ap (line_turn meanings machine) (steady.1 more) ∙ ap (λ t. Some (followed_by more t)) (same_Some _ _ is)
-line_stays meanings machine octets more (too_long rest) turn steady is = ap (line_turn meanings machine) (steady.1 more) ∙ ap (λ t. Some (followed_by more t)) (same_Some _ _ is)
+line_stays : (oracles : Oracles) (machine : Machine) (octets more : List ℕ) (framed : Framed) (turn : Turn Machine (Act (List ℕ))) → IsSteady octets framed
+    → line_turn oracles machine framed ≡ Some turn → line_turn oracles machine (next_line (octets ++ more)) ≡ Some (followed_by more turn)
+line_stays oracles machine octets more waiting turn steady is = cc
+line_stays oracles machine octets more (whole line rest) turn steady is = ap (line_turn oracles machine) (steady.1 more) ∙ ap (λ t. Some (followed_by more t)) (same_Some _ _ is)
+line_stays oracles machine octets more (too_long rest) turn steady is = ap (line_turn oracles machine) (steady.1 more) ∙ ap (λ t. Some (followed_by more t)) (same_Some _ _ is)
 
 -- data take an octet at least
-data_shorter : (meanings : Meanings) (machine : Machine) (client : Client) (envelope : Envelope) (octets : List ℕ) (turn : Turn Machine (Act (List ℕ))) (found : Option Cut) → data_cut octets ≡ found
-    → option_map (data_turn meanings machine client envelope) found ≡ Some turn → length turn.rest < length octets
-data_shorter meanings machine client envelope octets turn None at is = cc
-data_shorter meanings machine client envelope octets turn (Some cut) at is =
+data_shorter : (oracles : Oracles) (machine : Machine) (client : Client) (envelope : Envelope) (octets : List ℕ) (turn : Turn Machine (Act (List ℕ))) (found : Option Cut) → data_cut octets ≡ found
+    → option_map (data_turn oracles machine client envelope) found ≡ Some turn → length turn.rest < length octets
+data_shorter oracles machine client envelope octets turn None at is = cc
+data_shorter oracles machine client envelope octets turn (Some cut) at is =
     let same : cut.rest ≡ turn.rest = ap (λ (t : Turn Machine (Act (List ℕ))). t.rest) (same_Some _ _ is) in
     rw (← same) (data_cut-shorter octets cut at)
 
 -- more octets stay behind data
-data_stays : (meanings : Meanings) (machine : Machine) (client : Client) (envelope : Envelope) (octets more : List ℕ) (turn : Turn Machine (Act (List ℕ))) (found : Option Cut) → data_cut octets ≡ found
-    → option_map (data_turn meanings machine client envelope) found ≡ Some turn
-    → option_map (data_turn meanings machine client envelope) (data_cut (octets ++ more)) ≡ Some (followed_by more turn)
-data_stays meanings machine client envelope octets more turn None at is = cc
-data_stays meanings machine client envelope octets more turn (Some cut) at is =
-    ap (option_map (data_turn meanings machine client envelope)) (data_cut-stays octets more cut at) ∙ ap (λ t. Some (followed_by more t)) (same_Some _ _ is)
+data_stays : (oracles : Oracles) (machine : Machine) (client : Client) (envelope : Envelope) (octets more : List ℕ) (turn : Turn Machine (Act (List ℕ))) (found : Option Cut) → data_cut octets ≡ found
+    → option_map (data_turn oracles machine client envelope) found ≡ Some turn
+    → option_map (data_turn oracles machine client envelope) (data_cut (octets ++ more)) ≡ Some (followed_by more turn)
+data_stays oracles machine client envelope octets more turn None at is = cc
+data_stays oracles machine client envelope octets more turn (Some cut) at is =
+    ap (option_map (data_turn oracles machine client envelope)) (data_cut-stays octets more cut at) ∙ ap (λ t. Some (followed_by more t)) (same_Some _ _ is)
 
-shorter_in : (meanings : Meanings) (state : State) (machine : Machine) (octets : List ℕ) (turn : Turn Machine (Act (List ℕ))) → turn_from meanings state machine octets ≡ Some turn
+shorter_in : (oracles : Oracles) (state : State) (machine : Machine) (octets : List ℕ) (turn : Turn Machine (Act (List ℕ))) → turn_from oracles state machine octets ≡ Some turn
     → length turn.rest < length octets
-shorter_in meanings fresh machine octets turn is = line_shorter meanings machine octets (next_line octets) turn (steady octets) is
-shorter_in meanings (greeted client) machine octets turn is = line_shorter meanings machine octets (next_line octets) turn (steady octets) is
-shorter_in meanings (mail client envelope) machine octets turn is = line_shorter meanings machine octets (next_line octets) turn (steady octets) is
-shorter_in meanings (collecting client envelope) machine octets turn is = data_shorter meanings machine client envelope octets turn (data_cut octets) refl is
-shorter_in meanings ended machine octets turn is = cc
+shorter_in oracles fresh machine octets turn is = line_shorter oracles machine octets (next_line octets) turn (steady octets) is
+shorter_in oracles (greeted client) machine octets turn is = line_shorter oracles machine octets (next_line octets) turn (steady octets) is
+shorter_in oracles (mail client envelope) machine octets turn is = line_shorter oracles machine octets (next_line octets) turn (steady octets) is
+shorter_in oracles (collecting client envelope) machine octets turn is = data_shorter oracles machine client envelope octets turn (data_cut octets) refl is
+shorter_in oracles ended machine octets turn is = cc
 
-stays_in : (meanings : Meanings) (state : State) (machine : Machine) (octets more : List ℕ) (turn : Turn Machine (Act (List ℕ))) → turn_from meanings state machine octets ≡ Some turn
-    → turn_from meanings state machine (octets ++ more) ≡ Some (followed_by more turn)
-stays_in meanings fresh machine octets more turn is = line_stays meanings machine octets more (next_line octets) turn (steady octets) is
-stays_in meanings (greeted client) machine octets more turn is = line_stays meanings machine octets more (next_line octets) turn (steady octets) is
-stays_in meanings (mail client envelope) machine octets more turn is = line_stays meanings machine octets more (next_line octets) turn (steady octets) is
-stays_in meanings (collecting client envelope) machine octets more turn is = data_stays meanings machine client envelope octets more turn (data_cut octets) refl is
-stays_in meanings ended machine octets more turn is = cc
+stays_in : (oracles : Oracles) (state : State) (machine : Machine) (octets more : List ℕ) (turn : Turn Machine (Act (List ℕ))) → turn_from oracles state machine octets ≡ Some turn
+    → turn_from oracles state machine (octets ++ more) ≡ Some (followed_by more turn)
+stays_in oracles fresh machine octets more turn is = line_stays oracles machine octets more (next_line octets) turn (steady octets) is
+stays_in oracles (greeted client) machine octets more turn is = line_stays oracles machine octets more (next_line octets) turn (steady octets) is
+stays_in oracles (mail client envelope) machine octets more turn is = line_stays oracles machine octets more (next_line octets) turn (steady octets) is
+stays_in oracles (collecting client envelope) machine octets more turn is = data_stays oracles machine client envelope octets more turn (data_cut octets) refl is
+stays_in oracles ended machine octets more turn is = cc
 
 -- a turn takes an octet at least, and doesn't depend on what comes later
-pub framed_by : (meanings : Meanings) → IsFramed (next_turn meanings)
+pub framed_by : (oracles : Oracles) → IsFramed (next_turn oracles)
 unfolding next_turn
-framed_by meanings = record {
-  shorter = λ machine octets turn is. shorter_in meanings machine.state machine octets turn is;
-  stays = λ machine octets more turn is. stays_in meanings machine.state machine octets more turn is;
+framed_by oracles = record {
+  shorter = λ machine octets turn is. shorter_in oracles machine.state machine octets turn is;
+  stays = λ machine octets more turn is. stays_in oracles machine.state machine octets more turn is;
 }
 
 -- ---- no turn
 
 -- what was kept of a line brings none, nor what was read of data
-no_turn_yet : (meanings : Meanings) (session : SmtpMachine) (state : SmtpState) (machine : Machine) (kept rest : List ℕ) (desk : Desk) → IsUnfinished session state kept desk
-    → HasRest session state kept rest → turn_from meanings (state_of state) machine rest ≡ None
-no_turn_yet meanings session (smtp.Fresh s) machine kept rest desk waits has = rw has (ap (line_turn meanings machine) waits)
-no_turn_yet meanings session (smtp.Greeted s) machine kept rest desk waits has = rw has (ap (line_turn meanings machine) waits)
-no_turn_yet meanings session (smtp.Mail s) machine kept rest desk waits has = rw has (ap (line_turn meanings machine) waits)
-no_turn_yet meanings session (smtp.Data s) machine kept rest desk waits has =
-    ap (option_map (data_turn meanings machine s.state.client s.state.envelope)) (read_unended session.reader rest has)
+no_turn_yet : (oracles : Oracles) (session : SmtpMachine) (state : SmtpState) (machine : Machine) (kept rest : List ℕ) (desk : Desk) → IsUnfinished session state kept desk
+    → HasRest session state kept rest → turn_from oracles (state_of state) machine rest ≡ None
+no_turn_yet oracles session (smtp.Fresh s) machine kept rest desk waits has = rw has (ap (line_turn oracles machine) waits)
+no_turn_yet oracles session (smtp.Greeted s) machine kept rest desk waits has = rw has (ap (line_turn oracles machine) waits)
+no_turn_yet oracles session (smtp.Mail s) machine kept rest desk waits has = rw has (ap (line_turn oracles machine) waits)
+no_turn_yet oracles session (smtp.Data s) machine kept rest desk waits has =
+    ap (option_map (data_turn oracles machine s.state.client s.state.envelope)) (read_unended session.reader rest has)
 
 -- a session is in no state that has ended
 not_ended : (state : SmtpState) → state_of state ≡ ended → ⊥
@@ -123,19 +123,19 @@ not_ended (smtp.Greeted s) is = cc
 not_ended (smtp.Mail s) is = cc
 not_ended (smtp.Data s) is = cc
 
-pub waits_by : (meanings : Meanings) → AreMeanings meanings → (more : List Moment) (session : SmtpMachine) (kept : List ℕ) (desk : Desk) (machine : Machine) (rest : List ℕ)
-    → SmtpReady session kept desk → SmtpStands more session kept desk machine rest → next_turn meanings machine rest ≡ None
+pub waits_by : (oracles : Oracles) → AreOracles oracles → (more : List Moment) (session : SmtpMachine) (kept : List ℕ) (desk : Desk) (machine : Machine) (rest : List ℕ)
+    → SmtpReady session kept desk → SmtpStands more session kept desk machine rest → next_turn oracles machine rest ≡ None
 unfolding next_turn
-waits_by meanings are more session kept desk machine rest ready stands =
-    rw stands.machine_is (no_turn_yet meanings session session.state (machine_of session desk more) kept rest desk ready.unfinished stands.has)
+waits_by oracles are more session kept desk machine rest ready stands =
+    rw stands.machine_is (no_turn_yet oracles session session.state (machine_of session desk more) kept rest desk ready.unfinished stands.has)
 
 pub goes_on_by : (more : List Moment) (session : SmtpMachine) (kept : List ℕ) (desk : Desk) (machine : Machine) (rest : List ℕ) → SmtpStands more session kept desk machine rest
     → ¬ (machine.state ≡ ended)
 goes_on_by more session kept desk machine rest stands over = not_ended session.state (sym (ap (λ (m : Machine). m.state) stands.machine_is) ∙ over)
 
-pub quiet_by : (meanings : Meanings) (machine : Machine) (rest : List ℕ) → machine.state ≡ ended → next_turn meanings machine rest ≡ None
+pub quiet_by : (oracles : Oracles) (machine : Machine) (rest : List ℕ) → machine.state ≡ ended → next_turn oracles machine rest ≡ None
 unfolding next_turn
-quiet_by meanings machine rest over = ap (λ (s : State). turn_from meanings s machine rest) over
+quiet_by oracles machine rest over = ap (λ (s : State). turn_from oracles s machine rest) over
 
 -- ---- no row changes the store
 
@@ -152,14 +152,14 @@ mail_by-changes : (client : Client) (store : StoreState) (path : Option (Option 
 mail_by-changes client store None words = refl
 mail_by-changes client store (Some path) words = mail_to-changes client store (list_any (λ word. is_smtputf8 (parameter_of word)) words) path words
 
-mail_step-changes : (meanings : Meanings) (state : State) (store : StoreState) (argument : List ℕ) → (mail_step meanings state store argument).changes ≡ []
-mail_step-changes meanings (greeted client) store argument =
-    let given = path_behind (codes "FROM:") argument in
-    mail_by-changes client store (path_read meanings given) (words_behind given)
-mail_step-changes meanings fresh store argument = refl
-mail_step-changes meanings (mail client envelope) store argument = refl
-mail_step-changes meanings (collecting client envelope) store argument = refl
-mail_step-changes meanings ended store argument = refl
+mail_step-changes : (oracles : Oracles) (state : State) (store : StoreState) (argument : List ℕ) → (mail_step oracles state store argument).changes ≡ []
+mail_step-changes oracles (greeted client) store argument =
+    let given = path_after (codes "FROM:") argument in
+    mail_by-changes client store (path_read oracles given) (words_after given)
+mail_step-changes oracles fresh store argument = refl
+mail_step-changes oracles (mail client envelope) store argument = refl
+mail_step-changes oracles (collecting client envelope) store argument = refl
+mail_step-changes oracles ended store argument = refl
 
 with_room-changes : (there : Bool) (client : Client) (envelope with_one : Envelope) → (with_room there client envelope with_one).changes ≡ []
 with_room-changes there client envelope with_one = same_changes there _ _ refl (same_changes (nat_lt (envelope_recipient_count envelope) RECIPIENTS_MAX) _ _ refl refl)
@@ -173,19 +173,19 @@ rcpt_remote-changes : (client : Client) (envelope : Envelope) (address : Address
 rcpt_remote-changes client envelope address =
     with_room-changes (list_any (λ other. is_same_remote other address) envelope.remote) client envelope (record envelope { remote = envelope.remote ++ address ∷ [] })
 
-rcpt_to-changes : (meanings : Meanings) (client : Client) (envelope : Envelope) (store : StoreState) (path : Option (Option Address)) → (rcpt_to meanings client envelope store path).changes ≡ []
-rcpt_to-changes meanings client envelope store None = refl
-rcpt_to-changes meanings client envelope store (Some None) = refl
-rcpt_to-changes meanings client envelope store (Some (Some address)) =
+rcpt_to-changes : (oracles : Oracles) (client : Client) (envelope : Envelope) (store : StoreState) (path : Option (Option Address)) → (rcpt_to oracles client envelope store path).changes ≡ []
+rcpt_to-changes oracles client envelope store None = refl
+rcpt_to-changes oracles client envelope store (Some None) = refl
+rcpt_to-changes oracles client envelope store (Some (Some address)) =
     same_changes (lacks_smtputf8 envelope.smtputf8 (Some address)) _ _ refl (same_changes (is_local store.kept address.domain) _ _
-    (rcpt_local-changes client envelope (find_account meanings.path_of store.kept address)) (rcpt_remote-changes client envelope address))
+    (rcpt_local-changes client envelope (find_account oracles.path_of store.kept address)) (rcpt_remote-changes client envelope address))
 
-rcpt_step-changes : (meanings : Meanings) (state : State) (store : StoreState) (argument : List ℕ) → (rcpt_step meanings state store argument).changes ≡ []
-rcpt_step-changes meanings (mail client envelope) store argument = rcpt_to-changes meanings client envelope store (path_read meanings (alone (path_behind (codes "TO:") argument)))
-rcpt_step-changes meanings fresh store argument = refl
-rcpt_step-changes meanings (greeted client) store argument = refl
-rcpt_step-changes meanings (collecting client envelope) store argument = refl
-rcpt_step-changes meanings ended store argument = refl
+rcpt_step-changes : (oracles : Oracles) (state : State) (store : StoreState) (argument : List ℕ) → (rcpt_step oracles state store argument).changes ≡ []
+rcpt_step-changes oracles (mail client envelope) store argument = rcpt_to-changes oracles client envelope store (path_read oracles (alone (path_after (codes "TO:") argument)))
+rcpt_step-changes oracles fresh store argument = refl
+rcpt_step-changes oracles (greeted client) store argument = refl
+rcpt_step-changes oracles (collecting client envelope) store argument = refl
+rcpt_step-changes oracles ended store argument = refl
 
 data_step-changes : (state : State) → (data_step state).changes ≡ []
 data_step-changes (mail client envelope) = same_changes (envelope_recipient_count envelope == 0) _ _ refl refl
@@ -195,18 +195,18 @@ data_step-changes (collecting client envelope) = refl
 data_step-changes ended = refl
 
 -- a command changes nothing in the store
-pub step-changes : (meanings : Meanings) (state : State) (store : StoreState) (word : Verb) (argument : List ℕ) → (step meanings state store word argument).changes ≡ []
+pub step-changes : (oracles : Oracles) (state : State) (store : StoreState) (word : Verb) (argument : List ℕ) → (step oracles state store word argument).changes ≡ []
 unfolding step
-step-changes meanings state store verb.Ehlo argument = same_changes (is_client argument) _ _ refl refl
-step-changes meanings state store verb.Helo argument = same_changes (is_client argument) _ _ refl refl
-step-changes meanings state store verb.Mail argument = mail_step-changes meanings state store argument
-step-changes meanings state store verb.Rcpt argument = rcpt_step-changes meanings state store argument
-step-changes meanings state store verb.Data argument = data_step-changes state
-step-changes meanings state store verb.Rset argument = refl
-step-changes meanings state store verb.Noop argument = refl
-step-changes meanings state store verb.Vrfy argument = refl
-step-changes meanings state store verb.Quit argument = refl
-step-changes meanings state store verb.Other argument = refl
+step-changes oracles state store verb.Ehlo argument = same_changes (is_client argument) _ _ refl refl
+step-changes oracles state store verb.Helo argument = same_changes (is_client argument) _ _ refl refl
+step-changes oracles state store verb.Mail argument = mail_step-changes oracles state store argument
+step-changes oracles state store verb.Rcpt argument = rcpt_step-changes oracles state store argument
+step-changes oracles state store verb.Data argument = data_step-changes state
+step-changes oracles state store verb.Rset argument = refl
+step-changes oracles state store verb.Noop argument = refl
+step-changes oracles state store verb.Vrfy argument = refl
+step-changes oracles state store verb.Quit argument = refl
+step-changes oracles state store verb.Other argument = refl
 
 -- ---- each line is ASCII
 
@@ -253,9 +253,9 @@ ascii-lines store named = record {
 }
 
 -- of each command, in each state
-step_fit : (meanings : Meanings) (state : State) (store : StoreState) (verb : Verb) (argument : List ℕ) → IsStoreName (name_of store.kept)
-    → AreFit (step meanings state store verb argument).reply
-step_fit meanings state store verb argument named = step_said IsFit meanings state store verb argument (ascii-lines store named)
+step_fit : (oracles : Oracles) (state : State) (store : StoreState) (verb : Verb) (argument : List ℕ) → IsStoreName (name_of store.kept)
+    → AreFit (step oracles state store verb argument).reply
+step_fit oracles state store verb argument named = step_said IsFit oracles state store verb argument (ascii-lines store named)
 
 -- one of four steps by three tests
 end_fit : (large is_message refused : Bool) (a b c d : Step) → AreFit a.reply → AreFit b.reply → AreFit c.reply → AreFit d.reply
@@ -281,80 +281,80 @@ pub named_after : (old new : Kept) → new.domains ≡ old.domains → IsStoreNa
 named_after old new same named = subst (λ (domains : List (List ℕ)). IsStoreName (slice_index_or domains 0 (codes "localhost"))) (sym same) named
 
 -- the store has a name behind these changes
-abbrev IsNamedBehind : StoreState → List (List Record) → Type 0
-IsNamedBehind store made = IsStoreName (name_of (with_records store (records_of made)).kept)
+abbrev IsNamedAfter : StoreState → List (List Record) → Type 0
+IsNamedAfter store made = IsStoreName (name_of (with_records store (records_of made)).kept)
 
-named_as : (store : StoreState) (made : List (List Record)) → made ≡ [] → IsStoreName (name_of store.kept) → IsNamedBehind store made
+named_as : (store : StoreState) (made : List (List Record)) → made ≡ [] → IsStoreName (name_of store.kept) → IsNamedAfter store made
 named_as store made none named = rw none named
 
 -- behind a command
-step_named : (meanings : Meanings) (state : State) (store : StoreState) (verb : Verb) (argument : List ℕ) → IsStoreName (name_of store.kept)
-    → IsNamedBehind store (step meanings state store verb argument).changes
-step_named meanings state store verb argument = named_as store _ (step-changes meanings state store verb argument)
+step_named : (oracles : Oracles) (state : State) (store : StoreState) (verb : Verb) (argument : List ℕ) → IsStoreName (name_of store.kept)
+    → IsNamedAfter store (step oracles state store verb argument).changes
+step_named oracles state store verb argument = named_as store _ (step-changes oracles state store verb argument)
 
-delivered_named : (store : StoreState) (delivery : Delivery) → IsStoreName (name_of store.kept) → IsNamedBehind store (delivered store.kept delivery ∷ [])
+delivered_named : (store : StoreState) (delivery : Delivery) → IsStoreName (name_of store.kept) → IsNamedAfter store (delivered store.kept delivery ∷ [])
 delivered_named store delivery named =
     let records = delivered store.kept delivery in
     rw (append-nil records) (named_after store.kept (after_all store.kept records) (delivered_domains store.kept delivery) named)
 
 -- behind the end of data
 end_by_named : (is_message : Bool) (store : StoreState) (client : Client) (delivery : Delivery) → IsStoreName (name_of store.kept)
-    → IsNamedBehind store (end_by is_message store client delivery).changes
+    → IsNamedAfter store (end_by is_message store client delivery).changes
 end_by_named is_message store client delivery named =
-    let P : Step → Type 0 = λ taken. IsNamedBehind store taken.changes in
+    let P : Step → Type 0 = λ taken. IsNamedAfter store taken.changes in
     cond_both (has_large_octets store.message_max delivery) _ _ P (λ large. named)
     (λ small. cond_both (not is_message) _ _ P (λ none. named)
     (λ message. cond_both (is_some (delivery_refusal store delivery)) _ _ P (λ refused. named) (λ room. delivered_named store delivery named)))
 
 -- ---- the laws of replies
 
-pub begins_fit_by : (meanings : Meanings) → AreMeanings meanings → (moments : List Moment) (desk : Desk) → IsOpen desk
-    → IsFitTurn smtp_protocol meanings (record { parts = smtp_protocol.opening desk.store; after = smtp_protocol.start moments desk.store; rest = [] })
-begins_fit_by meanings are moments desk opens = record {
+pub begins_fit_by : (oracles : Oracles) → AreOracles oracles → (moments : List Moment) (desk : Desk) → IsOpen desk
+    → IsFitTurn smtp_protocol oracles (record { parts = smtp_protocol.opening desk.store; after = smtp_protocol.start moments desk.store; rest = [] })
+begins_fit_by oracles are moments desk opens = record {
   fit = fit_acts IsFit [] (greeting (name_of desk.store.kept)) (greeting_fit (name_of desk.store.kept) opens.named);
   sound = opens.named;
 }
 
-abbrev IsFitFor : Meanings → Turn Machine (Act (List ℕ)) → Type 0
-IsFitFor meanings turn = IsFitTurn smtp_protocol meanings turn
+abbrev IsFitFor : Oracles → Turn Machine (Act (List ℕ)) → Type 0
+IsFitFor oracles turn = IsFitTurn smtp_protocol oracles turn
 
-line_fits : (meanings : Meanings) (machine : Machine) (framed : Framed) (turn : Turn Machine (Act (List ℕ))) → IsStoreName (name_of machine.store.kept) → line_turn meanings machine framed ≡ Some turn
-    → IsFitFor meanings turn
-line_fits meanings machine waiting turn named is = absurd (none-some _ is)
-line_fits meanings machine (whole text rest) turn named is =
+line_fits : (oracles : Oracles) (machine : Machine) (framed : Framed) (turn : Turn Machine (Act (List ℕ))) → IsStoreName (name_of machine.store.kept) → line_turn oracles machine framed ≡ Some turn
+    → IsFitFor oracles turn
+line_fits oracles machine waiting turn named is = absurd (none-some _ is)
+line_fits oracles machine (whole text rest) turn named is =
     let command = command_of text in
-    let taken = step meanings machine.state machine.store command.verb command.argument in
-    subst (IsFitFor meanings) (same_Some _ _ is)
+    let taken = step oracles machine.state machine.store command.verb command.argument in
+    subst (IsFitFor oracles) (same_Some _ _ is)
     (record {
-      fit = fit_acts IsFit taken.changes taken.reply (step_fit meanings machine.state machine.store command.verb command.argument named);
-      sound = step_named meanings machine.state machine.store command.verb command.argument named;
+      fit = fit_acts IsFit taken.changes taken.reply (step_fit oracles machine.state machine.store command.verb command.argument named);
+      sound = step_named oracles machine.state machine.store command.verb command.argument named;
     })
-line_fits meanings machine (too_long rest) turn named is =
-    subst (IsFitFor meanings) (same_Some _ _ is) (record { fit = fit_acts IsFit [] line_too_long (refl, tt); sound = named })
+line_fits oracles machine (too_long rest) turn named is =
+    subst (IsFitFor oracles) (same_Some _ _ is) (record { fit = fit_acts IsFit [] line_too_long (refl, tt); sound = named })
 
-data_fit : (meanings : Meanings) (machine : Machine) (client : Client) (envelope : Envelope) (found : Option Cut) (turn : Turn Machine (Act (List ℕ))) → IsStoreName (name_of machine.store.kept)
-    → option_map (data_turn meanings machine client envelope) found ≡ Some turn → IsFitFor meanings turn
-data_fit meanings machine client envelope None turn named is = absurd (none-some _ is)
-data_fit meanings machine client envelope (Some cut) turn named is =
+data_fit : (oracles : Oracles) (machine : Machine) (client : Client) (envelope : Envelope) (found : Option Cut) (turn : Turn Machine (Act (List ℕ))) → IsStoreName (name_of machine.store.kept)
+    → option_map (data_turn oracles machine client envelope) found ≡ Some turn → IsFitFor oracles turn
+data_fit oracles machine client envelope None turn named is = absurd (none-some _ is)
+data_fit oracles machine client envelope (Some cut) turn named is =
     let octets = unstuffed cut.line in
     let moment = next_moment machine.moments in
     let delivery = delivery_of machine.store client envelope moment octets in
-    let taken = end_data meanings machine.store client envelope moment octets in
-    subst (IsFitFor meanings) (same_Some _ _ is)
+    let taken = end_data oracles machine.store client envelope moment octets in
+    subst (IsFitFor oracles) (same_Some _ _ is)
     (record {
-      fit = fit_acts IsFit taken.changes taken.reply (end_by_fit (meanings.has_tree octets) machine.store client delivery);
-      sound = end_by_named (meanings.has_tree octets) machine.store client delivery named;
+      fit = fit_acts IsFit taken.changes taken.reply (end_by_fit (oracles.has_tree octets) machine.store client delivery);
+      sound = end_by_named (oracles.has_tree octets) machine.store client delivery named;
     })
 
-fits_in : (meanings : Meanings) (state : State) (machine : Machine) (octets : List ℕ) (turn : Turn Machine (Act (List ℕ))) → IsStoreName (name_of machine.store.kept)
-    → turn_from meanings state machine octets ≡ Some turn → IsFitFor meanings turn
-fits_in meanings fresh machine octets turn named is = line_fits meanings machine (next_line octets) turn named is
-fits_in meanings (greeted client) machine octets turn named is = line_fits meanings machine (next_line octets) turn named is
-fits_in meanings (mail client envelope) machine octets turn named is = line_fits meanings machine (next_line octets) turn named is
-fits_in meanings (collecting client envelope) machine octets turn named is = data_fit meanings machine client envelope (data_cut octets) turn named is
-fits_in meanings ended machine octets turn named is = absurd (none-some _ is)
+fits_in : (oracles : Oracles) (state : State) (machine : Machine) (octets : List ℕ) (turn : Turn Machine (Act (List ℕ))) → IsStoreName (name_of machine.store.kept)
+    → turn_from oracles state machine octets ≡ Some turn → IsFitFor oracles turn
+fits_in oracles fresh machine octets turn named is = line_fits oracles machine (next_line octets) turn named is
+fits_in oracles (greeted client) machine octets turn named is = line_fits oracles machine (next_line octets) turn named is
+fits_in oracles (mail client envelope) machine octets turn named is = line_fits oracles machine (next_line octets) turn named is
+fits_in oracles (collecting client envelope) machine octets turn named is = data_fit oracles machine client envelope (data_cut octets) turn named is
+fits_in oracles ended machine octets turn named is = absurd (none-some _ is)
 
-pub fits_by : (meanings : Meanings) → AreMeanings meanings → (machine : Machine) (octets : List ℕ) (turn : Turn Machine (Act (List ℕ))) → IsStoreName (name_of machine.store.kept)
-    → next_turn meanings machine octets ≡ Some turn → IsFitTurn smtp_protocol meanings turn
+pub fits_by : (oracles : Oracles) → AreOracles oracles → (machine : Machine) (octets : List ℕ) (turn : Turn Machine (Act (List ℕ))) → IsStoreName (name_of machine.store.kept)
+    → next_turn oracles machine octets ≡ Some turn → IsFitTurn smtp_protocol oracles turn
 unfolding next_turn
-fits_by meanings are machine octets turn named is = fits_in meanings machine.state machine octets turn named is
+fits_by oracles are machine octets turn named is = fits_in oracles machine.state machine octets turn named is

@@ -4,7 +4,7 @@ use Rattle.mail_wire.specs.declared.outside.Fault.{Fault}
 use Rattle.mail_store.specs.StoreState.{StoreState}
 use Rattle.session_core.specs.Around.{Around}
 use Rattle.session_core.specs.Doing.{Does}
-use Rattle.session_core.specs.Meanings.{Meanings, TellsTrees}
+use Rattle.session_core.specs.Oracles.{Oracles, TellsTrees}
 use Rattle.session_core.specs.declared.desk.Desk.{Desk}
 use Rattle.smtp_grammar.specs.Commands.{command_of}
 use Rattle.smtp_session.specs.Machine.{Step, acts_in, step}
@@ -27,17 +27,17 @@ pub record IsFirst (session : SmtpMachine) (desk : Desk) : Type 0 where
   pub has : HasRest session session.state [] []
   pub ready : SmtpReady session [] desk
 
-abbrev pub state_behind : Option SmtpMachine → Option SmtpState
-state_behind None = None
-state_behind (Some session) = Some session.state
+abbrev pub state_after : Option SmtpMachine → Option SmtpState
+state_after None = None
+state_after (Some session) = Some session.state
 
 abbrev pub IsFirstNext : Option SmtpMachine → Desk → Type 0
 IsFirstNext None desk = Unit {0}
 IsFirstNext (Some session) desk = IsFirst session desk
 
 -- what a line brings
-abbrev pub stepped : Meanings → SmtpState → StoreState → List ℕ → Step
-stepped meanings state store line = step meanings (state_of state) store (command_of line).verb (command_of line).argument
+abbrev pub stepped : Oracles → SmtpState → StoreState → List ℕ → Step
+stepped oracles state store line = step oracles (state_of state) store (command_of line).verb (command_of line).argument
 
 -- lines are read in this state
 abbrev pub ReadsLines : SmtpState → Type 0

@@ -67,7 +67,7 @@ fn have_octets(store: &Store, queue: &[Queued]) -> bool
 }
 
 // Whether the queue is told so.
-fn tells(store: &Store, alloc: Global, told: &[u8]) -> Result<bool, Fail> {
+fn observed(store: &Store, alloc: Global, told: &[u8]) -> Result<bool, Fail> {
     let queue = store.queue()?;
     let mut row = Octets::new(alloc);
     for one in queue.as_slice() {
@@ -80,7 +80,7 @@ fn tells(store: &Store, alloc: Global, told: &[u8]) -> Result<bool, Fail> {
 fn tells_again(alloc: Global, octets: &[u8], told: &[u8]) -> Result<bool, Fail> {
     let mut keeper = keeper_of(alloc, octets, None)?;
     let store = Store::open(alloc, &mut keeper, 1000)?;
-    tells(&store, alloc, told)
+    observed(&store, alloc, told)
 }
 
 // Whether taking a recipient of an entry off answers this.
@@ -114,7 +114,7 @@ fn goes_once(alloc: Global) -> Result<bool, Fail> {
     }
     let written = keeper.octets().len() == QUEUE.len() + 13 && keeper.octets().ends_with(&SETTLED);
     let again = tells_again(alloc, keeper.octets(), ONE_WAITS)?;
-    Ok(written && again && tells(&store, alloc, ONE_WAITS)?)
+    Ok(written && again && observed(&store, alloc, ONE_WAITS)?)
 }
 
 // Whether the queue is told rightly whenever a recipient of three went, not in their order, and so is that of the journal.
@@ -128,7 +128,7 @@ fn go_in_turn(alloc: Global) -> Result<bool, Fail> {
     ];
     for (index, told) in rows {
         let gone = settles(&mut store, &mut keeper, 0, index, Ok(()))?;
-        if !gone || !tells(&store, alloc, told)? || !tells_again(alloc, keeper.octets(), told)? {
+        if !gone || !observed(&store, alloc, told)? || !tells_again(alloc, keeper.octets(), told)? {
             return Ok(false);
         }
     }
@@ -140,7 +140,7 @@ fn stays(alloc: Global, call: u64) -> Result<bool, Fail> {
     let mut keeper = keeper_of(alloc, &QUEUE, failing(call))?;
     let mut store = Store::open(alloc, &mut keeper, 1000)?;
     let told = settles(&mut store, &mut keeper, 0, 1, Err(StoreFault::Keeper))?;
-    Ok(told && store.failed() && tells(&store, alloc, TWO_WAIT)?)
+    Ok(told && store.failed() && observed(&store, alloc, TWO_WAIT)?)
 }
 
 // Whether a message that is delivered is told behind those that wait.
@@ -151,7 +151,7 @@ fn follows(alloc: Global) -> Result<bool, Fail> {
         return Ok(false);
     }
     let told: &[u8] = b"0 <> 1 d@z.org;1 <b@y.org> 0 \xc3\xa9@z.org;3 <b@y.org> 0 c@z.org;";
-    Ok(tells(&store, alloc, told)? && tells_again(alloc, keeper.octets(), told)?)
+    Ok(observed(&store, alloc, told)? && tells_again(alloc, keeper.octets(), told)?)
 }
 
 // Whether a message whose delivery failed isn't in the queue.
@@ -159,7 +159,7 @@ fn is_left_out(alloc: Global, call: u64) -> Result<bool, Fail> {
     let mut keeper = keeper_of(alloc, &QUEUE, failing(call))?;
     let mut store = Store::open(alloc, &mut keeper, 1000)?;
     let delivered = is_delivered(&mut store, &mut keeper, alloc, &[])?;
-    Ok(!delivered && store.failed() && tells(&store, alloc, TWO_WAIT)?)
+    Ok(!delivered && store.failed() && observed(&store, alloc, TWO_WAIT)?)
 }
 
 #[test]

@@ -26,7 +26,7 @@ pub record IsKeptAt (pool : PoolState) (pair : ℕ × ℕ) : Type 0 where
 -- No message has two entries. Each entry has a place of its own, where its stored rope is held, and the pool holds nothing else: the blocks
 -- in use are those of the entries, and no more than the pool has.
 pub record IsKept (pool : PoolState) (pairs : List (ℕ × ℕ)) : Type 0 where
-  pub apart : IsDistinct nat_eq (keys_of pairs)
+  pub distinct : IsDistinct nat_eq (keys_of pairs)
   pub own : IsDistinct nat_eq (values_of pairs)
   pub each : AllByRecursion (IsKeptAt pool) pairs
   pub only : length pool.held ≡ length pairs

@@ -32,7 +32,7 @@ pub record HoldsPieces (octets : List ℕ) (pieces : List Piece) (size : ℕ) : 
 pub record IsInPiece (pieces : List RopePiece) (place number : ℕ) : Type 0 where
   pub inside : number < length pieces
   pub before : size_of (take number pieces) ≤ place
-  pub behind : place < size_of (take (number + 1) pieces)
+  pub following : place < size_of (take (number + 1) pieces)
 
 -- a piece as it is kept
 abbrev pub piece_at : ℕ → Bool → Span → Piece

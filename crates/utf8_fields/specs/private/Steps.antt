@@ -5,7 +5,7 @@ use Rattle.std.specs.Str.Lossy.{utf8_valid_len}
 use Rattle.mail_wire.specs.Lines.{lines_of}
 use Rattle.mail_wire.specs.Message.{IsSound}
 use Rattle.mail_wire.specs.Octets.{is_white}
-use Rattle.mail_wire.specs.Spans.{StopsBehind}
+use Rattle.mail_wire.specs.Spans.{StopsAfter}
 use Rattle.utf8_fields.specs.declared.block.FieldFault.{FieldFault}
 use Rattle.utf8_fields.specs.declared.block.FieldFault.TheVariants.{NotField, NotUtf8}
 use Rattle.utf8_fields.specs.declared.block.Field.{Field}
@@ -71,4 +71,4 @@ pub record TrimsEnd (octets trimmed : List ℕ) : Type 0 where
   pub trail : List ℕ
   pub white : list_all is_white trail ≡ true
   pub whole : octets ≡ trimmed ++ trail
-  pub ends : StopsBehind is_white trimmed
+  pub ends : StopsAfter is_white trimmed

@@ -7,4 +7,4 @@ use Rattle.address_grammar.proofs.addresses.are_dotted.Goals as goal
 pub returns : goal.returns
 returns c =
     c.are_blank.ensures
-    ∙ sym (c.loop-behind.invariant ∙ dot_other (is_part c.args.allows_quoted) (values_of c.loop-behind.rest) c.in_default-dot_rest.ensures.none)
+    ∙ sym (c.loop-following.invariant ∙ dot_other (is_part c.args.allows_quoted) (values_of c.loop-following.rest) c.in_default-dot_rest.ensures.none)

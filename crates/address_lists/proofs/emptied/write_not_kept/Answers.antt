@@ -1,6 +1,6 @@
 use Rattle.std.proofs.lemmas.Result.{on_ok_weaker}
 use Rattle.std.proofs.Common.{false}
-use Rattle.address_lists.proofs.WritableTokens.{before_can, behind_can}
+use Rattle.address_lists.proofs.WritableTokens.{before_can, following_can}
 use Rattle.address_lists.proofs.KeptGroups.{no_colon, no_semicolon, group_at, not_kept_members, emptied_group}
 use Rattle.address_lists.proofs.emptied.write_not_kept.Goals as goal
 
@@ -20,7 +20,7 @@ pub write_group_units-requires-clause-members : goal.write_group_units-requires-
 write_group_units-requires-clause-members c =
     let s = c.in-Some.ensures.found in
     let t = c.in-Some-split_at_mark.ensures.found in
-    before_can _ _ _ t.at t.whole (behind_can _ _ _ s.at s.whole c.requires.writable)
+    before_can _ _ _ t.at t.whole (following_can _ _ _ s.at s.whole c.requires.writable)
 
 pub write_group_units-requires-clause-some : goal.write_group_units-requires-clause-some
 write_group_units-requires-clause-some c = not_kept_members _ _ _ _ _ c.requires.group c.in-Some.ensures.found c.in-Some-split_at_mark.ensures.found

@@ -2,13 +2,13 @@ use Rattle.std.proofs.Common.{◌≡◌, Err, ap}
 use Rattle.std.proofs.lemmas.Result.{err_from_is_err_and}
 use Rattle.address_grammar.specs.declared.AddressFault.TheVariants.{Malformed}
 use Rattle.address_grammar.proofs.PathLemmas.{fault_is}
-use Rattle.address_lists.proofs.WritableTokens.{behind_can}
+use Rattle.address_lists.proofs.WritableTokens.{following_can}
 use Rattle.address_grammar.proofs.ListLemmas.{element_group}
 use Rattle.address_lists.proofs.ListRewriting.{group_read}
 use Rattle.address_lists.proofs.written_groups.write_group.Goals as goal
 
 pub is_served_group-requires : goal.is_served_group-requires
-is_served_group-requires c = let s = c.requires.splits.splits in behind_can _ _ _ s.at s.whole c.requires.writable
+is_served_group-requires c = let s = c.requires.splits.splits in following_can _ _ _ s.at s.whole c.requires.writable
 
 pub returns-in_err-is_served-clause-malformed : goal.returns-in_err-is_served-clause-malformed
 returns-in_err-is_served-clause-malformed c = λ e f is.

@@ -1,6 +1,6 @@
 use Rattle.std.proofs.Common.{true}
 use Rattle.std.proofs.lemmas.Result.{on_ok_weaker}
-use Rattle.address_lists.proofs.WritableTokens.{before_can, behind_can}
+use Rattle.address_lists.proofs.WritableTokens.{before_can, following_can}
 use Rattle.address_lists.proofs.KeptGroups.{no_colon, group_at, no_semicolon, inner_known, kept_adds}
 use Rattle.address_lists.proofs.written_groups.write_kept.Goals as goal
 
@@ -26,13 +26,13 @@ pub write_inner-requires-clause-writable : goal.write_inner-requires-clause-writ
 write_inner-requires-clause-writable c =
     let s = c.in-Some.ensures.found in
     let t = c.in-Some-split_at_mark.ensures.found in
-    before_can _ _ _ t.at t.whole (behind_can _ _ _ s.at s.whole c.requires.writable)
+    before_can _ _ _ t.at t.whole (following_can _ _ _ s.at s.whole c.requires.writable)
 
 pub write_comments-requires : goal.write_comments-requires
 write_comments-requires c =
     let s = c.in-Some.ensures.found in
     let t = c.in-Some-split_at_mark.ensures.found in
-    (behind_can _ _ _ t.at t.whole (behind_can _ _ _ s.at s.whole c.requires.writable)).comments
+    (following_can _ _ _ t.at t.whole (following_can _ _ _ s.at s.whole c.requires.writable)).comments
 
 pub returns : goal.returns
 returns c = on_ok_weaker c.write_comments.result

@@ -1,7 +1,7 @@
 use Rattle.std.proofs.lemmas.Result.{on_ok_weaker}
 use Rattle.address_grammar.specs.Found.{found_value}
 use Rattle.encoded_words.proofs.LineLemmas.{adds_as}
-use Rattle.address_lists.proofs.WritableTokens.{before_can, behind_can}
+use Rattle.address_lists.proofs.WritableTokens.{before_can, following_can}
 use Rattle.address_grammar.proofs.MailboxLemmas.{not_open, named_phrase}
 use Rattle.address_lists.proofs.ServedMailboxes.{in_brackets, angled_adds, named_pieces}
 use Rattle.address_lists.proofs.written_mailboxes.write_angled.Goals as goal
@@ -19,8 +19,8 @@ write_named-requires-clause-phrase c =
 pub write_named-requires-clause-before : goal.write_named-requires-clause-before
 write_named-requires-clause-before c = let s = c.in-Some.ensures.found in before_can _ _ _ s.at s.whole c.requires.writable
 
-pub write_named-requires-clause-behind : goal.write_named-requires-clause-behind
-write_named-requires-clause-behind c = let s = c.in-Some.ensures.found in behind_can _ _ _ s.at s.whole c.requires.writable
+pub write_named-requires-clause-following : goal.write_named-requires-clause-following
+write_named-requires-clause-following c = let s = c.in-Some.ensures.found in following_can _ _ _ s.at s.whole c.requires.writable
 
 pub returns-then-mailbox : goal.returns-then-mailbox
 returns-then-mailbox c =

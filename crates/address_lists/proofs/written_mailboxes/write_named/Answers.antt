@@ -16,7 +16,7 @@ pub write_comments-requires : goal.write_comments-requires
 write_comments-requires c = trail_writable _ _ _ c.requires.before.comments c.split_core.ensures
 
 pub write_comments-requires-2 : goal.write_comments-requires-2
-write_comments-requires-2 c = c.requires.behind.comments
+write_comments-requires-2 c = c.requires.following.comments
 
 pub returns : goal.returns
 returns c = on_ok_weaker c.write_comments-2.result

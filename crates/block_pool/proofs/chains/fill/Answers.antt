@@ -24,4 +24,4 @@ loop-place-preserved c =
 pub returns : goal.returns
 returns c =
     let both = filling_ends _ _ _ _ _ _ _ c.loop-place.invariant (rw (← c.needed-place-end.ensures) c.loop-place-test.false) in
-    record { filled = both.0; behind = both.1 }
+    record { filled = both.0; following = both.1 }

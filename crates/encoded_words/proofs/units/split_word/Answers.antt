@@ -1,13 +1,13 @@
 use Rattle.std.proofs.Common.{sym, ◌∙◌}
-use Rattle.mail_wire.proofs.SpanLemmas.{IsSpan-found, IsSpan-whole, IsSpan-at, black_opposite}
+use Rattle.mail_wire.proofs.SpanLemmas.{IsSpan-found, IsSpan-whole, IsSpan-at, nonwhite_opposite}
 use Rattle.encoded_words.proofs.units.split_word.Goals as goal
 
 pub returns-in-Some : goal.returns-in-Some
 returns-in-Some c =
-    let found = IsSpan-found _ _ c.args.octets.now c.in-Some.at black_opposite (sym c.find_white.ensures ∙ c.in-Some.is) in
+    let found = IsSpan-found _ _ c.args.octets.now c.in-Some.at nonwhite_opposite (sym c.find_white.ensures ∙ c.in-Some.is) in
     IsSpan-at _ _ _ _ _ _ c.split_at.ensures.front c.split_at.ensures.back found.1
 
 pub returns-in-None : goal.returns-in-None
 returns-in-None c =
-    let whole = IsSpan-whole _ _ c.args.octets.now black_opposite (sym c.find_white.ensures ∙ c.in-None.is) in
+    let whole = IsSpan-whole _ _ c.args.octets.now nonwhite_opposite (sym c.find_white.ensures ∙ c.in-None.is) in
     IsSpan-at _ _ _ _ _ _ c.split_at-in-None.ensures.front c.split_at-in-None.ensures.back whole

@@ -9,4 +9,4 @@ write_comments-requires c = date_writable _ (rw (c.in-Some.is) at c.requires.rea
 pub returns : goal.returns
 returns c =
     on_ok_weaker c.write_comments.result
-    (λ adds. rw (c.in-Some.is) (date_put (values_of c.in-Some.behind) c.args.said.now _ _ _ (rw (c.in-Some.is) at c.requires.said) c.in_ok-put_word.ensures adds)) c.write_comments.ensures
+    (λ adds. rw (c.in-Some.is) (date_put (values_of c.in-Some.following) c.args.said.now _ _ _ (rw (c.in-Some.is) at c.requires.said) c.in_ok-put_word.ensures adds)) c.write_comments.ensures

@@ -9,19 +9,19 @@ loop-copied-init c = body_start c.args.body.now _ _ c.args.made.now c.push_copie
 pub write_segment-requires : goal.write_segment-requires
 write_segment-requires c =
     let some : 0 < length c.loop-copied.rest.now = grind (arith, nat_tests) in
-    turn_can _ _ _ _ _ _ _ _ _ (turn c.args.body.now c.args.made.now c.loop-copied.made c.loop-copied.copied c.in_ok-core.core c.in_ok-next_copied.next_copied c.loop-copied.rest.now c.in_ok-core.behind.now
+    turn_can _ _ _ _ _ _ _ _ _ (turn c.args.body.now c.args.made.now c.loop-copied.made c.loop-copied.copied c.in_ok-core.core c.in_ok-next_copied.next_copied c.loop-copied.rest.now c.in_ok-core.following.now
     c.in_ok-next_copied.next.now c.loop-copied.invariant some c.in_ok-core.ensures c.in_ok-next_copied.ensures)
 
 pub loop-copied-smaller : goal.loop-copied-smaller
 loop-copied-smaller c =
     let some : 0 < length c.loop-copied.rest.now = grind (arith, nat_tests) in
-    turn_smaller _ _ _ _ _ _ _ _ _ (turn c.args.body.now c.args.made.now c.loop-copied.made c.loop-copied.copied c.in_ok-core.core c.in_ok-next_copied.next_copied c.loop-copied.rest.now c.in_ok-core.behind.now
+    turn_smaller _ _ _ _ _ _ _ _ _ (turn c.args.body.now c.args.made.now c.loop-copied.made c.loop-copied.copied c.in_ok-core.core c.in_ok-next_copied.next_copied c.loop-copied.rest.now c.in_ok-core.following.now
     c.in_ok-next_copied.next.now c.loop-copied.invariant some c.in_ok-core.ensures c.in_ok-next_copied.ensures)
 
 pub loop-copied-preserved : goal.loop-copied-preserved
 loop-copied-preserved c =
     let some : 0 < length c.loop-copied.rest.now = grind (arith, nat_tests) in
-    turn_next _ _ _ _ _ _ _ _ _ _ (turn c.args.body.now c.args.made.now c.loop-copied.made c.loop-copied.copied c.in_ok-core.core c.in_ok-next_copied.next_copied c.loop-copied.rest.now c.in_ok-core.behind.now
+    turn_next _ _ _ _ _ _ _ _ _ _ (turn c.args.body.now c.args.made.now c.loop-copied.made c.loop-copied.copied c.in_ok-core.core c.in_ok-next_copied.next_copied c.loop-copied.rest.now c.in_ok-core.following.now
     c.in_ok-next_copied.next.now c.loop-copied.invariant some c.in_ok-core.ensures c.in_ok-next_copied.ensures) c.in_ok-write_segment.ensures
 
 pub returns : goal.returns

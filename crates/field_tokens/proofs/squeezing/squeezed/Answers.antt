@@ -17,18 +17,18 @@ loop-token-preserved c =
     let tokens = c.args.tokens.now in
     let token = get_or tokens c.loop-token.token-index no_token in
     let rest = drop (c.loop-token.token-index + 1) tokens in
-    let next = Squeezes-at text tokens c.loop-token.made c.loop-token.is_apart c.loop-token.token-index no_token c.loop-token.invariant below in
+    let next = Squeezes-at text tokens c.loop-token.made c.loop-token.has_space_before c.loop-token.token-index no_token c.loop-token.invariant below in
     elim c.if-is_blank.branch [
       | then-is_blank w ↦
-          let blank = Squeezes-blank text tokens c.loop-token.made c.loop-token.is_apart (not w.is_empty-is_apart.result) token rest next (sym c.is_blank.ensures ∙ w.if-is_blank.true)
-          (λ none. ap not (w.is_empty-is_apart.ensures.1 none)) (not_empty c.loop-token.made w.is_empty-is_apart.result w.is_empty-is_apart.ensures.0) in
-          rw (w.made-is, w.is_apart-is) blank
+          let blank = Squeezes-blank text tokens c.loop-token.made c.loop-token.has_space_before (not w.is_empty-has_space_before.result) token rest next (sym c.is_blank.ensures ∙ w.if-is_blank.true)
+          (λ none. ap not (w.is_empty-has_space_before.ensures.1 none)) (not_empty c.loop-token.made w.is_empty-has_space_before.result w.is_empty-has_space_before.ensures.0) in
+          rw (w.made-is, w.has_space_before-is) blank
       | else-is_blank+in_ok-push_token w ↦
           let stands = neighbour_stands text tokens c.loop-token.token-index no_token c.requires below in
-          let kept = Squeezes-kept text tokens c.loop-token.made _ c.loop-token.is_apart token rest next (sym c.is_blank.ensures ∙ w.if-is_blank.false) stands.some
-          (w.in_ok-push_token.ensures ∙ ap (λ r. c.loop-token.made ++ (space c.loop-token.is_apart ++ r)) w.octets_of.ensures) in
-          rw (w.made-is, w.is_apart-is) kept
+          let kept = Squeezes-kept text tokens c.loop-token.made _ c.loop-token.has_space_before token rest next (sym c.is_blank.ensures ∙ w.if-is_blank.false) stands.some
+          (w.in_ok-push_token.ensures ∙ ap (λ r. c.loop-token.made ++ (space c.loop-token.has_space_before ++ r)) w.octets_of.ensures) in
+          rw (w.made-is, w.has_space_before-is) kept
     ]
 
 pub returns : goal.returns
-returns c = Squeezes-all c.args.text.now c.args.tokens.now c.loop-token.made c.loop-token.is_apart _ c.loop-token.invariant (drop_all c.loop-token.token-index c.args.tokens.now (omega arith))
+returns c = Squeezes-all c.args.text.now c.args.tokens.now c.loop-token.made c.loop-token.has_space_before _ c.loop-token.invariant (drop_all c.loop-token.token-index c.args.tokens.now (omega arith))

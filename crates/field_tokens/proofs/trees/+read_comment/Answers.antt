@@ -1,6 +1,6 @@
 use Rattle.std.proofs.Common.{◌≡◌, ◌<◌, ◌∷◌, arith, ap, ◌∙◌}
 use Rattle.field_tokens.proofs.TreeLemmas.{tree_roll}
-use Rattle.field_tokens.proofs.CommentReading.{ReadsOn-none, ReadsOn-turn, ReadsOn-end, HoldsBody-inner, mark_follows, mark_there, opens_of, behind_bound}
+use Rattle.field_tokens.proofs.CommentReading.{ReadsOn-none, ReadsOn-turn, ReadsOn-end, HoldsBody-inner, mark_follows, mark_there, opens_of, after_bound}
 use Rattle.field_tokens.proofs.trees.+read_comment.Goals as goal
 
 pub loop-items-init : goal.loop-items-init
@@ -20,7 +20,7 @@ read_comment-requires t c =
     let opens = opens_of c.args.levels _ _ _ marks c.split_mark-mark.ensures c.if-mark-eq41.false in
     let inner = HoldsBody-inner c.args.levels _ opens.1 in
     let some : 0 < c.args.levels = inner.0 in
-    (omega arith, (behind_bound c.args.end c.loop-items.rest.now _ _ _ c.split_text-run.ensures opens.0 c.loop-items.invariant.bound, inner.1))
+    (omega arith, (after_bound c.args.end c.loop-items.rest.now _ _ _ c.split_text-run.ensures opens.0 c.loop-items.invariant.bound, inner.1))
 
 pub loop-items-preserved : goal.loop-items-preserved
 loop-items-preserved t c =

@@ -23,14 +23,14 @@ loop-separator-init c = record {
   joins = atom_joins _ _ _ c.in_ok-first.ensures;
 }
 
-pub returns-in_err-behind-clause-reads : goal.returns-in_err-behind-clause-reads
-returns-in_err-behind-clause-reads c =
-    passes_on _ _ c.from_residual-in_err-behind.result _ c.from_residual-in_err-behind.ensures.1
-    (ends_at never never _ (list_close 32 IsImapAtom IsCrlf _ _ _ c.loop-separator.invariant.so c.in-Some.ensures.cases.0 c.if-separator-ne32.true) c.in_err-behind.ensures.reads (λ _. never_avoids _) (λ _. is_viable _))
+pub returns-in_err-following-clause-reads : goal.returns-in_err-following-clause-reads
+returns-in_err-following-clause-reads c =
+    passes_on _ _ c.from_residual-in_err-following.result _ c.from_residual-in_err-following.ensures.1
+    (ends_at never never _ (list_close 32 IsImapAtom IsCrlf _ _ _ c.loop-separator.invariant.so c.in-Some.ensures.cases.0 c.if-separator-ne32.true) c.in_err-following.ensures.reads (λ _. never_avoids _) (λ _. is_viable _))
 
 pub returns-then-separator-ne32-clause-reads : goal.returns-then-separator-ne32-clause-reads
 returns-then-separator-ne32-clause-reads c =
-    (onwards (list_close 32 IsImapAtom IsCrlf _ _ _ c.loop-separator.invariant.so c.in-Some.ensures.cases.0 c.if-separator-ne32.true) c.in_ok-behind.ensures.reads (λ _. never_avoids _)).reads never _ _ (is_reads _ _)
+    (onwards (list_close 32 IsImapAtom IsCrlf _ _ _ c.loop-separator.invariant.so c.in-Some.ensures.cases.0 c.if-separator-ne32.true) c.in_ok-following.ensures.reads (λ _. never_avoids _)).reads never _ _ (is_reads _ _)
 
 pub returns-in_err-atom-clause-reads : goal.returns-in_err-atom-clause-reads
 returns-in_err-atom-clause-reads c =

@@ -17,15 +17,15 @@ loop-separator-init c = record { so = λ utf8. leaves_all _ _; joins = λ none. 
 pub returns-then-not-so_far-clause-reads : goal.returns-then-not-so_far-clause-reads
 returns-then-not-so_far-clause-reads c = λ utf8. hands_any utf8 _ (not_listed utf8 c.loop-separator.so_far (c.loop-separator.invariant.so utf8) (not-true _ c.if-not-so_far.true)) c.whole.ensures.reads
 
-pub returns-in_err-behind_items-clause-reads : goal.returns-in_err-behind_items-clause-reads
-returns-in_err-behind_items-clause-reads c = λ utf8.
+pub returns-in_err-after_items-clause-reads : goal.returns-in_err-after_items-clause-reads
+returns-in_err-after_items-clause-reads c = λ utf8.
     let at = items_close utf8 c.loop-separator.so_far (c.loop-separator.invariant.so utf8) (not-false _ c.if-not-so_far.false) _ _ c.in-Some.ensures.cases.0 c.if-separator-ne32.true in
-    passes_on _ _ c.from_residual.result _ c.from_residual.ensures.1 (ends_at never never _ (here at) c.in_err-behind_items.ensures (λ _. never_avoids _) (λ _. bare_viable _))
+    passes_on _ _ c.from_residual.result _ c.from_residual.ensures.1 (ends_at never never _ (here at) c.in_err-after_items.ensures (λ _. never_avoids _) (λ _. bare_viable _))
 
 pub returns-then-separator-ne32-clause-reads : goal.returns-then-separator-ne32-clause-reads
 returns-then-separator-ne32-clause-reads c = λ utf8.
     let at = items_close utf8 c.loop-separator.so_far (c.loop-separator.invariant.so utf8) (not-false _ c.if-not-so_far.false) _ _ c.in-Some.ensures.cases.0 c.if-separator-ne32.true in
-    hands_any utf8 _ (leaves_then at c.in_ok-behind_items.ensures (λ _. never_avoids _)) c.whole-then-separator-ne32.ensures.reads
+    hands_any utf8 _ (leaves_then at c.in_ok-after_items.ensures (λ _. never_avoids _)) c.whole-then-separator-ne32.ensures.reads
 
 pub returns-in_err-step-clause-reads : goal.returns-in_err-step-clause-reads
 returns-in_err-step-clause-reads c = λ utf8.
@@ -35,16 +35,16 @@ returns-in_err-step-clause-reads c = λ utf8.
 pub returns-in-Awaits-clause-reads : goal.returns-in-Awaits-clause-reads
 returns-in-Awaits-clause-reads c = λ utf8.
     let at = items_next utf8 c.loop-separator.so_far (c.loop-separator.invariant.so utf8) (not-false _ c.if-not-so_far.false) _ _ c.in-Some.ensures.cases.0 c.if-separator-ne32.false in
-    step_left utf8 c.in_ok-step.behind.now at c.in-Awaits.is (c.in_ok-step.ensures.reads utf8)
+    step_left utf8 c.in_ok-step.following.now at c.in-Awaits.is (c.in_ok-step.ensures.reads utf8)
 
 pub loop-separator-smaller : goal.loop-separator-smaller
-loop-separator-smaller c = step_shortens true (IsListed true c.loop-separator.so_far) c.in_ok-step.step c.in_ok-step.behind.now (c.in_ok-step.ensures.reads true) c.in-Some.ensures.cases.0
+loop-separator-smaller c = step_shortens true (IsListed true c.loop-separator.so_far) c.in_ok-step.step c.in_ok-step.following.now (c.in_ok-step.ensures.reads true) c.in-Some.ensures.cases.0
 
 pub loop-separator-preserved : goal.loop-separator-preserved
 loop-separator-preserved c = record {
   so = λ utf8.
       let at = items_next utf8 c.loop-separator.so_far (c.loop-separator.invariant.so utf8) (not-false _ c.if-not-so_far.false) _ _ c.in-Some.ensures.cases.0 c.if-separator-ne32.false in
-      step_left utf8 c.in_ok-step.behind.now at c.in-Read.is (c.in_ok-step.ensures.reads utf8);
+      step_left utf8 c.in_ok-step.following.now at c.in-Read.is (c.in_ok-step.ensures.reads utf8);
   joins = λ none. c.loop-separator.invariant.joins (first_joins 32 _ _ _ c.in-Some.ensures.cases.0 c.if-separator-ne32.false refl (c.in_ok-step.ensures.passes (ap is_read c.in-Read.is) none));
 }
 

@@ -14,17 +14,17 @@ use Rattle.imap_grammar.proofs.fetch.more_names.Goals as goal
 pub loop-separator-init : goal.loop-separator-init
 loop-separator-init c = record { so = λ utf8. leaves_all _ _; joins = λ none. none }
 
-pub returns-in_err-behind_names-clause-reads : goal.returns-in_err-behind_names-clause-reads
-returns-in_err-behind_names-clause-reads c = λ utf8.
+pub returns-in_err-after_names-clause-reads : goal.returns-in_err-after_names-clause-reads
+returns-in_err-after_names-clause-reads c = λ utf8.
     let n = c.loop-separator.named in
     let at = names_close utf8 n n.names (c.loop-separator.invariant.so utf8) _ _ c.in-Some.ensures.cases.0 c.if-separator-ne32.true in
-    passes_on _ _ c.from_residual.result _ c.from_residual.ensures.1 (ends_at never never _ (here at) c.in_err-behind_names.ensures (λ _. never_avoids _) (λ _. end_viable utf8 n.fetching n.peek n.path (part.Fields n.names n.negated)))
+    passes_on _ _ c.from_residual.result _ c.from_residual.ensures.1 (ends_at never never _ (here at) c.in_err-after_names.ensures (λ _. never_avoids _) (λ _. end_viable utf8 n.fetching n.peek n.path (part.Fields n.names n.negated)))
 
 pub returns-then-separator-ne32-clause-reads : goal.returns-then-separator-ne32-clause-reads
 returns-then-separator-ne32-clause-reads c = λ utf8.
     let n = c.loop-separator.named in
     let at = names_close utf8 n n.names (c.loop-separator.invariant.so utf8) _ _ c.in-Some.ensures.cases.0 c.if-separator-ne32.true in
-    steps_on utf8 _ (leaves_then at c.in_ok-behind_names.ensures (λ _. never_avoids _)) (c.names_end.ensures.reads utf8)
+    steps_on utf8 _ (leaves_then at c.in_ok-after_names.ensures (λ _. never_avoids _)) (c.names_end.ensures.reads utf8)
 
 pub returns-in_err-head-clause-reads : goal.returns-in_err-head-clause-reads
 returns-in_err-head-clause-reads c = λ utf8.
@@ -59,4 +59,4 @@ pub returns-clause-reads : goal.returns-clause-reads
 returns-clause-reads c = λ utf8. names_stop utf8 c.loop-separator.named c.loop-separator.named.names (c.loop-separator.invariant.so utf8) c.in_default.ensures.cases
 
 pub returns-then-separator-ne32-clause-passes : goal.returns-then-separator-ne32-clause-passes
-returns-then-separator-ne32-clause-passes c = steps_pass _ _ _ (λ none. c.loop-separator.invariant.joins (octet_joins 41 _ _ c.in_ok-behind_names.ensures refl none)) c.names_end.ensures.passes
+returns-then-separator-ne32-clause-passes c = steps_pass _ _ _ (λ none. c.loop-separator.invariant.joins (octet_joins 41 _ _ c.in_ok-after_names.ensures refl none)) c.names_end.ensures.passes

@@ -4,12 +4,12 @@ use Rattle.imap_words.specs.Reading.{never, always, StopsReading}
 use Rattle.imap_words.specs.Tokens.{is_digit, IsNonZero}
 use Rattle.imap_words.proofs.Going.{begins, ends_at, passes_on}
 use Rattle.imap_words.proofs.Leaving.{here, leaves_all, leaves_then}
-use Rattle.imap_grammar.specs.Fetching.{behind_section_word, text_words}
+use Rattle.imap_grammar.specs.Fetching.{after_section_word, text_words}
 use Rattle.imap_grammar.specs.FetchParts.{AreNumbers}
 use Rattle.imap_words.proofs.InLine.{first_joins, exit_more, no_octet}
 use Rattle.imap_grammar.proofs.LineEnds.{non_zero_joins, text_joins, steps_pass, text_open, non_zero_open}
 use Rattle.imap_grammar.proofs.FetchEnds.{memory_on, steps_on}
-use Rattle.imap_grammar.proofs.SectionSteps.{behind_text_avoids, behind_text_viable, numbers_stop, numbers_avoid, numbers_follow, dotted_stops, numbers_close, numbers_dot, next_number, next_text, number_put}
+use Rattle.imap_grammar.proofs.SectionSteps.{after_text_avoids, after_text_viable, numbers_stop, numbers_avoid, numbers_follow, dotted_stops, numbers_close, numbers_dot, next_number, next_text, number_put}
 use Rattle.imap_grammar.proofs.fetch.numbered.Goals as goal
 
 pub returns-in_err-first-clause-reads : goal.returns-in_err-first-clause-reads
@@ -46,14 +46,14 @@ returns-in_err-word-clause-reads c = λ utf8.
     let dot = numbers_dot utf8 b.fetching b.peek b.path (c.loop-separator.invariant.so utf8) _ _ c.in-Some.ensures.cases.0 c.if-separator-ne46.false in
     let at = next_text utf8 b.fetching b.peek b.path dot _ _ c.in-Some-split_first.ensures.cases.0 (sym c.is_digit.ensures ∙ c.if-not-is_digit.true) in
     passes_on _ _ c.from_residual-in_err-word.result _ c.from_residual-in_err-word.ensures.1
-    (ends_at behind_section_word never _ (here at) c.in_err-word.ensures (behind_text_avoids utf8 b.fetching b.peek b.path) (behind_text_viable utf8 b.fetching b.peek b.path))
+    (ends_at after_section_word never _ (here at) c.in_err-word.ensures (after_text_avoids utf8 b.fetching b.peek b.path) (after_text_viable utf8 b.fetching b.peek b.path))
 
 pub returns-then-not-is_digit-clause-reads : goal.returns-then-not-is_digit-clause-reads
 returns-then-not-is_digit-clause-reads c = λ utf8.
     let b = c.loop-separator.so_far in
     let dot = numbers_dot utf8 b.fetching b.peek b.path (c.loop-separator.invariant.so utf8) _ _ c.in-Some.ensures.cases.0 c.if-separator-ne46.false in
     let at = next_text utf8 b.fetching b.peek b.path dot _ _ c.in-Some-split_first.ensures.cases.0 (sym c.is_digit.ensures ∙ c.if-not-is_digit.true) in
-    steps_on utf8 _ (leaves_then at c.in_ok-word.ensures (behind_text_avoids utf8 b.fetching b.peek b.path)) (c.behind_text.ensures.reads utf8)
+    steps_on utf8 _ (leaves_then at c.in_ok-word.ensures (after_text_avoids utf8 b.fetching b.peek b.path)) (c.after_text.ensures.reads utf8)
 
 pub returns-in_err-number-clause-reads : goal.returns-in_err-number-clause-reads
 returns-in_err-number-clause-reads c = λ utf8.
@@ -86,7 +86,7 @@ returns-then-separator-ne46-clause-passes c = steps_pass _ _ _ c.loop-separator.
 
 pub returns-then-not-is_digit-clause-passes : goal.returns-then-not-is_digit-clause-passes
 returns-then-not-is_digit-clause-passes c =
-    steps_pass _ _ _ (λ none. c.loop-separator.invariant.joins (first_joins 46 _ _ _ c.in-Some.ensures.cases.0 c.if-separator-ne46.false refl (text_joins true _ _ _ c.in_ok-word.ensures none))) c.behind_text.ensures.passes
+    steps_pass _ _ _ (λ none. c.loop-separator.invariant.joins (first_joins 46 _ _ _ c.in-Some.ensures.cases.0 c.if-separator-ne46.false refl (text_joins true _ _ _ c.in_ok-word.ensures none))) c.after_text.ensures.passes
 
 pub returns-in_default-split_first-clause-more : goal.returns-in_default-split_first-clause-more
 returns-in_default-split_first-clause-more c = λ e.
@@ -96,11 +96,11 @@ pub returns-in_err-word-clause-more : goal.returns-in_err-word-clause-more
 returns-in_err-word-clause-more c = λ e.
     let more = exit_more c.from_residual-in_err-word.result _ c.from_residual-in_err-word.ensures.1 e in
     c.loop-separator.invariant.joins
-    (first_joins 46 _ _ _ c.in-Some.ensures.cases.0 c.if-separator-ne46.false refl (text_open true c.in-Some.others.now (subst (λ z. StopsReading (IsWordOf (text_words true)) behind_section_word c.in-Some.others.now z) more c.in_err-word.ensures)))
+    (first_joins 46 _ _ _ c.in-Some.ensures.cases.0 c.if-separator-ne46.false refl (text_open true c.in-Some.others.now (subst (λ z. StopsReading (IsWordOf (text_words true)) after_section_word c.in-Some.others.now z) more c.in_err-word.ensures)))
 
 pub returns-then-not-is_digit-clause-more : goal.returns-then-not-is_digit-clause-more
 returns-then-not-is_digit-clause-more c = λ e.
-    c.loop-separator.invariant.joins (first_joins 46 _ _ _ c.in-Some.ensures.cases.0 c.if-separator-ne46.false refl (text_joins true _ _ _ c.in_ok-word.ensures (c.behind_text.ensures.more e)))
+    c.loop-separator.invariant.joins (first_joins 46 _ _ _ c.in-Some.ensures.cases.0 c.if-separator-ne46.false refl (text_joins true _ _ _ c.in_ok-word.ensures (c.after_text.ensures.more e)))
 
 pub returns-in_err-number-clause-more : goal.returns-in_err-number-clause-more
 returns-in_err-number-clause-more c = λ e.

@@ -11,9 +11,9 @@ returns-in_err-name c = passes_on _ _ c.from_residual.result _ c.from_residual.e
 pub returns-then-first-ne92 : goal.returns-then-first-ne92
 returns-then-first-ne92 c = plain_reads c.args.text.now _ _ c.in-Some.ensures.cases.0 _ _ c.if-first-ne92.true c.in_ok-name.ensures
 
-pub returns-in_err-behind : goal.returns-in_err-behind
-returns-in_err-behind c =
-    passes_on _ _ c.from_residual-in_err-behind.result _ c.from_residual-in_err-behind.ensures.1 (escaped_stops c.args.text.now _ _ c.in-Some.ensures.cases.0 c.if-first-ne92.false _ c.in_err-behind.ensures)
+pub returns-in_err-following : goal.returns-in_err-following
+returns-in_err-following c =
+    passes_on _ _ c.from_residual-in_err-following.result _ c.from_residual-in_err-following.ensures.1 (escaped_stops c.args.text.now _ _ c.in-Some.ensures.cases.0 c.if-first-ne92.false _ c.in_err-following.ensures)
 
 pub returns : goal.returns
-returns c = escaped_split c.args.text.now _ _ c.in-Some.ensures.cases.0 c.if-first-ne92.false _ _ _ _ c.in_ok-behind.ensures c.split_at.ensures.front c.split_at.ensures.back
+returns c = escaped_split c.args.text.now _ _ c.in-Some.ensures.cases.0 c.if-first-ne92.false _ _ _ _ c.in_ok-following.ensures c.split_at.ensures.front c.split_at.ensures.back

@@ -8,14 +8,14 @@ returns-in_err-first c = passes_on _ _ c.from_residual.result _ c.from_residual.
 pub loop-separator-init : goal.loop-separator-init
 loop-separator-init c = first_flag_read c.args.close c.requires c.args.text.now _ _ _ c.in_ok-first.ensures (c.with_flag-bits.ensures _ c.no_bits.ensures)
 
-pub returns-in_err-behind : goal.returns-in_err-behind
-returns-in_err-behind c =
-    passes_on _ _ c.from_residual-in_err-behind.result _ c.from_residual-in_err-behind.ensures.1
-    (close_stops c.args.close c.requires c.args.text.now _ _ c.loop-separator.invariant _ _ c.in-Some.ensures.cases.0 _ c.if-separator-ne32.true c.in_err-behind.ensures)
+pub returns-in_err-following : goal.returns-in_err-following
+returns-in_err-following c =
+    passes_on _ _ c.from_residual-in_err-following.result _ c.from_residual-in_err-following.ensures.1
+    (close_stops c.args.close c.requires c.args.text.now _ _ c.loop-separator.invariant _ _ c.in-Some.ensures.cases.0 _ c.if-separator-ne32.true c.in_err-following.ensures)
 
 pub returns-then-separator-ne32 : goal.returns-then-separator-ne32
 returns-then-separator-ne32 c =
-    close_reads c.args.close c.requires c.args.text.now _ _ c.loop-separator.invariant _ _ c.in-Some.ensures.cases.0 _ _ c.if-separator-ne32.true c.in_ok-behind.ensures (c.value.ensures _ c.loop-separator.invariant.is_bits)
+    close_reads c.args.close c.requires c.args.text.now _ _ c.loop-separator.invariant _ _ c.in-Some.ensures.cases.0 _ _ c.if-separator-ne32.true c.in_ok-following.ensures (c.value.ensures _ c.loop-separator.invariant.is_bits)
 
 pub returns-in_err-name : goal.returns-in_err-name
 returns-in_err-name c =

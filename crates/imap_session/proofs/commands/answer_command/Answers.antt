@@ -7,7 +7,7 @@ pub returns-in-NotAuthenticated-clause-takes : goal.returns-in-NotAuthenticated-
 unfolding step
 returns-in-NotAuthenticated-clause-takes g c = rw c.in-NotAuthenticated.is
     (TakesAt-plain c.args.outside.now c.answer_unauthenticated.new.outside c.answer_unauthenticated.result false
-    (λ meanings now. not_authenticated_step meanings c.args.tag.now c.args.outside.now.desk.store c.args.command.now) refl (λ now. c.answer_unauthenticated.ensures.takes))
+    (λ oracles now. not_authenticated_step oracles c.args.tag.now c.args.outside.now.desk.store c.args.command.now) refl (λ now. c.answer_unauthenticated.ensures.takes))
 
 pub returns-in-Authenticated-clause-takes : goal.returns-in-Authenticated-clause-takes
 unfolding step

@@ -10,12 +10,12 @@ pub returns-in_err-give_common-clause-takes : goal.returns-in_err-give_common-cl
 returns-in_err-give_common-clause-takes g c =
     let state = state_of c.args.session in
     let failed = err_from_is_err_and c.from_residual.result c.from_residual.ensures.1 in
-    rw (failed.1, failed.2) (Takes-fault c.args.outside.now c.give_common.new.outside c.in_err-give_common.field-0.0 (λ meanings. common_step c.args.tag.now state c.args.command.now)
-    (λ meanings are. c.in_err-give_common.ensures.does meanings state))
+    rw (failed.1, failed.2) (Takes-fault c.args.outside.now c.give_common.new.outside c.in_err-give_common.field-0.0 (λ oracles. common_step c.args.tag.now state c.args.command.now)
+    (λ oracles are. c.in_err-give_common.ensures.does oracles state))
 
 pub returns-clause-takes : goal.returns-clause-takes
 returns-clause-takes g c =
     let state = state_of c.args.session in
-    Takes-next c.args.outside.now c.give_common.new.outside c.left_by.result (λ meanings. common_step c.args.tag.now state c.args.command.now)
-    (λ meanings are. c.in_ok-give_common.ensures.does meanings state) (λ meanings are. c.left_by.ensures.state ∙ common-left c.args.tag.now state c.args.command.now)
+    Takes-next c.args.outside.now c.give_common.new.outside c.left_by.result (λ oracles. common_step c.args.tag.now state c.args.command.now)
+    (λ oracles are. c.in_ok-give_common.ensures.does oracles state) (λ oracles are. c.left_by.ensures.state ∙ common-left c.args.tag.now state c.args.command.now)
     (c.left_by.ensures.known c.give_common.new.outside.desk.store (rw c.in_ok-give_common.ensures.same c.requires.known))

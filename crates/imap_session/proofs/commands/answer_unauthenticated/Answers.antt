@@ -5,6 +5,6 @@ use Rattle.imap_session.proofs.commands.answer_unauthenticated.Goals as goal
 
 pub returns-in_default-clause-takes : goal.returns-in_default-clause-takes
 returns-in_default-clause-takes g c =
-    Takes-same c.args.outside.now c.answer_common.new.outside c.answer_common.result (λ meanings. common_step c.args.tag.now not_authenticated c.args.command.now)
-    (λ meanings. not_authenticated_step meanings c.args.tag.now c.args.outside.now.desk.store c.args.command.now)
-    (λ meanings are. unauthenticated-other meanings c.args.tag.now c.args.outside.now.desk.store c.args.command.now c.in_default.not-Login) c.answer_common.ensures.takes
+    Takes-same c.args.outside.now c.answer_common.new.outside c.answer_common.result (λ oracles. common_step c.args.tag.now not_authenticated c.args.command.now)
+    (λ oracles. not_authenticated_step oracles c.args.tag.now c.args.outside.now.desk.store c.args.command.now)
+    (λ oracles are. unauthenticated-other oracles c.args.tag.now c.args.outside.now.desk.store c.args.command.now c.in_default.not-Login) c.answer_common.ensures.takes

@@ -18,10 +18,10 @@ returns-in_err-answer_text-clause-takes g c =
     let state = authenticated g.V.View.mode c.args.imap.state.account in
     let parts = untagged (codes "ENABLED") ∷ [] in
     let taken = answers c.args.tag.now done parts state in
-    rw (failed.1, failed.2) (Takes-same c.args.outside.now c.answer_text.new.outside _ (λ meanings. taken) _
-    (λ meanings are. enable-again c.args.tag.now g.V.View.mode c.args.imap.state.account (asks_utf8 c.args.words.now) none)
-    (Takes-fault c.args.outside.now c.answer_text.new.outside met (λ meanings. taken)
-    (λ meanings are. answers_given meanings c.args.outside.now c.answer_text.new.outside (Some met) c.args.tag.now done parts state _ refl c.in_err-answer_text.ensures.replies)))
+    rw (failed.1, failed.2) (Takes-same c.args.outside.now c.answer_text.new.outside _ (λ oracles. taken) _
+    (λ oracles are. enable-again c.args.tag.now g.V.View.mode c.args.imap.state.account (asks_utf8 c.args.words.now) none)
+    (Takes-fault c.args.outside.now c.answer_text.new.outside met (λ oracles. taken)
+    (λ oracles are. answers_given oracles c.args.outside.now c.answer_text.new.outside (Some met) c.args.tag.now done parts state _ refl c.in_err-answer_text.ensures.replies)))
 
 pub returns-in_err-answer_text-2-clause-takes : goal.returns-in_err-answer_text-2-clause-takes
 returns-in_err-answer_text-2-clause-takes g c =
@@ -32,7 +32,7 @@ returns-in_err-answer_text-2-clause-takes g c =
     let state = authenticated enabled c.args.imap.state.account in
     let parts = untagged (codes "ENABLED UTF8=ACCEPT") ∷ [] in
     let taken = answers c.args.tag.now done parts state in
-    rw (failed.1, failed.2) (Takes-same c.args.outside.now c.answer_text-2.new.outside _ (λ meanings. taken) _
-    (λ meanings are. enable-first c.args.tag.now g.V.View.mode c.args.imap.state.account (asks_utf8 c.args.words.now) off on)
-    (Takes-fault c.args.outside.now c.answer_text-2.new.outside met (λ meanings. taken)
-    (λ meanings are. answers_given meanings c.args.outside.now c.answer_text-2.new.outside (Some met) c.args.tag.now done parts state _ refl c.in_err-answer_text-2.ensures.replies)))
+    rw (failed.1, failed.2) (Takes-same c.args.outside.now c.answer_text-2.new.outside _ (λ oracles. taken) _
+    (λ oracles are. enable-first c.args.tag.now g.V.View.mode c.args.imap.state.account (asks_utf8 c.args.words.now) off on)
+    (Takes-fault c.args.outside.now c.answer_text-2.new.outside met (λ oracles. taken)
+    (λ oracles are. answers_given oracles c.args.outside.now c.answer_text-2.new.outside (Some met) c.args.tag.now done parts state _ refl c.in_err-answer_text-2.ensures.replies)))

@@ -9,28 +9,28 @@ use Rattle.imap_session.proofs.StepLemmas.{answers_given, nothing_given, says_gi
 use Rattle.imap_session.proofs.commands.give_status.Goals as goal
 
 pub returns-in_err-folder-clause-does : goal.returns-in_err-folder-clause-does
-returns-in_err-folder-clause-does g c = λ meanings are state.
+returns-in_err-folder-clause-does g c = λ oracles are state.
     let failed = err_from_is_err_and c.from_residual.result c.from_residual.ensures.1 in
-    let named = folder_named meanings g.V.View.mode c.args.outside.now.desk.store c.args.account c.args.written.now in
-    rw (failed.1, failed.2) (nothing_given meanings c.args.outside.now (status_by c.args.tag.now state g.V.View.mode c.args.outside.now.desk.store c.args.items.now named))
+    let named = folder_named oracles g.V.View.mode c.args.outside.now.desk.store c.args.account c.args.written.now in
+    rw (failed.1, failed.2) (nothing_given oracles c.args.outside.now (status_by c.args.tag.now state g.V.View.mode c.args.outside.now.desk.store c.args.items.now named))
 
 pub returns-in_default-clause-does : goal.returns-in_default-clause-does
-returns-in_default-clause-does g c = λ meanings are state.
-    let found = rw (c.in_default.is, c.store.ensures) at (c.in_ok-folder.ensures.found meanings are) in
-    subst (λ (named : Option ℕ). Does (part_octets meanings) c.args.outside.now c.say.new.outside (fault_of c.say.result) (status_by c.args.tag.now state g.V.View.mode c.args.outside.now.desk.store c.args.items.now named).acts) found
-    (says_given meanings c.args.outside.now c.say.new.outside (fault_of c.say.result) c.args.tag.now (codes "NO no such folder") state c.say.ensures.replies)
+returns-in_default-clause-does g c = λ oracles are state.
+    let found = rw (c.in_default.is, c.store.ensures) at (c.in_ok-folder.ensures.found oracles are) in
+    subst (λ (named : Option ℕ). Does (part_octets oracles) c.args.outside.now c.say.new.outside (fault_of c.say.result) (status_by c.args.tag.now state g.V.View.mode c.args.outside.now.desk.store c.args.items.now named).acts) found
+    (says_given oracles c.args.outside.now c.say.new.outside (fault_of c.say.result) c.args.tag.now (codes "NO no such folder") state c.say.ensures.replies)
 
 pub returns-in_err-line-clause-does : goal.returns-in_err-line-clause-does
-returns-in_err-line-clause-does g c = λ meanings are state.
+returns-in_err-line-clause-does g c = λ oracles are state.
     let failed = err_from_is_err_and c.from_residual-in_err-line.result c.from_residual-in_err-line.ensures.1 in
-    let named = folder_named meanings g.V.View.mode c.args.outside.now.desk.store c.args.account c.args.written.now in
-    rw (failed.1, failed.2) (nothing_given meanings c.args.outside.now (status_by c.args.tag.now state g.V.View.mode c.args.outside.now.desk.store c.args.items.now named))
+    let named = folder_named oracles g.V.View.mode c.args.outside.now.desk.store c.args.account c.args.written.now in
+    rw (failed.1, failed.2) (nothing_given oracles c.args.outside.now (status_by c.args.tag.now state g.V.View.mode c.args.outside.now.desk.store c.args.items.now named))
 
 pub returns-clause-does : goal.returns-clause-does
-returns-clause-does g c = λ meanings are state.
-    let found = rw (c.in-Some.is, c.store.ensures) at (c.in_ok-folder.ensures.found meanings are) in
+returns-clause-does g c = λ oracles are state.
+    let found = rw (c.in-Some.is, c.store.ensures) at (c.in_ok-folder.ensures.found oracles are) in
     let lines = status_line g.V.View.mode c.args.outside.now.desk.store c.in-Some.folder c.args.items.now in
-    subst (λ (named : Option ℕ). Does (part_octets meanings) c.args.outside.now c.answer.new.outside (fault_of c.answer.result) (status_by c.args.tag.now state g.V.View.mode c.args.outside.now.desk.store c.args.items.now named).acts) found
-    (answers_given meanings c.args.outside.now c.answer.new.outside (fault_of c.answer.result) c.args.tag.now done lines state c.in_ok-line.line
-    (subst (λ (store : StoreState). c.in_ok-line.line ≡ reply_octets meanings (status_line g.V.View.mode store c.in-Some.folder c.args.items.now)) c.store-2.ensures (c.in_ok-line.ensures meanings))
+    subst (λ (named : Option ℕ). Does (part_octets oracles) c.args.outside.now c.answer.new.outside (fault_of c.answer.result) (status_by c.args.tag.now state g.V.View.mode c.args.outside.now.desk.store c.args.items.now named).acts) found
+    (answers_given oracles c.args.outside.now c.answer.new.outside (fault_of c.answer.result) c.args.tag.now done lines state c.in_ok-line.line
+    (subst (λ (store : StoreState). c.in_ok-line.line ≡ reply_octets oracles (status_line g.V.View.mode store c.in-Some.folder c.args.items.now)) c.store-2.ensures (c.in_ok-line.ensures oracles))
     c.answer.ensures.replies)

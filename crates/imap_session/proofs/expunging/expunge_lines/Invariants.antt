@@ -1,5 +1,5 @@
 use Rattle.std.proofs.Common.{◌≡◌, ◌≤◌, ◌+◌, ◌++◌, drop}
-use Rattle.session_core.specs.Meanings.{Meanings}
+use Rattle.session_core.specs.Oracles.{Oracles}
 use Rattle.imap_session.specs.Machine.{closing_up}
 use Rattle.imap_session.specs.Replies.{reply_octets}
 use Rattle.imap_session.proofs.expunging.expunge_lines.Given as goal
@@ -7,5 +7,5 @@ use Rattle.imap_session.proofs.expunging.expunge_lines.Given as goal
 abbrev pub invariant-loop-one : goal.invariant-loop-one
 invariant-loop-one l = record {
   few : l.number ≤ l.one-index + 1;
-  lines : (meanings : Meanings) → l.lines ++ reply_octets meanings (closing_up l.number (drop l.one-index l.messages)) ≡ reply_octets meanings (closing_up 1 l.messages);
+  lines : (oracles : Oracles) → l.lines ++ reply_octets oracles (closing_up l.number (drop l.one-index l.messages)) ≡ reply_octets oracles (closing_up 1 l.messages);
 }

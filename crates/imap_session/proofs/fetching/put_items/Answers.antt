@@ -8,7 +8,7 @@ use Rattle.session_core.proofs.KeepsLemmas.{Keeps-nil, Keeps-then}
 use Rattle.session_core.specs.Desks.{stored_octets}
 use Rattle.session_core.specs.declared.desk.Desk.{Desk}
 use Rattle.imap_session.specs.Items.{item_parts}
-use Rattle.imap_session.specs.Machine.{parts_behind, reply}
+use Rattle.imap_session.specs.Machine.{parts_following, reply}
 use Rattle.imap_session.specs.Replies.{part_octets}
 use Rattle.imap_session.specs.private.Messages.{ShowsAlike}
 use Rattle.imap_session.specs.private.Pending.{Carries}
@@ -18,8 +18,8 @@ use Rattle.imap_session.proofs.fetching.put_items.Goals as goal
 
 pub loop-item-init : goal.loop-item-init
 loop-item-init g c = record {
-  apart = refl;
-  carries = λ meanings are store alike. Carries-nil (part_octets meanings) c.args.outside.now c.args.pending.now;
+  is_separated = refl;
+  carries = λ oracles are store alike. Carries-nil (part_octets oracles) c.args.outside.now c.args.pending.now;
   desk = refl;
   keeps = Keeps-nil c.args.outside.now;
 }
@@ -34,46 +34,46 @@ put_item-requires g c =
     }
 
 pub returns-in_err-push_space-clause-carries : goal.returns-in_err-push_space-clause-carries
-returns-in_err-push_space-clause-carries g c = λ meanings are store alike.
+returns-in_err-push_space-clause-carries g c = λ oracles are store alike.
     let failed = err_from_is_err_and c.from_residual.result c.from_residual.ensures.1 in
-    let f = item_parts meanings g.V.View.mode store c.args.one.now in
-    let spelled = part_octets meanings in
-    let acts = reply (parts_behind c.args.behind_others (map f (take c.loop-item.item-index c.args.items.now))) in
-    rw (failed.1, failed.2) (Carries-cut meanings c.args.outside.now c.loop-item.outside fault.Memory c.args.pending.now c.push_space.new.pending c.push_space.new.pending c.args.behind_others f c.args.items.now c.loop-item.item-index
-    (Carries-on spelled c.args.outside.now c.loop-item.outside c.loop-item.outside (Some fault.Memory) c.args.pending.now c.loop-item.pending c.push_space.new.pending acts (c.loop-item.invariant.carries meanings are store alike)
+    let f = item_parts oracles g.V.View.mode store c.args.one.now in
+    let spelled = part_octets oracles in
+    let acts = reply (parts_following c.args.after_others (map f (take c.loop-item.item-index c.args.items.now))) in
+    rw (failed.1, failed.2) (Carries-cut oracles c.args.outside.now c.loop-item.outside fault.Memory c.args.pending.now c.push_space.new.pending c.push_space.new.pending c.args.after_others f c.args.items.now c.loop-item.item-index
+    (Carries-on spelled c.args.outside.now c.loop-item.outside c.loop-item.outside (Some fault.Memory) c.args.pending.now c.loop-item.pending c.push_space.new.pending acts (c.loop-item.invariant.carries oracles are store alike)
     (Carries-stop spelled c.loop-item.outside fault.Memory c.loop-item.pending c.push_space.new.pending [] (λ bad. cc))))
 
 pub returns-in_err-put_item-clause-carries : goal.returns-in_err-put_item-clause-carries
-returns-in_err-put_item-clause-carries g c = λ meanings are store alike.
+returns-in_err-put_item-clause-carries g c = λ oracles are store alike.
     let failed = err_from_is_err_and c.from_residual-in_err-put_item.result c.from_residual-in_err-put_item.ensures.1 in
     let low : c.loop-item.item-index < length c.args.items.now = omega arith in
-    let f = item_parts meanings g.V.View.mode store c.args.one.now in
+    let f = item_parts oracles g.V.View.mode store c.args.one.now in
     let alike_now = subst (λ (desk : Desk). ShowsAlike store desk.store) (sym c.loop-item.invariant.desk) alike in
-    rw (failed.1, failed.2) (Carries-cut meanings c.args.outside.now c.put_item.new.outside c.in_err-put_item.field-0.0 c.args.pending.now c.put_item.new.pending c.put_item.new.pending
-    c.args.behind_others f c.args.items.now (c.loop-item.item-index + 1)
-    (Carries-item meanings c.args.outside.now c.loop-item.outside c.put_item.new.outside (Some c.in_err-put_item.field-0.0) c.args.pending.now c.loop-item.pending c.push_space.new.pending c.put_item.new.pending
-    c.args.behind_others c.loop-item.apart
-    f c.args.items.now c.loop-item.item-index c.item-item.result low c.item-item.is (c.loop-item.invariant.carries meanings are store alike) c.loop-item.invariant.apart c.in_ok-push_space.ensures
-    (c.in_err-put_item.ensures.carries meanings are store alike_now)))
+    rw (failed.1, failed.2) (Carries-cut oracles c.args.outside.now c.put_item.new.outside c.in_err-put_item.field-0.0 c.args.pending.now c.put_item.new.pending c.put_item.new.pending
+    c.args.after_others f c.args.items.now (c.loop-item.item-index + 1)
+    (Carries-item oracles c.args.outside.now c.loop-item.outside c.put_item.new.outside (Some c.in_err-put_item.field-0.0) c.args.pending.now c.loop-item.pending c.push_space.new.pending c.put_item.new.pending
+    c.args.after_others c.loop-item.is_separated
+    f c.args.items.now c.loop-item.item-index c.item-item.result low c.item-item.is (c.loop-item.invariant.carries oracles are store alike) c.loop-item.invariant.is_separated c.in_ok-push_space.ensures
+    (c.in_err-put_item.ensures.carries oracles are store alike_now)))
 
 pub loop-item-preserved : goal.loop-item-preserved
 loop-item-preserved g c =
     let low : c.loop-item.item-index < length c.args.items.now = omega arith in
     record {
-      apart = stands_next c.args.behind_others c.args.items.now c.loop-item.item-index c.item-item.result low;
-      carries = λ meanings are store alike.
-          let f = item_parts meanings g.V.View.mode store c.args.one.now in
+      is_separated = stands_next c.args.after_others c.args.items.now c.loop-item.item-index c.item-item.result low;
+      carries = λ oracles are store alike.
+          let f = item_parts oracles g.V.View.mode store c.args.one.now in
           let alike_now = subst (λ (desk : Desk). ShowsAlike store desk.store) (sym c.loop-item.invariant.desk) alike in
-          Carries-item meanings c.args.outside.now c.loop-item.outside c.put_item.new.outside None c.args.pending.now c.loop-item.pending c.push_space.new.pending c.put_item.new.pending c.args.behind_others c.loop-item.apart
-          f c.args.items.now c.loop-item.item-index c.item-item.result low c.item-item.is (c.loop-item.invariant.carries meanings are store alike) c.loop-item.invariant.apart c.in_ok-push_space.ensures
-          (c.in_ok-put_item.ensures.carries meanings are store alike_now);
+          Carries-item oracles c.args.outside.now c.loop-item.outside c.put_item.new.outside None c.args.pending.now c.loop-item.pending c.push_space.new.pending c.put_item.new.pending c.args.after_others c.loop-item.is_separated
+          f c.args.items.now c.loop-item.item-index c.item-item.result low c.item-item.is (c.loop-item.invariant.carries oracles are store alike) c.loop-item.invariant.is_separated c.in_ok-push_space.ensures
+          (c.in_ok-put_item.ensures.carries oracles are store alike_now);
       desk = c.in_ok-put_item.ensures.desk ∙ c.loop-item.invariant.desk;
       keeps = Keeps-then c.args.outside.now c.loop-item.outside c.put_item.new.outside None c.loop-item.invariant.keeps c.in_ok-put_item.ensures.keeps;
     }
 
 pub returns-clause-carries : goal.returns-clause-carries
-returns-clause-carries g c = λ meanings are store alike.
-    let f = item_parts meanings g.V.View.mode store c.args.one.now in
+returns-clause-carries g c = λ oracles are store alike.
+    let f = item_parts oracles g.V.View.mode store c.args.one.now in
     let whole : take c.loop-item.item-index c.args.items.now ≡ c.args.items.now = take_all c.loop-item.item-index c.args.items.now (omega arith) in
-    subst (λ (l : List FetchItem). Carries (part_octets meanings) c.args.outside.now c.loop-item.outside None c.args.pending.now c.loop-item.pending (reply (parts_behind c.args.behind_others (map f l)))) whole
-    (c.loop-item.invariant.carries meanings are store alike)
+    subst (λ (l : List FetchItem). Carries (part_octets oracles) c.args.outside.now c.loop-item.outside None c.args.pending.now c.loop-item.pending (reply (parts_following c.args.after_others (map f l)))) whole
+    (c.loop-item.invariant.carries oracles are store alike)

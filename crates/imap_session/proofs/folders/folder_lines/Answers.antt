@@ -5,10 +5,10 @@ use Rattle.imap_session.proofs.folders.folder_lines.Goals.{then-read_only, else-
 use Rattle.imap_session.proofs.folders.folder_lines.Goals as goal
 
 pub returns : goal.returns
-returns c = λ meanings.
+returns c = λ oracles.
     let told : c.if-read_only.permanent.now ≡ permanent c.args.read_only = elim c.if-read_only.branch [
       | then-read_only w ↦ rw (w.if-read_only.true, w.permanent-is) (search rules)
       | else-read_only w ↦ rw (w.if-read_only.false, w.permanent-is) (search rules)
     ] in
-    folder_made meanings c.args.store.now c.args.folder c.args.read_only c.args.count c.uid_next-next.result c.if-read_only.permanent.now c.from_vec.result c.requires.count c.uid_next-next.ensures told
+    folder_made oracles c.args.store.now c.args.folder c.args.read_only c.args.count c.uid_next-next.result c.if-read_only.permanent.now c.from_vec.result c.requires.count c.uid_next-next.ensures told
     (c.from_vec.ensures ∙ ap (λ (v : Vec ℕ). v.items) c.into_bytes.ensures.value ∙ c.in_ok-lines.ensures.ok)

@@ -14,19 +14,19 @@ push_list_line-requires g c =
     (All-get_or IsUtf8 c.deref-name-items.result.now c.loop-name.name-index c.name-item.result c.loop-name-test.true (rw c.deref-name-items.ensures.value c.in_ok-names.ensures.utf8))
 
 pub loop-name-preserved : goal.loop-name-preserved
-loop-name-preserved g c = λ meanings.
+loop-name-preserved g c = λ oracles.
     let mode = g.V.View.mode in
     let pattern = c.args.reference.now ++ c.args.pattern.now in
     let names = c.deref-name-items.result.now in
-    list_lines-more meanings mode pattern c.in_ok-whole.whole names c.loop-name.name-index c.name-item.result c.as_slice.result.now c.loop-name.lines c.push_list_line.new.lines
-    (reply_octets meanings (flat_map (list_line mode pattern) names)) c.loop-name-test.true c.in_ok-whole.ensures (c.as_slice.ensures ∙ c.name-item.is) (c.in_ok-push_list_line.ensures meanings)
-    (c.loop-name.invariant meanings)
+    list_lines-more oracles mode pattern c.in_ok-whole.whole names c.loop-name.name-index c.name-item.result c.as_slice.result.now c.loop-name.lines c.push_list_line.new.lines
+    (reply_octets oracles (flat_map (list_line mode pattern) names)) c.loop-name-test.true c.in_ok-whole.ensures (c.as_slice.ensures ∙ c.name-item.is) (c.in_ok-push_list_line.ensures oracles)
+    (c.loop-name.invariant oracles)
 
 pub returns : goal.returns
-returns g c = λ meanings.
+returns g c = λ oracles.
     let mode = g.V.View.mode in
     let pattern = c.args.reference.now ++ c.args.pattern.now in
     let names = c.deref-name-items.result.now in
     let some : length c.args.pattern.now ≢ 0 = not_from_Decides (length c.args.pattern.now == 0) (Decides-eqb (length c.args.pattern.now) 0) (sym c.is_empty.ensures ∙ c.if-is_empty.false) in
-    let told = list_lines-end meanings mode pattern names c.loop-name.name-index c.loop-name.lines (reply_octets meanings (flat_map (list_line mode pattern) names)) c.loop-name-test.false (c.loop-name.invariant meanings) in
+    let told = list_lines-end oracles mode pattern names c.loop-name.name-index c.loop-name.lines (reply_octets oracles (flat_map (list_line mode pattern) names)) c.loop-name-test.false (c.loop-name.invariant oracles) in
     rw (list_lines-whole mode c.args.store.now c.args.account c.args.reference.now c.args.pattern.now some) (rw (c.deref-name-items.ensures.value, c.in_ok-names.ensures.names) at told)

@@ -6,9 +6,9 @@ use Rattle.imap_session.proofs.sections.push_path.Goals as goal
 
 pub loop-number-preserved : goal.loop-number-preserved
 loop-number-preserved c = record {
-  apart = stands_next false c.args.path.now c.loop-number.number-index 0 c.loop-number-test.true;
-  joined = joined_more 46 decimal c.args.path.now c.loop-number.number-index 0 c.loop-number.apart c.args.name.now c.loop-number.name c.push_apart.new.made c.push_number.new.made c.loop-number-test.true
-      c.loop-number.invariant.apart c.loop-number.invariant.joined c.in_ok-push_apart.ensures c.in_ok-push_number.ensures;
+  is_separated = stands_next false c.args.path.now c.loop-number.number-index 0 c.loop-number-test.true;
+  joined = joined_more 46 decimal c.args.path.now c.loop-number.number-index 0 c.loop-number.is_separated c.args.name.now c.loop-number.name c.push_separator.new.made c.push_number.new.made c.loop-number-test.true
+      c.loop-number.invariant.is_separated c.loop-number.invariant.joined c.in_ok-push_separator.ensures c.in_ok-push_number.ensures;
 }
 
 pub returns : goal.returns

@@ -15,17 +15,17 @@ use Rattle.imap_session.proofs.RangeLemmas.{Carries-fields, Carries-nothing, oct
 use Rattle.imap_session.proofs.sections.put_section.Goals as goal
 
 pub returns-in_err-push_nil-clause-carries : goal.returns-in_err-push_nil-clause-carries
-returns-in_err-push_nil-clause-carries g c = λ meanings are store alike.
+returns-in_err-push_nil-clause-carries g c = λ oracles are store alike.
     let failed = err_from_is_err_and c.from_residual.result c.from_residual.ensures.1 in
-    rw (failed.1, failed.2) (Carries-stop (part_octets meanings) c.args.outside.now fault.Memory c.args.pending.now c.push_nil.new.pending
-    (reply (asked_parts meanings g.V.View.mode store c.args.one.now c.args.asked.now)) (λ bad. cc))
+    rw (failed.1, failed.2) (Carries-stop (part_octets oracles) c.args.outside.now fault.Memory c.args.pending.now c.push_nil.new.pending
+    (reply (asked_parts oracles g.V.View.mode store c.args.one.now c.args.asked.now)) (λ bad. cc))
 
 pub returns-in_default-clause-carries : goal.returns-in_default-clause-carries
-returns-in_default-clause-carries g c = λ meanings are store alike.
+returns-in_default-clause-carries g c = λ oracles are store alike.
     let asked = c.args.asked.now in
     let msg = stored_octets c.args.outside.now.desk.store c.args.one.now.id in
-    let found = section_found meanings are g.V.View.mode store c.args.one.now msg c.args.shown.now asked.path.now (wanted_place asked.wanted) c.find.result (alike.octets c.args.one.now.id) c.requires.shown c.find.ensures.found in
-    Carries-nothing meanings g.V.View.mode store c.args.one.now asked c.args.outside.now c.args.pending.now c.push_nil.new.pending (found ∙ c.in_default.is) c.in_ok-push_nil.ensures
+    let found = section_found oracles are g.V.View.mode store c.args.one.now msg c.args.shown.now asked.path.now (wanted_place asked.wanted) c.find.result (alike.octets c.args.one.now.id) c.requires.shown c.find.ensures.found in
+    Carries-nothing oracles g.V.View.mode store c.args.one.now asked c.args.outside.now c.args.pending.now c.push_nil.new.pending (found ∙ c.in_default.is) c.in_ok-push_nil.ensures
 
 pub put_fields-requires : goal.put_fields-requires
 put_fields-requires g c =
@@ -37,22 +37,22 @@ put_fields-requires g c =
     subst HasSomeBlock (sym (c.as_slice.ensures ∙ header)) block
 
 pub returns-in-Octets-clause-carries : goal.returns-in-Octets-clause-carries
-returns-in-Octets-clause-carries g c = λ meanings are store alike.
+returns-in-Octets-clause-carries g c = λ oracles are store alike.
     let asked = c.args.asked.now in
     let msg = stored_octets c.args.outside.now.desk.store c.args.one.now.id in
-    let found = section_found meanings are g.V.View.mode store c.args.one.now msg c.args.shown.now asked.path.now (wanted_place asked.wanted) c.find.result (alike.octets c.args.one.now.id) c.requires.shown c.find.ensures.found in
-    subst (λ (parts : List ReplyPart). Carries (part_octets meanings) c.args.outside.now c.give_span.new.outside (fault_of c.give_span.result) c.args.pending.now c.give_span.new.pending (reply parts))
-    (octets_told meanings g.V.View.mode store c.args.one.now asked c.in-Octets.field-0 c.in-Some.span c.partial_span-span.result c.in-Octets.is (found ∙ c.in-Some.is) c.partial_span-span.ensures) (c.give_span.ensures.carries meanings are store alike)
+    let found = section_found oracles are g.V.View.mode store c.args.one.now msg c.args.shown.now asked.path.now (wanted_place asked.wanted) c.find.result (alike.octets c.args.one.now.id) c.requires.shown c.find.ensures.found in
+    subst (λ (parts : List ReplyPart). Carries (part_octets oracles) c.args.outside.now c.give_span.new.outside (fault_of c.give_span.result) c.args.pending.now c.give_span.new.pending (reply parts))
+    (octets_told oracles g.V.View.mode store c.args.one.now asked c.in-Octets.field-0 c.in-Some.span c.partial_span-span.result c.in-Octets.is (found ∙ c.in-Some.is) c.partial_span-span.ensures) (c.give_span.ensures.carries oracles are store alike)
 
 pub returns-in_ok-put_fields-in-Fields-clause-carries : goal.returns-in_ok-put_fields-in-Fields-clause-carries
-returns-in_ok-put_fields-in-Fields-clause-carries g c = λ meanings are store alike.
+returns-in_ok-put_fields-in-Fields-clause-carries g c = λ oracles are store alike.
     let asked = c.args.asked.now in
     let one = c.args.one.now in
     let msg = stored_octets c.args.outside.now.desk.store one.id in
     let seen = c.args.shown.now in
     let span = c.in-Some.span in
-    let found = section_found meanings are g.V.View.mode store one msg seen asked.path.now (wanted_place asked.wanted) c.find.result (alike.octets one.id) c.requires.shown c.find.ensures.found in
-    let served = serving_octets meanings g.V.View.mode store one (shown_octets msg seen) (shown_outlines seen) (serving meanings are g.V.View.mode store one msg seen (alike.octets one.id) c.requires.shown) span in
+    let found = section_found oracles are g.V.View.mode store one msg seen asked.path.now (wanted_place asked.wanted) c.find.result (alike.octets one.id) c.requires.shown c.find.ensures.found in
+    let served = serving_octets oracles g.V.View.mode store one (shown_octets msg seen) (shown_outlines seen) (serving oracles are g.V.View.mode store one msg seen (alike.octets one.id) c.requires.shown) span in
     let header = rw c.octets-in-Fields.ensures at c.in_ok-header-in-Fields.ensures in
-    Carries-fields meanings are g.V.View.mode store one asked c.in-Fields.chosen span c.as_slice.result.now c.args.outside.now c.args.pending.now c.put_fields.new.pending c.in-Fields.is (found ∙ c.in-Some.is)
+    Carries-fields oracles are g.V.View.mode store one asked c.in-Fields.chosen span c.as_slice.result.now c.args.outside.now c.args.pending.now c.put_fields.new.pending c.in-Fields.is (found ∙ c.in-Some.is)
     (c.as_slice.ensures ∙ (header ∙ sym served)) c.in_ok-put_fields-in-Fields.ensures

@@ -21,8 +21,8 @@ returns-in-Close-clause-takes g c =
     let old = length c.args.outside.now.desk.store.kept.accounts in
     let new = length c.close-done.new.outside.desk.store.kept.accounts in
     rw c.in-Close.is (TakesAt-plain c.args.outside.now c.close-done.new.outside c.leave.result false _ refl (λ now. Takes-state c.args.outside.now c.close-done.new.outside (fault_of c.close-done.result) c.leave.result state
-    (λ meanings. close_step c.args.tag.now state c.args.imap.state.read_only (listed c.args.outside.now.desk.store.kept c.args.imap.state.folder))
-    (λ meanings are. c.close-done.ensures.does meanings are state) (λ meanings. refl) c.leave.ensures.met c.leave.ensures.state
+    (λ oracles. close_step c.args.tag.now state c.args.imap.state.read_only (listed c.args.outside.now.desk.store.kept c.args.imap.state.folder))
+    (λ oracles are. c.close-done.ensures.does oracles are state) (λ oracles. refl) c.leave.ensures.met c.leave.ensures.state
     (c.leave.ensures.known c.close-done.new.outside.desk.store
     (on_ok_then c.close-done.result (new ≡ old) (c.args.imap.state.account < new) (λ same. rw same c.requires.known.account_is) c.close-done.ensures.accounts))))
 
@@ -35,4 +35,4 @@ returns-in_default-clause-takes g c =
     let plain = selects-other said c.in_default.not-Select c.in_default.not-Examine c.in_default.not-Append in
     let was = c.args.imap.state in
     TakesAt-plain c.args.outside.now c.answer_within.new.outside c.answer_within.result (lacks_date said)
-    (λ meanings now. selected_step meanings now c.args.tag.now g.V.View.mode was.account was.folder was.read_only c.args.outside.now.desk.store said) (dated-other said plain) c.answer_within.ensures.takes
+    (λ oracles now. selected_step oracles now c.args.tag.now g.V.View.mode was.account was.folder was.read_only c.args.outside.now.desk.store said) (dated-other said plain) c.answer_within.ensures.takes

@@ -10,9 +10,9 @@ use Rattle.imap_session.proofs.selected.answer_within.Goals as goal
 pub returns-in-Check-clause-takes : goal.returns-in-Check-clause-takes
 returns-in-Check-clause-takes g c now =
     let state = selected g.V.View.mode c.args.imap.state.account c.args.imap.state.folder c.args.imap.state.read_only in
-    rw c.in-Check.is (Takes-state c.args.outside.now c.say-done.new.outside (fault_of c.say-done.result) c.stay.result state (λ meanings. says c.args.tag.now done state)
-    (λ meanings are. says_given meanings c.args.outside.now c.say-done.new.outside (fault_of c.say-done.result) c.args.tag.now done state c.say-done.ensures.replies)
-    (λ meanings. refl) c.stay.ensures.met c.stay.ensures.state
+    rw c.in-Check.is (Takes-state c.args.outside.now c.say-done.new.outside (fault_of c.say-done.result) c.stay.result state (λ oracles. says c.args.tag.now done state)
+    (λ oracles are. says_given oracles c.args.outside.now c.say-done.new.outside (fault_of c.say-done.result) c.args.tag.now done state c.say-done.ensures.replies)
+    (λ oracles. refl) c.stay.ensures.met c.stay.ensures.state
     (c.stay.ensures.known c.say-done.new.outside.desk.store (on_ok c.say-done.result
     (KnowsFolder c.say-done.new.outside.desk.store c.args.imap.state.account c.args.imap.state.folder c.args.imap.state.messages.items) (rw c.say-done.ensures.replies.leaves.desk c.requires.known))))
 
@@ -20,26 +20,26 @@ pub returns-in-Fetch-clause-takes : goal.returns-in-Fetch-clause-takes
 returns-in-Fetch-clause-takes g c now =
     let store = c.args.outside.now.desk.store in
     rw c.in-Fetch.is (Takes-stays c.args.outside.now c.fetch-done.new.outside (fault_of c.fetch-done.result) c.stay-in-Fetch.result g.V.View.mode c.args.imap.state c.fetch-done.new.selected
-    (λ meanings state. fetch_step meanings c.args.tag.now state g.V.View.mode c.args.imap.state.folder c.args.imap.state.read_only store c.in-Fetch.uid c.in-Fetch.set c.in-Fetch.items)
+    (λ oracles state. fetch_step oracles c.args.tag.now state g.V.View.mode c.args.imap.state.folder c.args.imap.state.read_only store c.in-Fetch.uid c.in-Fetch.set c.in-Fetch.items)
     c.fetch-done.ensures.same (rw c.as_slice-items.ensures at c.fetch-done.ensures.does)
-    (λ meanings state. fetch_state meanings c.args.tag.now state g.V.View.mode c.args.imap.state.folder c.args.imap.state.read_only store c.in-Fetch.uid c.in-Fetch.set c.in-Fetch.items)
+    (λ oracles state. fetch_state oracles c.args.tag.now state g.V.View.mode c.args.imap.state.folder c.args.imap.state.read_only store c.in-Fetch.uid c.in-Fetch.set c.in-Fetch.items)
     c.stay-in-Fetch.ensures.met c.stay-in-Fetch.ensures.state (c.stay-in-Fetch.ensures.known c.fetch-done.new.outside.desk.store c.fetch-done.ensures.known))
 
 pub returns-in-Store-clause-takes : goal.returns-in-Store-clause-takes
 returns-in-Store-clause-takes g c now =
     let store = c.args.outside.now.desk.store in
     rw c.in-Store.is (Takes-stays c.args.outside.now c.store-done.new.outside (fault_of c.store-done.result) c.stay-in-Store.result g.V.View.mode c.args.imap.state c.store-done.new.selected
-    (λ meanings state. store_step c.args.tag.now state c.args.imap.state.folder c.args.imap.state.read_only store c.in-Store.uid c.in-Store.set c.in-Store.op c.in-Store.silent c.in-Store.flags)
+    (λ oracles state. store_step c.args.tag.now state c.args.imap.state.folder c.args.imap.state.read_only store c.in-Store.uid c.in-Store.set c.in-Store.op c.in-Store.silent c.in-Store.flags)
     c.store-done.ensures.same c.store-done.ensures.does
-    (λ meanings state. store_state c.args.tag.now state c.args.imap.state.folder c.args.imap.state.read_only store c.in-Store.uid c.in-Store.set c.in-Store.op c.in-Store.silent c.in-Store.flags)
+    (λ oracles state. store_state c.args.tag.now state c.args.imap.state.folder c.args.imap.state.read_only store c.in-Store.uid c.in-Store.set c.in-Store.op c.in-Store.silent c.in-Store.flags)
     c.stay-in-Store.ensures.met c.stay-in-Store.ensures.state (c.stay-in-Store.ensures.known c.store-done.new.outside.desk.store c.store-done.ensures.known))
 
 pub returns-in-Expunge-clause-takes : goal.returns-in-Expunge-clause-takes
 returns-in-Expunge-clause-takes g c now =
     let messages = listed c.args.outside.now.desk.store.kept c.args.imap.state.folder in
     rw c.in-Expunge.is (Takes-stays c.args.outside.now c.expunge-done.new.outside (fault_of c.expunge-done.result) c.stay-in-Expunge.result g.V.View.mode c.args.imap.state c.expunge-done.new.selected
-    (λ meanings state. expunge_step c.args.tag.now state c.args.imap.state.read_only messages)
-    c.expunge-done.ensures.same c.expunge-done.ensures.does (λ meanings state. expunge_state c.args.tag.now state c.args.imap.state.read_only messages)
+    (λ oracles state. expunge_step c.args.tag.now state c.args.imap.state.read_only messages)
+    c.expunge-done.ensures.same c.expunge-done.ensures.does (λ oracles state. expunge_state c.args.tag.now state c.args.imap.state.read_only messages)
     c.stay-in-Expunge.ensures.met c.stay-in-Expunge.ensures.state (c.stay-in-Expunge.ensures.known c.expunge-done.new.outside.desk.store c.expunge-done.ensures.known))
 
 pub returns-in_default-clause-takes : goal.returns-in_default-clause-takes
@@ -48,7 +48,7 @@ returns-in_default-clause-takes g c now =
     let store = c.args.outside.now.desk.store in
     let state = c.args.imap.state in
     Takes-same c.args.outside.now c.answer_on_folders.new.outside c.answer_on_folders.result _
-    (λ meanings. selected_step meanings now c.args.tag.now mode state.account state.folder state.read_only store c.args.command.now)
-    (λ meanings are. ap (λ (s : State). mailbox_step meanings now c.args.tag.now s mode state.account store c.args.command.now) c.in_selected-session.ensures.state
-    ∙ selected-other meanings now c.args.tag.now mode state.account state.folder state.read_only store c.args.command.now
+    (λ oracles. selected_step oracles now c.args.tag.now mode state.account state.folder state.read_only store c.args.command.now)
+    (λ oracles are. ap (λ (s : State). mailbox_step oracles now c.args.tag.now s mode state.account store c.args.command.now) c.in_selected-session.ensures.state
+    ∙ selected-other oracles now c.args.tag.now mode state.account state.folder state.read_only store c.args.command.now
     c.in_default.not-Check c.in_default.not-Fetch c.in_default.not-Store c.in_default.not-Expunge c.requires.stays) (c.answer_on_folders.ensures.takes now)

@@ -12,20 +12,20 @@ use Rattle.imap_session.proofs.SelectedLemmas.{counts_made, expunge_broken, expu
 use Rattle.imap_session.proofs.selected.expunge.Goals as goal
 
 pub returns-then-selected-clause-does : goal.returns-then-selected-clause-does
-returns-then-selected-clause-does g c = λ meanings are state.
-    expunge_refused meanings c.args.outside.now c.say.new.outside (fault_of c.say.result) c.args.tag.now state c.args.selected.now.read_only (listed c.args.outside.now.desk.store.kept c.args.selected.now.folder)
+returns-then-selected-clause-does g c = λ oracles are state.
+    expunge_refused oracles c.args.outside.now c.say.new.outside (fault_of c.say.result) c.args.tag.now state c.args.selected.now.read_only (listed c.args.outside.now.desk.store.kept c.args.selected.now.folder)
     c.if-selected.true c.say.ensures.replies
 
 pub returns-in_err-lines-clause-does : goal.returns-in_err-lines-clause-does
-returns-in_err-lines-clause-does g c = λ meanings are state.
+returns-in_err-lines-clause-does g c = λ oracles are state.
     let failed = err_from_is_err_and c.from_residual.result c.from_residual.ensures.1 in
     let acts = (expunge_step c.args.tag.now state c.args.selected.now.read_only (listed c.args.outside.now.desk.store.kept c.args.selected.now.folder)).acts in
-    rw (failed.1, failed.2) (DoesFirst-none (part_octets meanings) c.args.outside.now fault.Memory acts (λ bad. cc))
+    rw (failed.1, failed.2) (DoesFirst-none (part_octets oracles) c.args.outside.now fault.Memory acts (λ bad. cc))
 
 pub returns-in_err-take_deleted_out-clause-does : goal.returns-in_err-take_deleted_out-clause-does
-returns-in_err-take_deleted_out-clause-does g c = λ meanings are state.
+returns-in_err-take_deleted_out-clause-does g c = λ oracles are state.
     let failed = err_from_is_err_and c.from_residual-in_err-take_deleted_out.result c.from_residual-in_err-take_deleted_out.ensures.1 in
-    rw (failed.1, failed.2) (expunge_broken meanings c.args.outside.now c.take_deleted_out.new.outside c.in_err-take_deleted_out.field-0.0 c.args.tag.now state c.args.selected.now.read_only
+    rw (failed.1, failed.2) (expunge_broken oracles c.args.outside.now c.take_deleted_out.new.outside c.in_err-take_deleted_out.field-0.0 c.args.tag.now state c.args.selected.now.read_only
     (listed c.args.outside.now.desk.store.kept c.args.selected.now.folder) c.if-selected.false (rw (c.deref-2.ensures.value ∙ c.requires.known.messages_are) at c.in_err-take_deleted_out.ensures.makes))
 
 pub list-requires : goal.list-requires
@@ -34,19 +34,19 @@ list-requires g c =
     rw (c.store.ensures, counts.folders) c.requires.known.folder_is
 
 pub returns-in_err-selected-clause-does : goal.returns-in_err-selected-clause-does
-returns-in_err-selected-clause-does g c = λ meanings are state.
+returns-in_err-selected-clause-does g c = λ oracles are state.
     let failed = err_from_is_err_and c.from_residual-in_err-selected.result c.from_residual-in_err-selected.ensures.1 in
     let messages = listed c.args.outside.now.desk.store.kept c.args.selected.now.folder in
-    let lines = rw (c.deref.ensures.value ∙ c.requires.known.messages_are) at (c.in_ok-lines.ensures meanings) in
-    rw (failed.1, failed.2) (expunge_told meanings c.args.outside.now c.take_deleted_out.new.outside c.take_deleted_out.new.outside (Some fault.Memory) c.args.tag.now state c.args.selected.now.read_only messages
+    let lines = rw (c.deref.ensures.value ∙ c.requires.known.messages_are) at (c.in_ok-lines.ensures oracles) in
+    rw (failed.1, failed.2) (expunge_told oracles c.args.outside.now c.take_deleted_out.new.outside c.take_deleted_out.new.outside (Some fault.Memory) c.args.tag.now state c.args.selected.now.read_only messages
     c.in_ok-lines.lines c.if-selected.false lines (rw (c.deref-2.ensures.value ∙ c.requires.known.messages_are) at c.in_ok-take_deleted_out.ensures.makes)
     (Replies-stop c.take_deleted_out.new.outside fault.Memory (c.in_ok-lines.lines ++ tagged_octets c.args.tag.now done) (λ bad. cc)))
 
 pub returns-clause-does : goal.returns-clause-does
-returns-clause-does g c = λ meanings are state.
+returns-clause-does g c = λ oracles are state.
     let messages = listed c.args.outside.now.desk.store.kept c.args.selected.now.folder in
-    let lines = rw (c.deref.ensures.value ∙ c.requires.known.messages_are) at (c.in_ok-lines.ensures meanings) in
-    expunge_told meanings c.args.outside.now c.take_deleted_out.new.outside c.answer.new.outside (fault_of c.answer.result) c.args.tag.now state c.args.selected.now.read_only messages
+    let lines = rw (c.deref.ensures.value ∙ c.requires.known.messages_are) at (c.in_ok-lines.ensures oracles) in
+    expunge_told oracles c.args.outside.now c.take_deleted_out.new.outside c.answer.new.outside (fault_of c.answer.result) c.args.tag.now state c.args.selected.now.read_only messages
     c.in_ok-lines.lines c.if-selected.false lines (rw (c.deref-2.ensures.value ∙ c.requires.known.messages_are) at c.in_ok-take_deleted_out.ensures.makes) c.answer.ensures.replies
 
 pub returns-clause-known : goal.returns-clause-known

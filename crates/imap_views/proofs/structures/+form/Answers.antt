@@ -112,10 +112,10 @@ push_message-returns t c =
     let put : c.push_slice.new.self ≡ (((c.args.made.now ++ 40 ∷ []) ++ basic) ++ 32 ∷ []) ++ envelope =
     c.in_ok-push_slice.ensures.ok ∙ ap (λ text. text ++ envelope) (c.in_ok-push-2.ensures.ok ∙ ap (λ text. text ++ 32 ∷ []) words) in
     let before = c.in_ok-push-3.ensures.ok ∙ ap (λ text. text ++ 32 ∷ []) put in
-    let behind = c.in_ok-push_part_extension.ensures ∙ ap (λ text. text ++ part_extension seen part) c.in_ok-push_lines.ensures in
+    let following = c.in_ok-push_part_extension.ensures ∙ ap (λ text. text ++ part_extension seen part) c.in_ok-push_lines.ensures in
     on_ok_weaker c.push-4.result
     (λ last. adds_message (c.args.place.levels - 1) c.args.place.number seen (seen_outline c.args.outline) child part c.args.made.now c.push-3.new.self c.push_form.new.made c.push-4.new.self envelope found.place.is_outline
-    (subst (HasEnvelope (header_at seen child)) (sym c.as_slice-2.ensures) c.in_ok-envelope_at.ensures) before c.in_ok-push_form.ensures (last ∙ ap (λ text. text ++ 41 ∷ []) behind))
+    (subst (HasEnvelope (header_at seen child)) (sym c.as_slice-2.ensures) c.in_ok-envelope_at.ensures) before c.in_ok-push_form.ensures (last ∙ ap (λ text. text ++ 41 ∷ []) following))
     c.push-4.ensures.ok
 
 -- ---- a multipart
@@ -147,8 +147,8 @@ push_multipart-returns t c =
     let sub : List ℕ = sub_type part.typed.main in
     let named : c.push_sub_type.new.made ≡ (c.loop-number.made ++ 32 ∷ []) ++ sub =
     c.in_ok-push_sub_type.ensures ∙ ap (λ main. c.push-2.new.self ++ sub_type main) c.as_slice-3.ensures ∙ ap (λ text. text ++ sub) c.in_ok-push-2.ensures.ok in
-    let behind = c.in_ok-push_multipart_extension.ensures ∙ ap (λ text. text ++ multipart_extension seen part) named in
+    let following = c.in_ok-push_multipart_extension.ensures ∙ ap (λ text. text ++ multipart_extension seen part) named in
     on_ok_weaker c.push-3.result
     (λ last. adds_multipart (c.args.place.levels - 1) c.args.place.number seen c.eq-digest.result part numbers c.loop-number.number-index c.args.made.now c.push.new.self c.loop-number.made c.push-3.new.self all
-    c.in_ok-push.ensures.ok c.loop-number.invariant digest (last ∙ ap (λ text. text ++ 41 ∷ []) behind))
+    c.in_ok-push.ensures.ok c.loop-number.invariant digest (last ∙ ap (λ text. text ++ 41 ∷ []) following))
     c.push-3.ensures.ok

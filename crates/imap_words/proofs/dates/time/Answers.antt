@@ -1,22 +1,22 @@
 use Rattle.imap_words.specs.Dates.{IsTime}
 use Rattle.imap_words.proofs.Going.{begins, passes_on}
-use Rattle.imap_words.proofs.DateSteps.{after, stops_in, by_call, behind_hour, behind_colon, behind_minute, two_viable}
+use Rattle.imap_words.proofs.DateSteps.{after, stops_in, by_call, after_hour, after_colon, after_minute, two_viable}
 use Rattle.imap_words.proofs.dates.time.Goals as goal
 
 pub returns-in_err-text : goal.returns-in_err-text
 returns-in_err-text c =
-    passes_on _ _ c.from_residual.result _ c.from_residual.ensures.1 (stops_in _ (begins IsTime c.args.text.now) behind_hour c.in_err-text.ensures)
+    passes_on _ _ c.from_residual.result _ c.from_residual.ensures.1 (stops_in _ (begins IsTime c.args.text.now) after_hour c.in_err-text.ensures)
 
 pub returns-in_err-text-2 : goal.returns-in_err-text-2
 returns-in_err-text-2 c =
     let t1 = after (begins IsTime c.args.text.now) c.in_ok-text.ensures in
-    passes_on _ _ c.from_residual-in_err-text-2.result _ c.from_residual-in_err-text-2.ensures.1 (stops_in _ t1 behind_colon c.in_err-text-2.ensures)
+    passes_on _ _ c.from_residual-in_err-text-2.result _ c.from_residual-in_err-text-2.ensures.1 (stops_in _ t1 after_colon c.in_err-text-2.ensures)
 
 pub returns-in_err-text-3 : goal.returns-in_err-text-3
 returns-in_err-text-3 c =
     let t1 = after (begins IsTime c.args.text.now) c.in_ok-text.ensures in
     let t2 = after t1 c.in_ok-text-2.ensures in
-    passes_on _ _ c.from_residual-in_err-text-3.result _ c.from_residual-in_err-text-3.ensures.1 (stops_in _ t2 behind_minute c.in_err-text-3.ensures)
+    passes_on _ _ c.from_residual-in_err-text-3.result _ c.from_residual-in_err-text-3.ensures.1 (stops_in _ t2 after_minute c.in_err-text-3.ensures)
 
 pub returns-in_err-text-4 : goal.returns-in_err-text-4
 returns-in_err-text-4 c =

@@ -2,16 +2,16 @@ use Rattle.std.proofs.Common.{◌++◌, ◌∷◌, length}
 use Rattle.std.specs.List.{flat_map}
 use Rattle.std.proofs.lemmas.Result.{err_from_is_err_and}
 use Rattle.journal_records.specs.Spelling.{number, octet_list}
-use Rattle.journal_records.proofs.WritingLemmas.{first_of, first_behind, puts_behind, queue_text}
+use Rattle.journal_records.proofs.WritingLemmas.{first_of, first_after, puts_after, queue_text}
 use Rattle.journal_records.proofs.writing.push_queue_front.Goals as goal
 
 pub returns-in_err-push_path : goal.returns-in_err-push_path
 returns-in_err-push_path c =
     let failed = err_from_is_err_and c.from_residual.result c.from_residual.ensures.1 in
     let front = 7 ∷ (octet_list c.args.path.now ++ number (length c.args.addresses.now)) in
-    let behind = flat_map octet_list c.args.addresses.now ++ number c.args.len in
-    rw (failed.1, ← queue_text c.args.path.now (length c.args.addresses.now) behind)
-    (first_of c.args.journal.now c.push_path.new.journal front behind c.in_err-push_path.ensures)
+    let following = flat_map octet_list c.args.addresses.now ++ number c.args.len in
+    rw (failed.1, ← queue_text c.args.path.now (length c.args.addresses.now) following)
+    (first_of c.args.journal.now c.push_path.new.journal front following c.in_err-push_path.ensures)
 
 pub returns-in_err-push_lists : goal.returns-in_err-push_lists
 returns-in_err-push_lists c =
@@ -20,7 +20,7 @@ returns-in_err-push_lists c =
     let addresses = flat_map octet_list c.args.addresses.now in
     let len = number c.args.len in
     rw (failed.1, ← queue_text c.args.path.now (length c.args.addresses.now) (addresses ++ len))
-    (first_behind c.args.journal.now c.push_path.new.journal c.push_lists.new.journal front (addresses ++ len) c.in_ok-push_path.ensures
+    (first_after c.args.journal.now c.push_path.new.journal c.push_lists.new.journal front (addresses ++ len) c.in_ok-push_path.ensures
     (first_of c.push_path.new.journal c.push_lists.new.journal addresses len c.in_err-push_lists.ensures))
 
 pub returns : goal.returns
@@ -29,5 +29,5 @@ returns c =
     let addresses = flat_map octet_list c.args.addresses.now in
     let len = number c.args.len in
     rw (← queue_text c.args.path.now (length c.args.addresses.now) (addresses ++ len))
-    (puts_behind c.args.journal.now c.push_path.new.journal c.push_number.new.journal front (addresses ++ len) c.push_number.result c.in_ok-push_path.ensures
-    (puts_behind c.push_path.new.journal c.push_lists.new.journal c.push_number.new.journal addresses len c.push_number.result c.in_ok-push_lists.ensures c.push_number.ensures))
+    (puts_after c.args.journal.now c.push_path.new.journal c.push_number.new.journal front (addresses ++ len) c.push_number.result c.in_ok-push_path.ensures
+    (puts_after c.push_path.new.journal c.push_lists.new.journal c.push_number.new.journal addresses len c.push_number.result c.in_ok-push_lists.ensures c.push_number.ensures))

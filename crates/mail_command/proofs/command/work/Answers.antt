@@ -5,8 +5,8 @@ use Rattle.ace_domains.specs.Domains.{compared_form}
 use Rattle.address_grammar.specs.Addresses.{address_text}
 use Rattle.mail_store.specs.Changing.{account_refusal, domain_refusal}
 use Rattle.journal_records.specs.declared.records.Record.TheVariants as records
-use Rattle.session_core.specs.Serving.{OfCourse}
-use Rattle.session_core.proofs.MeaningLemmas.{meanings_given}
+use Rattle.session_core.specs.Serving.{OfInstance}
+use Rattle.session_core.proofs.MeaningLemmas.{oracles_given}
 use Rattle.session_core.specs.declared.desk.TheConstants.{LIMITS}
 use Rattle.setup_command.specs.AddingRuns.{RunsAdding, IsExactAdding}
 use Rattle.setup_command.specs.Statuses.{status_of}
@@ -15,8 +15,8 @@ use Rattle.mail_command.specs.Protocols.{protocol_for}
 use Rattle.mail_command.specs.RelayRuns.{RunsRelay}
 use Rattle.mail_command.specs.Running.{RunsSession}
 use Rattle.mail_command.specs.Words.{OfSession, OfAccount, OfDomain, OfRelay}
-use Rattle.mail_command.proofs.ApartLemmas.{apart_check, apart_downgrade, apart_few, apart_gen, apart_help, apart_names, apart_opens}
-use Rattle.mail_command.proofs.CauseLemmas.{account_words, apart_words, domain_words, no_words, relay_words, session_words, unread_words}
+use Rattle.mail_command.proofs.StandaloneLemmas.{standalone_check, standalone_downgrade, standalone_few, standalone_gen, standalone_help, standalone_names, standalone_opens}
+use Rattle.mail_command.proofs.CauseLemmas.{account_words, standalone_words, domain_words, no_words, relay_words, session_words, unread_words}
 use Rattle.mail_command.proofs.CommandLemmas.{account_at, domain_at, none_opens, not_begun, refusal_unbegun, relay_at}
 use Rattle.mail_command.proofs.RelayLemmas.{relay_unbegun}
 use Rattle.mail_command.proofs.WordsLemmas.{session_once}
@@ -25,76 +25,76 @@ use Rattle.mail_command.proofs.command.work.Goals as goal
 pub returns-in_err-command-clause-words : goal.returns-in_err-command-clause-words
 returns-in_err-command-clause-words g c =
     let failed = err_from_is_err_and c.from_residual.result c.from_residual.ensures.1 in
-    rw (failed.1, failed.2) (λ none. refusal_unbegun (g.W.Wire.tells c.args.wire.now))
+    rw (failed.1, failed.2) (λ none. refusal_unbegun (g.W.Wire.observed c.args.wire.now))
 
 pub returns-in_err-command-clause-account : goal.returns-in_err-command-clause-account
 returns-in_err-command-clause-account g c =
     let failed = err_from_is_err_and c.from_residual.result c.from_residual.ensures.1 in
-    rw (failed.1, failed.2) (λ address password is path_of reads. not_begun _ _ (g.J.Keeper.tells c.args.keeper.now).octets (g.W.Wire.tells c.args.wire.now))
+    rw (failed.1, failed.2) (λ address password is path_of reads. not_begun _ _ (g.J.Keeper.observed c.args.keeper.now).octets (g.W.Wire.observed c.args.wire.now))
 
 pub returns-in_err-command-clause-relay : goal.returns-in_err-command-clause-relay
 returns-in_err-command-clause-relay g c =
     let failed = err_from_is_err_and c.from_residual.result c.from_residual.ensures.1 in
     rw (failed.1, failed.2) (λ host is. relay_unbegun LIMITS host _)
 
-pub run_apart-requires : goal.run_apart-requires
-run_apart-requires g c = apart_few c.args.words.now c.in-Some-Apart.command (rw (c.in-Some-Apart.is, c.in-Some-Apart.field-0-is) at c.in_ok-command.ensures.names)
+pub run_standalone-requires : goal.run_standalone-requires
+run_standalone-requires g c = standalone_few c.args.words.now c.in-Some-Standalone.command (rw (c.in-Some-Standalone.is, c.in-Some-Standalone.field-0-is) at c.in_ok-command.ensures.names)
 
-pub returns-in-Some-Apart-clause-words : goal.returns-in-Some-Apart-clause-words
-returns-in-Some-Apart-clause-words g c none = absurd (apart_names c.args.words.now c.in-Some-Apart.command (rw (c.in-Some-Apart.is, c.in-Some-Apart.field-0-is) at c.in_ok-command.ensures.names) none)
+pub returns-in-Some-Standalone-clause-words : goal.returns-in-Some-Standalone-clause-words
+returns-in-Some-Standalone-clause-words g c none = absurd (standalone_names c.args.words.now c.in-Some-Standalone.command (rw (c.in-Some-Standalone.is, c.in-Some-Standalone.field-0-is) at c.in_ok-command.ensures.names) none)
 
-pub returns-in-Some-Apart-clause-downgrade : goal.returns-in-Some-Apart-clause-downgrade
-returns-in-Some-Apart-clause-downgrade g c =
-    apart_downgrade c.args.words.now c.in-Some-Apart.command _ _ _ (rw (c.in-Some-Apart.is, c.in-Some-Apart.field-0-is) at c.in_ok-command.ensures.names) c.run_apart.ensures.runs
+pub returns-in-Some-Standalone-clause-downgrade : goal.returns-in-Some-Standalone-clause-downgrade
+returns-in-Some-Standalone-clause-downgrade g c =
+    standalone_downgrade c.args.words.now c.in-Some-Standalone.command _ _ _ (rw (c.in-Some-Standalone.is, c.in-Some-Standalone.field-0-is) at c.in_ok-command.ensures.names) c.run_standalone.ensures.runs
 
-pub returns-in-Some-Apart-clause-check : goal.returns-in-Some-Apart-clause-check
-returns-in-Some-Apart-clause-check g c =
-    apart_check c.args.words.now c.in-Some-Apart.command _ _ _ (rw (c.in-Some-Apart.is, c.in-Some-Apart.field-0-is) at c.in_ok-command.ensures.names) c.run_apart.ensures.runs
+pub returns-in-Some-Standalone-clause-check : goal.returns-in-Some-Standalone-clause-check
+returns-in-Some-Standalone-clause-check g c =
+    standalone_check c.args.words.now c.in-Some-Standalone.command _ _ _ (rw (c.in-Some-Standalone.is, c.in-Some-Standalone.field-0-is) at c.in_ok-command.ensures.names) c.run_standalone.ensures.runs
 
-pub returns-in-Some-Apart-clause-generates : goal.returns-in-Some-Apart-clause-generates
-returns-in-Some-Apart-clause-generates g c =
-    apart_gen c.args.words.now c.in-Some-Apart.command _ _ _ (rw (c.in-Some-Apart.is, c.in-Some-Apart.field-0-is) at c.in_ok-command.ensures.names) c.run_apart.ensures.runs
+pub returns-in-Some-Standalone-clause-generates : goal.returns-in-Some-Standalone-clause-generates
+returns-in-Some-Standalone-clause-generates g c =
+    standalone_gen c.args.words.now c.in-Some-Standalone.command _ _ _ (rw (c.in-Some-Standalone.is, c.in-Some-Standalone.field-0-is) at c.in_ok-command.ensures.names) c.run_standalone.ensures.runs
 
-pub returns-in-Some-Apart-clause-help : goal.returns-in-Some-Apart-clause-help
-returns-in-Some-Apart-clause-help g c =
-    apart_help c.args.words.now c.in-Some-Apart.command _ _ _ (rw (c.in-Some-Apart.is, c.in-Some-Apart.field-0-is) at c.in_ok-command.ensures.names) c.run_apart.ensures.runs
+pub returns-in-Some-Standalone-clause-help : goal.returns-in-Some-Standalone-clause-help
+returns-in-Some-Standalone-clause-help g c =
+    standalone_help c.args.words.now c.in-Some-Standalone.command _ _ _ (rw (c.in-Some-Standalone.is, c.in-Some-Standalone.field-0-is) at c.in_ok-command.ensures.names) c.run_standalone.ensures.runs
 
-pub returns-in-Some-Apart-clause-session : goal.returns-in-Some-Apart-clause-session
-returns-in-Some-Apart-clause-session g c role is =
-    absurd (apart_opens c.args.words.now c.in-Some-Apart.command (rw (c.in-Some-Apart.is, c.in-Some-Apart.field-0-is) at c.in_ok-command.ensures.names) (OfSession role is))
+pub returns-in-Some-Standalone-clause-session : goal.returns-in-Some-Standalone-clause-session
+returns-in-Some-Standalone-clause-session g c role is =
+    absurd (standalone_opens c.args.words.now c.in-Some-Standalone.command (rw (c.in-Some-Standalone.is, c.in-Some-Standalone.field-0-is) at c.in_ok-command.ensures.names) (OfSession role is))
 
-pub returns-in-Some-Apart-clause-account : goal.returns-in-Some-Apart-clause-account
-returns-in-Some-Apart-clause-account g c address password is =
-    absurd (apart_opens c.args.words.now c.in-Some-Apart.command (rw (c.in-Some-Apart.is, c.in-Some-Apart.field-0-is) at c.in_ok-command.ensures.names) (OfAccount address password is))
+pub returns-in-Some-Standalone-clause-account : goal.returns-in-Some-Standalone-clause-account
+returns-in-Some-Standalone-clause-account g c address password is =
+    absurd (standalone_opens c.args.words.now c.in-Some-Standalone.command (rw (c.in-Some-Standalone.is, c.in-Some-Standalone.field-0-is) at c.in_ok-command.ensures.names) (OfAccount address password is))
 
-pub returns-in-Some-Apart-clause-account_exact : goal.returns-in-Some-Apart-clause-account_exact
-returns-in-Some-Apart-clause-account_exact g c address password is =
-    absurd (apart_opens c.args.words.now c.in-Some-Apart.command (rw (c.in-Some-Apart.is, c.in-Some-Apart.field-0-is) at c.in_ok-command.ensures.names) (OfAccount address password is))
+pub returns-in-Some-Standalone-clause-account_exact : goal.returns-in-Some-Standalone-clause-account_exact
+returns-in-Some-Standalone-clause-account_exact g c address password is =
+    absurd (standalone_opens c.args.words.now c.in-Some-Standalone.command (rw (c.in-Some-Standalone.is, c.in-Some-Standalone.field-0-is) at c.in_ok-command.ensures.names) (OfAccount address password is))
 
-pub returns-in-Some-Apart-clause-domain : goal.returns-in-Some-Apart-clause-domain
-returns-in-Some-Apart-clause-domain g c name is =
-    absurd (apart_opens c.args.words.now c.in-Some-Apart.command (rw (c.in-Some-Apart.is, c.in-Some-Apart.field-0-is) at c.in_ok-command.ensures.names) (OfDomain name is))
+pub returns-in-Some-Standalone-clause-domain : goal.returns-in-Some-Standalone-clause-domain
+returns-in-Some-Standalone-clause-domain g c name is =
+    absurd (standalone_opens c.args.words.now c.in-Some-Standalone.command (rw (c.in-Some-Standalone.is, c.in-Some-Standalone.field-0-is) at c.in_ok-command.ensures.names) (OfDomain name is))
 
-pub returns-in-Some-Apart-clause-domain_exact : goal.returns-in-Some-Apart-clause-domain_exact
-returns-in-Some-Apart-clause-domain_exact g c name is =
-    absurd (apart_opens c.args.words.now c.in-Some-Apart.command (rw (c.in-Some-Apart.is, c.in-Some-Apart.field-0-is) at c.in_ok-command.ensures.names) (OfDomain name is))
+pub returns-in-Some-Standalone-clause-domain_exact : goal.returns-in-Some-Standalone-clause-domain_exact
+returns-in-Some-Standalone-clause-domain_exact g c name is =
+    absurd (standalone_opens c.args.words.now c.in-Some-Standalone.command (rw (c.in-Some-Standalone.is, c.in-Some-Standalone.field-0-is) at c.in_ok-command.ensures.names) (OfDomain name is))
 
-pub returns-in-Some-Apart-clause-relay : goal.returns-in-Some-Apart-clause-relay
-returns-in-Some-Apart-clause-relay g c host is =
-    absurd (apart_opens c.args.words.now c.in-Some-Apart.command (rw (c.in-Some-Apart.is, c.in-Some-Apart.field-0-is) at c.in_ok-command.ensures.names) (OfRelay host is))
+pub returns-in-Some-Standalone-clause-relay : goal.returns-in-Some-Standalone-clause-relay
+returns-in-Some-Standalone-clause-relay g c host is =
+    absurd (standalone_opens c.args.words.now c.in-Some-Standalone.command (rw (c.in-Some-Standalone.is, c.in-Some-Standalone.field-0-is) at c.in_ok-command.ensures.names) (OfRelay host is))
 
-pub returns-in-Some-Apart-clause-journal : goal.returns-in-Some-Apart-clause-journal
-returns-in-Some-Apart-clause-journal g c opens =
-    absurd (apart_opens c.args.words.now c.in-Some-Apart.command (rw (c.in-Some-Apart.is, c.in-Some-Apart.field-0-is) at c.in_ok-command.ensures.names) opens)
+pub returns-in-Some-Standalone-clause-journal : goal.returns-in-Some-Standalone-clause-journal
+returns-in-Some-Standalone-clause-journal g c opens =
+    absurd (standalone_opens c.args.words.now c.in-Some-Standalone.command (rw (c.in-Some-Standalone.is, c.in-Some-Standalone.field-0-is) at c.in_ok-command.ensures.names) opens)
 
-pub returns-in-Some-Apart-clause-cause : goal.returns-in-Some-Apart-clause-cause
-returns-in-Some-Apart-clause-cause g c = c.run_apart.ensures.cause (g.J.Keeper.tells c.args.keeper.now)
+pub returns-in-Some-Standalone-clause-cause : goal.returns-in-Some-Standalone-clause-cause
+returns-in-Some-Standalone-clause-cause g c = c.run_standalone.ensures.cause (g.J.Keeper.observed c.args.keeper.now)
 
 pub returns-in-Some-Session-clause-session : goal.returns-in-Some-Session-clause-session
 returns-in-Some-Session-clause-session g c role is =
     subst
-    (λ (role : Role). OfCourse (protocol_for role) (g.C.Clock.tells c.args.clock.now) (λ course. RunsSession course LIMITS (g.J.Keeper.tells c.args.keeper.now).octets (g.J.Keeper.tells c.run_session.new.keeper).octets
-    (g.W.Wire.tells c.args.wire.now) (g.W.Wire.tells c.run_session.new.wire) (status_of c.run_session.result)))
+    (λ (role : Role). OfInstance (protocol_for role) (g.C.Clock.observed c.args.clock.now) (λ instance. RunsSession instance LIMITS (g.J.Keeper.observed c.args.keeper.now).octets (g.J.Keeper.observed c.run_session.new.keeper).octets
+    (g.W.Wire.observed c.args.wire.now) (g.W.Wire.observed c.run_session.new.wire) (status_of c.run_session.result)))
     (session_once c.args.words.now c.in-Some-Session.role role (rw (c.in-Some-Session.is, c.in-Some-Session.field-0-is) at c.in_ok-command.ensures.names) is) c.run_session.ensures.runs
 
 pub returns-in-Some-Session-clause-untouched : goal.returns-in-Some-Session-clause-untouched
@@ -104,15 +104,15 @@ returns-in-Some-Session-clause-untouched g c never =
 pub returns-in-Some-Account-clause-account : goal.returns-in-Some-Account-clause-account
 returns-in-Some-Account-clause-account g c address password is path_of reads =
     account_at
-    (λ x y. RunsAdding (λ kept. account_refusal path_of kept x) (records.Account (address_text x) y) (g.J.Keeper.tells c.args.keeper.now).octets (g.J.Keeper.tells c.run_account.new.keeper).octets
-    (g.W.Wire.tells c.args.wire.now) (g.W.Wire.tells c.run_account.new.wire) (status_of c.run_account.result))
+    (λ x y. RunsAdding (λ kept. account_refusal path_of kept x) (records.Account (address_text x) y) (g.J.Keeper.observed c.args.keeper.now).octets (g.J.Keeper.observed c.run_account.new.keeper).octets
+    (g.W.Wire.observed c.args.wire.now) (g.W.Wire.observed c.run_account.new.wire) (status_of c.run_account.result))
     c.args.words.now c.in-Some-Account.said.address address c.in-Some-Account.said.password password
     (rw (c.in-Some-Account.is, c.in-Some-Account.field-0-is) at c.in_ok-command.ensures.names) is (rw c.as_slice.ensures at (c.run_account.ensures.runs path_of reads))
 
 pub returns-in-Some-Account-clause-account_exact : goal.returns-in-Some-Account-clause-account_exact
 returns-in-Some-Account-clause-account_exact g c address password is path_of reads =
     account_at
-    (λ x y. IfSome (g.J.Keeper.tells c.args.keeper.now).octets (λ octets. IsExactAdding (λ kept. account_refusal path_of kept x) octets (status_of c.run_account.result)))
+    (λ x y. IfSome (g.J.Keeper.observed c.args.keeper.now).octets (λ octets. IsExactAdding (λ kept. account_refusal path_of kept x) octets (status_of c.run_account.result)))
     c.args.words.now c.in-Some-Account.said.address address c.in-Some-Account.said.password password
     (rw (c.in-Some-Account.is, c.in-Some-Account.field-0-is) at c.in_ok-command.ensures.names) is (c.run_account.ensures.exact path_of reads)
 
@@ -123,8 +123,8 @@ returns-in-Some-Account-clause-untouched g c never =
 pub returns-in-Some-Domain-clause-domain : goal.returns-in-Some-Domain-clause-domain
 returns-in-Some-Domain-clause-domain g c name is =
     domain_at
-    (λ x. RunsAdding (λ kept. domain_refusal kept x) (records.Domain (compared_form x)) (g.J.Keeper.tells c.args.keeper.now).octets (g.J.Keeper.tells c.run_domain.new.keeper).octets
-    (g.W.Wire.tells c.args.wire.now) (g.W.Wire.tells c.run_domain.new.wire) (status_of c.run_domain.result))
+    (λ x. RunsAdding (λ kept. domain_refusal kept x) (records.Domain (compared_form x)) (g.J.Keeper.observed c.args.keeper.now).octets (g.J.Keeper.observed c.run_domain.new.keeper).octets
+    (g.W.Wire.observed c.args.wire.now) (g.W.Wire.observed c.run_domain.new.wire) (status_of c.run_domain.result))
     c.args.words.now (string_bytes c.in-Some-Domain.name) name (rw (c.in-Some-Domain.is, c.in-Some-Domain.field-0-is) at c.in_ok-command.ensures.names) is (rw c.deref.ensures at c.run_domain.ensures.runs)
 
 pub returns-in-Some-Domain-clause-untouched : goal.returns-in-Some-Domain-clause-untouched
@@ -150,8 +150,8 @@ pub returns-in-Some-Relay-clause-relay : goal.returns-in-Some-Relay-clause-relay
 returns-in-Some-Relay-clause-relay g c host is =
     relay_at
     (λ x. RunsRelay LIMITS x
-    (record { wire = g.W.Wire.tells c.args.wire.now; keeper = g.J.Keeper.tells c.args.keeper.now; dial = g.L.Dial.tells c.args.dial.now; clock = g.C.Clock.tells c.args.clock.now })
-    (record { wire = g.W.Wire.tells c.run_relay.new.wire; keeper = g.J.Keeper.tells c.run_relay.new.keeper; dial = g.L.Dial.tells c.run_relay.new.dial; clock = g.C.Clock.tells c.run_relay.new.clock })
+    (record { wire = g.W.Wire.observed c.args.wire.now; keeper = g.J.Keeper.observed c.args.keeper.now; dial = g.L.Dial.observed c.args.dial.now; clock = g.C.Clock.observed c.args.clock.now })
+    (record { wire = g.W.Wire.observed c.run_relay.new.wire; keeper = g.J.Keeper.observed c.run_relay.new.keeper; dial = g.L.Dial.observed c.run_relay.new.dial; clock = g.C.Clock.observed c.run_relay.new.clock })
     (status_of c.run_relay.result))
     c.args.words.now (string_bytes c.in-Some-Relay.host) host (rw (c.in-Some-Relay.is, c.in-Some-Relay.field-0-is) at c.in_ok-command.ensures.names) is (rw c.deref-in-Some-Relay.ensures at c.run_relay.ensures.runs)
 
@@ -168,9 +168,9 @@ returns-in_err-command-clause-statuses g c =
     let failed = err_from_is_err_and c.from_residual.result c.from_residual.ensures.1 in
     rw (failed.1, failed.2) (unread_words c.args.words.now)
 
-pub returns-in-Some-Apart-clause-statuses : goal.returns-in-Some-Apart-clause-statuses
-returns-in-Some-Apart-clause-statuses g c =
-    apart_words c.args.words.now c.in-Some-Apart.command _ _ _ (rw (c.in-Some-Apart.is, c.in-Some-Apart.field-0-is) at c.in_ok-command.ensures.names) c.run_apart.ensures.runs
+pub returns-in-Some-Standalone-clause-statuses : goal.returns-in-Some-Standalone-clause-statuses
+returns-in-Some-Standalone-clause-statuses g c =
+    standalone_words c.args.words.now c.in-Some-Standalone.command _ _ _ (rw (c.in-Some-Standalone.is, c.in-Some-Standalone.field-0-is) at c.in_ok-command.ensures.names) c.run_standalone.ensures.runs
 
 pub returns-in-Some-Session-clause-statuses : goal.returns-in-Some-Session-clause-statuses
 returns-in-Some-Session-clause-statuses g c =
@@ -180,7 +180,7 @@ returns-in-Some-Session-clause-statuses g c =
 pub returns-in-Some-Account-clause-statuses : goal.returns-in-Some-Account-clause-statuses
 returns-in-Some-Account-clause-statuses g c =
     account_words _ _ c.args.words.now c.in-Some-Account.said.address c.in-Some-Account.said.password _ _ _ _ _
-    (rw (c.in-Some-Account.is, c.in-Some-Account.field-0-is) at c.in_ok-command.ensures.names) (c.run_account.ensures.runs meanings_given.0.path_of meanings_given.1.paths)
+    (rw (c.in-Some-Account.is, c.in-Some-Account.field-0-is) at c.in_ok-command.ensures.names) (c.run_account.ensures.runs oracles_given.0.path_of oracles_given.1.paths)
 
 pub returns-in-Some-Domain-clause-statuses : goal.returns-in-Some-Domain-clause-statuses
 returns-in-Some-Domain-clause-statuses g c =

@@ -6,9 +6,9 @@ use Rattle.mail_command.proofs.taking.take_up_to.Given as goal
 
 abbrev pub invariant-loop-piece : goal.invariant-loop-piece
 invariant-loop-piece g l = record {
-  takes : Takes (g.W.Wire.tells l.initial.wire) (g.W.Wire.tells l.wire) l.taken;
+  takes : Takes (g.W.Wire.observed l.initial.wire) (g.W.Wire.observed l.wire) l.taken;
   few : length l.taken ≤ l.max + PIECE;
-  goes_on : GoesOn (g.W.Wire.tells l.initial.wire) (g.W.Wire.tells l.wire);
+  goes_on : GoesOn (g.W.Wire.observed l.initial.wire) (g.W.Wire.observed l.wire);
 }
 
 abbrev pub decreases-loop-piece : goal.decreases-loop-piece

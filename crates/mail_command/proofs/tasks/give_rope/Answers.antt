@@ -10,11 +10,11 @@ give_range-requires-clause-within g c = let size = rope_size c.args.msg.now c.ar
 pub returns-in-Ok-clause-gives : goal.returns-in-Ok-clause-gives
 returns-in-Ok-clause-gives g c =
     let size = rope_size c.args.msg.now c.args.rope c.requires in
-    rw c.in-Ok.is at (gives_whole (g.W.Wire.tells c.args.wire.now) (g.W.Wire.tells c.give_range.new.wire) c.give_range.result (octets_of c.args.msg.now c.args.rope) c.size-len.result
+    rw c.in-Ok.is at (gives_whole (g.W.Wire.observed c.args.wire.now) (g.W.Wire.observed c.give_range.new.wire) c.give_range.result (octets_of c.args.msg.now c.args.rope) c.size-len.result
     (omega (arith, size, c.size-len.ensures)) c.give_range.ensures.gives)
 
 pub returns-clause-gives : goal.returns-clause-gives
 returns-clause-gives g c =
     let size = rope_size c.args.msg.now c.args.rope c.requires in
-    rw c.in-Err.is at (gives_whole (g.W.Wire.tells c.args.wire.now) (g.W.Wire.tells c.give_range.new.wire) c.give_range.result (octets_of c.args.msg.now c.args.rope) c.size-len.result
+    rw c.in-Err.is at (gives_whole (g.W.Wire.observed c.args.wire.now) (g.W.Wire.observed c.give_range.new.wire) c.give_range.result (octets_of c.args.msg.now c.args.rope) c.size-len.result
     (omega (arith, size, c.size-len.ensures)) c.give_range.ensures.gives)

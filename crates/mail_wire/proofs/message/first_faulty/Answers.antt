@@ -7,17 +7,17 @@ pub returns-then-not-begins_crlf : goal.returns-then-not-begins_crlf
 returns-then-not-begins_crlf c =
     let octets = c.args.octets.now in
     let first = rw (between_to_end octets c.loop-passed.at (length octets) (omega arith)) at c.in-Some.ensures in
-    let behind = between_to_end octets (c.loop-passed.at + c.in-Some.passed) (length octets) (omega arith) in
+    let following = between_to_end octets (c.loop-passed.at + c.in-Some.passed) (length octets) (omega arith) in
     first_found octets c.loop-passed.at c.in-Some.passed c.loop-passed.invariant first
-    (λ begins. let is : c.begins_crlf.result ≡ true = c.begins_crlf.ensures.1 (rw behind begins) in cc)
+    (λ begins. let is : c.begins_crlf.result ≡ true = c.begins_crlf.ensures.1 (rw following begins) in cc)
 
 pub loop-passed-preserved : goal.loop-passed-preserved
 loop-passed-preserved c =
     let octets = c.args.octets.now in
     let first = rw (between_to_end octets c.loop-passed.at (length octets) (omega arith)) at c.in-Some.ensures in
-    let behind = between_to_end octets (c.loop-passed.at + c.in-Some.passed) (length octets) (omega arith) in
+    let following = between_to_end octets (c.loop-passed.at + c.in-Some.passed) (length octets) (omega arith) in
     scanned_crlf octets c.loop-passed.at c.in-Some.passed c.loop-passed.invariant first
-    (rw behind at (c.begins_crlf.ensures.0 c.if-not-begins_crlf.false))
+    (rw following at (c.begins_crlf.ensures.0 c.if-not-begins_crlf.false))
 
 pub returns : goal.returns
 returns c =

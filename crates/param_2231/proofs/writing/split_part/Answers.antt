@@ -7,5 +7,5 @@ returns-clause-part c =
     rw (c.split_at.ensures.front, c.split_at.ensures.back)
     (IsPartOf-cut (value_of c.args.unit.now) c.args.octets.now _ _ c.requires.some c.requires.text c.fitting.ensures c.last_end.ensures)
 
-pub returns-clause-behind : goal.returns-clause-behind
-returns-clause-behind c = rw (c.split_at.ensures.back) (IsCuttable-drop (value_of c.args.unit.now) c.args.octets.now _ c.requires.text c.last_end.ensures.ends)
+pub returns-clause-following : goal.returns-clause-following
+returns-clause-following c = rw (c.split_at.ensures.back) (IsCuttable-drop (value_of c.args.unit.now) c.args.octets.now _ c.requires.text c.last_end.ensures.ends)

@@ -9,7 +9,7 @@ loop-token-init c = CommentsGo-start c.args.text.now (tokens_of c.args.tokens) _
 
 pub loop-token-preserved : goal.loop-token-preserved
 loop-token-preserved c =
-    CommentsGo-push c.args.text.now (tokens_of c.args.tokens) (tokens_of c.loop-token.rest) (tokens_of c.in-Some.behind) c.in-Some.token c.loop-token.comments.items c.push_comment.new.comments.items
+    CommentsGo-push c.args.text.now (tokens_of c.args.tokens) (tokens_of c.loop-token.rest) (tokens_of c.in-Some.following) c.in-Some.token c.loop-token.comments.items c.push_comment.new.comments.items
     c.in-Some.ensures.found c.loop-token.invariant c.in_ok-push_comment.ensures
 
 pub returns : goal.returns
@@ -22,5 +22,5 @@ push_comment-requires c =
       style = Mime;
       tokens = tokens_of c.args.tokens;
       has = c.requires;
-      among = token_among (tokens_of c.args.tokens) go.front (tokens_of c.in-Some.behind) c.in-Some.token (go.whole ∙ ap (λ r. go.front ++ r) c.in-Some.ensures.found);
+      among = token_among (tokens_of c.args.tokens) go.front (tokens_of c.in-Some.following) c.in-Some.token (go.whole ∙ ap (λ r. go.front ++ r) c.in-Some.ensures.found);
     }

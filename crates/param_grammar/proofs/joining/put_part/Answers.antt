@@ -9,10 +9,10 @@ returns-in_default-clause-put c pieces parts placed below are e =
     (λ n l. c.in_default.ensures.number pieces placed below n (omega (arith, l, c.len.ensures, c.args.slots.now.ok)))
 
 pub returns-then-is_some-clause-taken : goal.returns-then-is_some-clause-taken
-returns-then-is_some-clause-taken c pieces parts behind placed below are count e =
+returns-then-is_some-clause-taken c pieces parts following placed below are count e =
     let number = c.in-Some.number in
     let small : number < length c.args.slots.now.items = omega (arith, c.in-Some.ensures.below, c.len.ensures, c.args.slots.now.ok) in
-    twice (piece_in pieces) (parts ++ piece_in pieces c.args.part ∷ behind) parts behind (piece_in pieces c.args.part) c.args.slots.now.items number (length c.args.slots.now.items) count refl are small
+    twice (piece_in pieces) (parts ++ piece_in pieces c.args.part ∷ following) parts following (piece_in pieces c.args.part) c.args.slots.now.items number (length c.args.slots.now.items) count refl are small
     (full_at (piece_in pieces) c.args.slots.now.items number c.index.result.now small c.index.ensures (sym c.is_some.ensures ∙ c.if-is_some.true))
     (c.in-Some.ensures.number pieces placed below number c.in-Some.ensures.below ∙ self (piece_in pieces) number)
 

@@ -2,7 +2,7 @@ use Rattle.std.proofs.Common.{◌≡◌, length, arith}
 use Rattle.std.proofs.lemmas.Bool.Decides.{nat_tests}
 use Rattle.param_grammar.specs.Places.{piece_in}
 use Rattle.param_grammar.specs.private.Ordered.{name_in}
-use Rattle.param_grammar.proofs.RunLemmas.{IsNameRun-within, RolesGo-run, RolesGo-turn, behind_shorter, numbered_end, roles_end}
+use Rattle.param_grammar.proofs.RunLemmas.{IsNameRun-within, RolesGo-run, RolesGo-turn, after_shorter, numbered_end, roles_end}
 use Rattle.param_grammar.proofs.role.roles_of.Goals as goal
 
 pub set_roles-requires-clause-within : goal.set_roles-requires-clause-within
@@ -20,7 +20,7 @@ returns-then-not-branch-clause-none c pieces are all =
 
 pub loop-first-smaller : goal.loop-first-smaller
 loop-first-smaller c =
-    behind_shorter (name_in c.args.named.lower.now c.args.named.places.now) c.loop-first.rest.now c.in-Some.field-0-1.now c.split_run.result.0.now c.split_run.result.1.now c.in-Some.first.now
+    after_shorter (name_in c.args.named.lower.now c.args.named.places.now) c.loop-first.rest.now c.in-Some.field-0-1.now c.split_run.result.0.now c.split_run.result.1.now c.in-Some.first.now
     c.in-Some.ensures.cases.0 c.split_run.ensures
 
 pub loop-first-preserved : goal.loop-first-preserved

@@ -19,12 +19,12 @@ front-requires c = let all = c.len.ensures in omega (arith, all)
 pub returns-then-is_mark : goal.returns-then-is_mark
 returns-then-is_mark c =
     let count : c.len.result - c.len-then-is_mark.result ≡ length (tokens_of c.args.tokens) - length (tokens_of c.loop-token.rest) = rw (c.len.ensures, c.len-then-is_mark.ensures) refl in
-    SplitsSection-cut c.args.text.now (tokens_of c.args.tokens) (tokens_of c.loop-token.rest) (tokens_of c.in-Some.behind) (tokens_of c.front.result) c.in-Some.token c.loop-token.invariant
+    SplitsSection-cut c.args.text.now (tokens_of c.args.tokens) (tokens_of c.loop-token.rest) (tokens_of c.in-Some.following) (tokens_of c.front.result) c.in-Some.token c.loop-token.invariant
     c.in-Some.ensures.found (sym c.is_mark.ensures ∙ c.if-is_mark.true) (c.front.ensures ∙ ap (λ n. take n (tokens_of c.args.tokens)) count)
 
 pub loop-token-preserved : goal.loop-token-preserved
 loop-token-preserved c =
-    PassesTo-more c.args.text.now (tokens_of c.args.tokens) (tokens_of c.loop-token.rest) (tokens_of c.in-Some.behind) c.in-Some.token c.loop-token.invariant c.in-Some.ensures.found
+    PassesTo-more c.args.text.now (tokens_of c.args.tokens) (tokens_of c.loop-token.rest) (tokens_of c.in-Some.following) c.in-Some.token c.loop-token.invariant c.in-Some.ensures.found
     (sym c.is_mark.ensures ∙ c.if-is_mark.false)
 
 pub returns : goal.returns

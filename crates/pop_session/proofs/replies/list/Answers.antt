@@ -40,17 +40,17 @@ loop-place-preserved g c =
     let so_far = c.loop-place.invariant in
     elim c.if-not-one.branch [
       | then-not-one+in_ok-size+in_ok-line+in_ok-push_str w ↦ record {
-        text = λ meanings are.
-            listing_turn meanings (size_of meanings g.V.View.mode before.desk.store) items d place _ (string_bytes c.loop-place.text) w.as_str.result.now (string_bytes c.if-not-one.text) _
-            c.loop-place-test.true w.if-not-one.true (rw so_far.asks.store at (w.in_ok-size.ensures.size meanings are)) (w.as_str.ensures.value ∙ w.in_ok-line.ensures)
-            (ap string_bytes w.text-is ∙ w.in_ok-push_str.ensures.bytes) (so_far.text meanings are);
+        text = λ oracles are.
+            listing_turn oracles (size_of oracles g.V.View.mode before.desk.store) items d place _ (string_bytes c.loop-place.text) w.as_str.result.now (string_bytes c.if-not-one.text) _
+            c.loop-place-test.true w.if-not-one.true (rw so_far.asks.store at (w.in_ok-size.ensures.size oracles are)) (w.as_str.ensures.value ∙ w.in_ok-line.ensures)
+            (ap string_bytes w.text-is ∙ w.in_ok-push_str.ensures.bytes) (so_far.text oracles are);
         asks = rw w.outside-is (asks_kept g.V.View.mode before mid w.size.new.outside items place d c.loop-place-test.true w.if-not-one.true so_far.asks w.in_ok-size.ensures.asks);
         keeps = rw w.outside-is (Keeps-then before mid w.size.new.outside None so_far.keeps w.in_ok-size.ensures.keeps);
       }
       | else-not-one w ↦ record {
-        text = λ meanings are.
-            listing_over meanings (size_of meanings g.V.View.mode before.desk.store) items d place (string_bytes c.loop-place.text) (string_bytes c.if-not-one.text) _
-            c.loop-place-test.true w.if-not-one.false (ap string_bytes w.text-is) (so_far.text meanings are);
+        text = λ oracles are.
+            listing_over oracles (size_of oracles g.V.View.mode before.desk.store) items d place (string_bytes c.loop-place.text) (string_bytes c.if-not-one.text) _
+            c.loop-place-test.true w.if-not-one.false (ap string_bytes w.text-is) (so_far.text oracles are);
         asks = rw w.outside-is (asks_marked g.V.View.mode before mid items place d c.loop-place-test.true w.if-not-one.false so_far.asks);
         keeps = rw w.outside-is so_far.keeps;
       }
@@ -102,9 +102,9 @@ returns-in_err-push_str-2-clause-keeps g c =
     keeps_lost c.args.outside.now c.loop-place.outside c.from_residual-in_err-push_str-2.result (rw failed.1 refl) c.loop-place.invariant.keeps
 
 pub returns-clause-text : goal.returns-clause-text
-returns-clause-text g c = λ meanings are.
-    listing_end meanings (size_of meanings g.V.View.mode c.args.outside.now.desk.store) c.args.maildrop.now c.loop-place.place (string_bytes c.loop-place.text) (string_bytes c.push_str-2.new.self)
-    c.loop-place-test.false c.in_ok-push_str-2.ensures.bytes (c.loop-place.invariant.text meanings are)
+returns-clause-text g c = λ oracles are.
+    listing_end oracles (size_of oracles g.V.View.mode c.args.outside.now.desk.store) c.args.maildrop.now c.loop-place.place (string_bytes c.loop-place.text) (string_bytes c.push_str-2.new.self)
+    c.loop-place-test.false c.in_ok-push_str-2.ensures.bytes (c.loop-place.invariant.text oracles are)
 
 pub returns-clause-asks : goal.returns-clause-asks
 returns-clause-asks g c = asks_all g.V.View.mode c.args.outside.now c.loop-place.outside c.args.maildrop.now c.loop-place.place c.loop-place-test.false c.loop-place.invariant.asks

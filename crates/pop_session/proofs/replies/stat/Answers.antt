@@ -21,8 +21,8 @@ loop-one-preserved g c = elim c.if-not-one.branch [
       record {
         counted = w.count-is ∙ count-kept c.args.maildrop.now c.loop-one.one-index d c.loop-one.count c.loop-one-test.true w.if-not-one.true c.loop-one.invariant.counted;
         few = omega (arith, w.count-is, c.loop-one.invariant.few);
-        summed = λ meanings gives. w.total-is ∙ sum-kept (size_of meanings g.V.View.mode c.args.outside.now.desk.store) c.args.maildrop.now c.loop-one.one-index d c.loop-one.total
-            w.in_ok-total.field-0 c.loop-one-test.true w.if-not-one.true (rw c.loop-one.invariant.asks.store at (w.in_ok-total.ensures.size meanings gives)) (c.loop-one.invariant.summed meanings gives);
+        summed = λ oracles gives. w.total-is ∙ sum-kept (size_of oracles g.V.View.mode c.args.outside.now.desk.store) c.args.maildrop.now c.loop-one.one-index d c.loop-one.total
+            w.in_ok-total.field-0 c.loop-one-test.true w.if-not-one.true (rw c.loop-one.invariant.asks.store at (w.in_ok-total.ensures.size oracles gives)) (c.loop-one.invariant.summed oracles gives);
         fits = omega (arith, w.total-is, c.loop-one.invariant.fits, small);
         asks = rw w.outside-is (asks_kept g.V.View.mode c.args.outside.now c.loop-one.outside w.size.new.outside c.args.maildrop.now c.loop-one.one-index d c.loop-one-test.true w.if-not-one.true
             c.loop-one.invariant.asks w.in_ok-total.ensures.asks);
@@ -33,7 +33,7 @@ loop-one-preserved g c = elim c.if-not-one.branch [
       record {
         counted = rw same (w.count-is ∙ c.loop-one.invariant.counted);
         few = omega (arith, w.count-is, c.loop-one.invariant.few);
-        summed = λ meanings gives. rw same (w.total-is ∙ c.loop-one.invariant.summed meanings gives);
+        summed = λ oracles gives. rw same (w.total-is ∙ c.loop-one.invariant.summed oracles gives);
         fits = omega (arith, w.total-is, c.loop-one.invariant.fits);
         asks = rw w.outside-is (asks_marked g.V.View.mode c.args.outside.now c.loop-one.outside c.args.maildrop.now c.loop-one.one-index d c.loop-one-test.true w.if-not-one.false c.loop-one.invariant.asks);
         keeps = rw w.outside-is c.loop-one.invariant.keeps;

@@ -3,27 +3,27 @@ use Rattle.pop_session.proofs.session.answer_authorization.Goals.{then-is_of_tra
 use Rattle.pop_session.proofs.session.answer_authorization.Goals as goal
 
 pub returns-clause-reply : goal.returns-clause-reply
-returns-clause-reply g c meanings are = elim c.if-is_of_transaction.branch [
+returns-clause-reply g c oracles are = elim c.if-is_of_transaction.branch [
   | then-is_of_transaction w ↦ search rules
   | else-is_of_transaction+in-Capa-None w ↦ search rules
   | else-is_of_transaction+in-Utf8-None w ↦ search rules
   | else-is_of_transaction+in-User-Some+in_ok-user-in-User-Some w ↦ search rules
-  | else-is_of_transaction+in-Pass-Some+in_ok-pop-in-Pass-Some+in-OutOfOrder w ↦ let login = w.in_ok-pop-in-Pass-Some.ensures.login meanings are in search (rules, login)
-  | else-is_of_transaction+in-Pass-Some+in_ok-pop-in-Pass-Some+in-Refused w ↦ let login = w.in_ok-pop-in-Pass-Some.ensures.login meanings are in search (rules, login)
-  | else-is_of_transaction+in-Pass-Some+in_ok-pop-in-Pass-Some+in-Open w ↦ let login = w.in_ok-pop-in-Pass-Some.ensures.login meanings are in search (rules, login)
+  | else-is_of_transaction+in-Pass-Some+in_ok-pop-in-Pass-Some+in-OutOfOrder w ↦ let login = w.in_ok-pop-in-Pass-Some.ensures.login oracles are in search (rules, login)
+  | else-is_of_transaction+in-Pass-Some+in_ok-pop-in-Pass-Some+in-Refused w ↦ let login = w.in_ok-pop-in-Pass-Some.ensures.login oracles are in search (rules, login)
+  | else-is_of_transaction+in-Pass-Some+in_ok-pop-in-Pass-Some+in-Open w ↦ let login = w.in_ok-pop-in-Pass-Some.ensures.login oracles are in search (rules, login)
   | else-is_of_transaction+in-Quit-None w ↦ search rules
   | else-is_of_transaction+in_default-2 w ↦ search rules
 ]
 
 pub returns-clause-next : goal.returns-clause-next
-returns-clause-next g c meanings are = elim c.if-is_of_transaction.branch [
+returns-clause-next g c oracles are = elim c.if-is_of_transaction.branch [
   | then-is_of_transaction w ↦ search rules
   | else-is_of_transaction+in-Capa-None w ↦ search rules
   | else-is_of_transaction+in-Utf8-None w ↦ search rules
   | else-is_of_transaction+in-User-Some+in_ok-user-in-User-Some w ↦ search rules
-  | else-is_of_transaction+in-Pass-Some+in_ok-pop-in-Pass-Some+in-OutOfOrder w ↦ let login = w.in_ok-pop-in-Pass-Some.ensures.login meanings are in search (rules, login)
-  | else-is_of_transaction+in-Pass-Some+in_ok-pop-in-Pass-Some+in-Refused w ↦ let login = w.in_ok-pop-in-Pass-Some.ensures.login meanings are in search (rules, login)
-  | else-is_of_transaction+in-Pass-Some+in_ok-pop-in-Pass-Some+in-Open w ↦ let login = w.in_ok-pop-in-Pass-Some.ensures.login meanings are in search (rules, login)
+  | else-is_of_transaction+in-Pass-Some+in_ok-pop-in-Pass-Some+in-OutOfOrder w ↦ let login = w.in_ok-pop-in-Pass-Some.ensures.login oracles are in search (rules, login)
+  | else-is_of_transaction+in-Pass-Some+in_ok-pop-in-Pass-Some+in-Refused w ↦ let login = w.in_ok-pop-in-Pass-Some.ensures.login oracles are in search (rules, login)
+  | else-is_of_transaction+in-Pass-Some+in_ok-pop-in-Pass-Some+in-Open w ↦ let login = w.in_ok-pop-in-Pass-Some.ensures.login oracles are in search (rules, login)
   | else-is_of_transaction+in-Quit-None w ↦ search rules
   | else-is_of_transaction+in_default-2 w ↦ search rules
 ]

@@ -13,7 +13,7 @@ returns-in_err-answer-clause-takes g c =
     let failed = err_from_is_err_and c.from_residual.result c.from_residual.ensures.1 in
     rw (failed.1, failed.2)
     (takes_stop c.args.outside.now fault.Memory []
-    (λ meanings. authorization_step meanings g.V.View.mode c.args.pop.state.user c.args.outside.now.desk.store c.args.command.keyword (option_copied c.args.command.argument)) (λ bad. cc))
+    (λ oracles. authorization_step oracles g.V.View.mode c.args.pop.state.user c.args.outside.now.desk.store c.args.command.keyword (option_copied c.args.command.argument)) (λ bad. cc))
 
 pub returns-in_err-give-clause-takes : goal.returns-in_err-give-clause-takes
 returns-in_err-give-clause-takes g c =
@@ -23,9 +23,9 @@ returns-in_err-give-clause-takes g c =
     let word = c.args.command.keyword in
     let argument = option_copied c.args.command.argument in
     rw (failed.1, failed.2)
-    (takes_failed c.args.outside.now c.give.new.self c.in_err-give.field-0.0 (λ meanings. authorization_step meanings g.V.View.mode user store word argument)
-    (λ meanings. authorization_changes meanings g.V.View.mode user store word argument)
-    (λ meanings are. subst (λ (octets : List ℕ). Replies c.args.outside.now c.give.new.self (Some c.in_err-give.field-0.0) octets) (rw c.store.ensures at (c.in_ok-answer.ensures.reply meanings are)) c.in_err-give.ensures.replies))
+    (takes_failed c.args.outside.now c.give.new.self c.in_err-give.field-0.0 (λ oracles. authorization_step oracles g.V.View.mode user store word argument)
+    (λ oracles. authorization_changes oracles g.V.View.mode user store word argument)
+    (λ oracles are. subst (λ (octets : List ℕ). Replies c.args.outside.now c.give.new.self (Some c.in_err-give.field-0.0) octets) (rw c.store.ensures at (c.in_ok-answer.ensures.reply oracles are)) c.in_err-give.ensures.replies))
 
 pub returns-clause-takes : goal.returns-clause-takes
 returns-clause-takes g c =
@@ -33,8 +33,8 @@ returns-clause-takes g c =
     let store = c.args.outside.now.desk.store in
     let word = c.args.command.keyword in
     let argument = option_copied c.args.command.argument in
-    takes_reply c.args.outside.now c.give.new.self (Ok c.in_ok-answer.answer.next) (λ meanings. authorization_step meanings g.V.View.mode user store word argument)
-    (λ meanings. authorization_changes meanings g.V.View.mode user store word argument)
-    (λ meanings are. subst (λ (octets : List ℕ). Replies c.args.outside.now c.give.new.self None octets) (rw c.store.ensures at (c.in_ok-answer.ensures.reply meanings are)) c.in_ok-give.ensures.replies)
-    (λ meanings are. rw c.store.ensures at (c.in_ok-answer.ensures.next meanings are))
+    takes_reply c.args.outside.now c.give.new.self (Ok c.in_ok-answer.answer.next) (λ oracles. authorization_step oracles g.V.View.mode user store word argument)
+    (λ oracles. authorization_changes oracles g.V.View.mode user store word argument)
+    (λ oracles are. subst (λ (octets : List ℕ). Replies c.args.outside.now c.give.new.self None octets) (rw c.store.ensures at (c.in_ok-answer.ensures.reply oracles are)) c.in_ok-give.ensures.replies)
+    (λ oracles are. rw c.store.ensures at (c.in_ok-answer.ensures.next oracles are))
     (rw c.in_ok-give.ensures.replies.leaves.desk (rw c.store.ensures at c.in_ok-answer.ensures.known))

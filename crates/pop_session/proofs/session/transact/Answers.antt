@@ -21,5 +21,5 @@ returns-in_default-clause-takes g c =
     let argument = option_copied c.args.command.argument in
     let other : is_changing c.args.command.keyword (option_copied c.args.command.argument) ≡ false = search rules in
     takes_as c.args.outside.now c.stay.new.outside c.stay.result (transaction_asks g.V.View.mode items store word argument)
-    (λ meanings. answers (transaction_reply meanings g.V.View.mode items store word argument) (transaction g.V.View.mode items))
-    (λ meanings. transaction_step meanings g.V.View.mode items store word argument) (λ meanings. transaction_step-other meanings g.V.View.mode items store word argument other) c.stay.ensures.takes
+    (λ oracles. answers (transaction_reply oracles g.V.View.mode items store word argument) (transaction g.V.View.mode items))
+    (λ oracles. transaction_step oracles g.V.View.mode items store word argument) (λ oracles. transaction_step-other oracles g.V.View.mode items store word argument other) c.stay.ensures.takes

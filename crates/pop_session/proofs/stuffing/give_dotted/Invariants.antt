@@ -7,7 +7,7 @@ use Rattle.pop_session.proofs.stuffing.give_dotted.Given as goal
 
 abbrev pub invariant-loop-given : goal.invariant-loop-given
 invariant-loop-given g l = record {
-  given : HasGiven (g.W.Wire.tells l.initial.wire) (g.W.Wire.tells l.wire) (stuffed_from LineStart (take l.len (drop l.at (shown_octets l.msg l.shown)))) l.place
+  given : HasGiven (g.W.Wire.observed l.initial.wire) (g.W.Wire.observed l.wire) (stuffed_from LineStart (take l.len (drop l.at (shown_octets l.msg l.shown)))) l.place
       (drop l.given (take l.len (drop l.at (shown_octets l.msg l.shown))));
   low : l.given ≤ l.len;
 }

@@ -3,4 +3,4 @@ use Rattle.pop_session.proofs.stuffing.give_plain.Goals as goal
 
 pub returns-clause-gives : goal.returns-clause-gives
 returns-clause-gives g c =
-    give_gives (g.W.Wire.tells c.args.wire.now) (g.W.Wire.tells c.give.new.self) c.give.result c.args.octets.now c.give.ensures.left c.give.ensures.transcript
+    give_gives (g.W.Wire.observed c.args.wire.now) (g.W.Wire.observed c.give.new.self) c.give.result c.args.octets.now c.give.ensures.left c.give.ensures.transcript

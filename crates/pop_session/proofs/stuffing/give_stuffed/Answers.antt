@@ -14,7 +14,7 @@ returns-in_err-give_dot-clause-gives g c =
     let rest = c.loop-rest.rest.now in
     let first = dot_first place rest in
     rw failed.1
-    (broken_off (g.W.Wire.tells c.args.wire.now) (g.W.Wire.tells c.loop-rest.wire) (g.W.Wire.tells c.give_dot.new.wire) (stuffed_from c.args.place c.args.octets.now) (dot_before place rest) first.0 place rest
+    (broken_off (g.W.Wire.observed c.args.wire.now) (g.W.Wire.observed c.loop-rest.wire) (g.W.Wire.observed c.give_dot.new.wire) (stuffed_from c.args.place c.args.octets.now) (dot_before place rest) first.0 place rest
     c.loop-rest.invariant.given c.in_err-give_dot.ensures.gives first.1)
 
 pub returns-in_err-give_plain-clause-gives : goal.returns-in_err-give_plain-clause-gives
@@ -27,10 +27,10 @@ returns-in_err-give_plain-clause-gives g c =
     let after = place_after place run in
     let left : 0 < length rest = grind (arith, nat_tests) in
     let split = run_split place after rest run others c.run_len.result c.split_at.ensures.front c.split_at.ensures.back c.split_at.ensures.front_len (c.run_len.ensures.some left) c.run_len.ensures.run refl in
-    let made = Gives-prefix (g.W.Wire.tells c.loop-rest.wire) (g.W.Wire.tells c.give_dot.new.wire) (g.W.Wire.tells c.give_plain.new.wire) (dot_before place rest) run c.in_ok-give_dot.ensures.gives
+    let made = Gives-prefix (g.W.Wire.observed c.loop-rest.wire) (g.W.Wire.observed c.give_dot.new.wire) (g.W.Wire.observed c.give_plain.new.wire) (dot_before place rest) run c.in_ok-give_dot.ensures.gives
     c.in_err-give_plain.ensures.gives in
     rw failed.1
-    (broken_off (g.W.Wire.tells c.args.wire.now) (g.W.Wire.tells c.loop-rest.wire) (g.W.Wire.tells c.give_plain.new.wire) (stuffed_from c.args.place c.args.octets.now) (dot_before place rest ++ run) (stuffed_from after others)
+    (broken_off (g.W.Wire.observed c.args.wire.now) (g.W.Wire.observed c.loop-rest.wire) (g.W.Wire.observed c.give_plain.new.wire) (stuffed_from c.args.place c.args.octets.now) (dot_before place rest ++ run) (stuffed_from after others)
     place rest c.loop-rest.invariant.given made split)
 
 pub loop-rest-preserved : goal.loop-rest-preserved
@@ -39,16 +39,16 @@ loop-rest-preserved g c =
     let rest = c.loop-rest.rest.now in
     let run = c.split_at.result.0.now in
     let others = c.split_at.result.1.now in
-    let after = c.place_behind-at.result in
-    let before = g.W.Wire.tells c.loop-rest.wire in
-    let between = g.W.Wire.tells c.give_dot.new.wire in
-    let now = g.W.Wire.tells c.give_plain.new.wire in
+    let after = c.place_following-at.result in
+    let before = g.W.Wire.observed c.loop-rest.wire in
+    let between = g.W.Wire.observed c.give_dot.new.wire in
+    let now = g.W.Wire.observed c.give_plain.new.wire in
     let left : 0 < length rest = grind (arith, nat_tests) in
     let split = run_split place after rest run others c.run_len.result c.split_at.ensures.front c.split_at.ensures.back c.split_at.ensures.front_len (c.run_len.ensures.some left) c.run_len.ensures.run
-    c.place_behind-at.ensures in
+    c.place_following-at.ensures in
     let on = GoesOn-trans before between now (GoesOn-of before between _ _ c.in_ok-give_dot.ensures.cause) (GoesOn-of between now _ _ c.in_ok-give_plain.ensures.cause) in
     record {
-      given = more_given (g.W.Wire.tells c.args.wire.now) before now (stuffed_from c.args.place c.args.octets.now) (dot_before place rest ++ run) place after rest others c.loop-rest.invariant.given
+      given = more_given (g.W.Wire.observed c.args.wire.now) before now (stuffed_from c.args.place c.args.octets.now) (dot_before place rest ++ run) place after rest others c.loop-rest.invariant.given
           (Gives-trans before between now (dot_before place rest) run c.in_ok-give_dot.ensures.gives c.in_ok-give_plain.ensures.gives) on split;
-      place = place_goes_on place after _ rest run others c.run_len.result c.split_at.ensures.front c.split_at.ensures.back c.place_behind-at.ensures c.loop-rest.invariant.place;
+      place = place_goes_on place after _ rest run others c.run_len.result c.split_at.ensures.front c.split_at.ensures.back c.place_following-at.ensures c.loop-rest.invariant.place;
     }

@@ -1,5 +1,5 @@
 use Rattle.std.proofs.Common.{◌≡◌, map}
-use Rattle.relay_choice.specs.Letters.{recipient_at}
+use Rattle.relay_choice.specs.MailObjects.{recipient_at}
 use Rattle.relay_choice.proofs.making.recipients_at.Given as goal
 
 abbrev pub invariant-loop-address : goal.invariant-loop-address

@@ -7,5 +7,5 @@ pub returns-then-is_sent-clause-next : goal.returns-then-is_sent-clause-next
 returns-then-is_sent-clause-next c =
     let lt = c.loop-place-test.true in
     let here = c.index-recipients-place.is in
-    sent_here c.args.offer c.args.letter.now c.args.from c.loop-place.place c.index-recipients-place.result (rw c.as_slice-recipients.ensures at lt) (rw c.as_slice-recipients.ensures at here)
+    sent_here c.args.offer c.args.mail_object.now c.args.from c.loop-place.place c.index-recipients-place.result (rw c.as_slice-recipients.ensures at lt) (rw c.as_slice-recipients.ensures at here)
     (sym (ap is_sent c.plan_of.ensures) ∙ sym c.is_sent.ensures ∙ c.if-is_sent.true) c.loop-place.invariant.1

@@ -19,12 +19,12 @@ returns-in-Err-Outside-clause-left g c =
 
 pub returns-clause-relays : goal.returns-clause-relays
 returns-clause-relays g c =
-    queue_connected c.args.host.now _ _ (g.L.Conn.Wire.tells c.in-Ok-dial.conn) (g.L.Conn.Wire.tells c.relay_connected-answer.new.wire) c.in-Ok.queue _ c.in-Ok.ensures.queue
+    queue_connected c.args.host.now _ _ (g.L.Conn.Wire.observed c.in-Ok-dial.conn) (g.L.Conn.Wire.observed c.relay_connected-answer.new.wire) c.in-Ok.queue _ c.in-Ok.ensures.queue
     (not_empty c.in-Ok.queue c.is_empty.result c.is_empty.ensures c.if-is_empty.false) (c.hand_back.ensures.asked ∙ c.in-Ok-dial.ensures.asked) c.in-Ok-dial.ensures.dialled c.relay_connected-answer.ensures.relays c.hand_back.ensures.transcript
 
 pub returns-clause-cause : goal.returns-clause-cause
 returns-clause-cause g c =
-    connected_cause _ _ (g.L.Conn.Wire.tells c.in-Ok-dial.conn) _ _ _ c.in-Ok-dial.ensures.dialled c.relay_connected-answer.ensures.relays.1 c.relay_connected-answer.ensures.cause
+    connected_cause _ _ (g.L.Conn.Wire.observed c.in-Ok-dial.conn) _ _ _ c.in-Ok-dial.ensures.dialled c.relay_connected-answer.ensures.relays.1 c.relay_connected-answer.ensures.cause
 
 pub returns-clause-no_wire : goal.returns-clause-no_wire
 returns-clause-no_wire g c = no_wire_fault _ _ _ c.relay_connected-answer.ensures.relays.1

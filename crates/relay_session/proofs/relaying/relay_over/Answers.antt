@@ -8,8 +8,8 @@ returns-then-is_empty-clause-relays g c =
 pub returns-then-is_empty-clause-left : goal.returns-then-is_empty-clause-left
 returns-then-is_empty-clause-left g c = somebody_left c.args.outside.now c.args.outside.now _ (returns-then-is_empty-clause-relays g c)
 
-pub relay_letters-requires-clause-queue : goal.relay_letters-requires-clause-queue
-relay_letters-requires-clause-queue g c = rw c.as_slice.ensures (rw c.store.ensures at c.in_ok-queue.ensures.queue)
+pub relay_mail_objects-requires-clause-queue : goal.relay_mail_objects-requires-clause-queue
+relay_mail_objects-requires-clause-queue g c = rw c.as_slice.ensures (rw c.store.ensures at c.in_ok-queue.ensures.queue)
 
-pub relay_letters-requires-clause-few : goal.relay_letters-requires-clause-few
-relay_letters-requires-clause-few g c = rw c.as_slice.ensures c.in_ok-queue.ensures.few
+pub relay_mail_objects-requires-clause-few : goal.relay_mail_objects-requires-clause-few
+relay_mail_objects-requires-clause-few g c = rw c.as_slice.ensures c.in_ok-queue.ensures.few

@@ -58,7 +58,7 @@ returns-in_err-next-clause-relays g c =
     record { takes = c.in-Ok.ensures.takes; leaves = c.in-Ok.ensures.leaves; keeps = c.in-Ok.ensures.keeps } in
     rw (failed.1, failed.2)
     (RunsOn-ends c.args.outside.now c.loop-count.outside c.take.new.self c.feed.new.outside c.args.queue.now c.args.run c.loop-count.run c.in-Ok.count c.take.new.into (Err c.in_err-next.field-0.0) taken
-    c.in_err-next.ensures.came c.loop-count.invariant)
+    c.in_err-next.ensures.advance c.loop-count.invariant)
 
 pub returns-in_err-next-clause-keeps : goal.returns-in_err-next-clause-keeps
 returns-in_err-next-clause-keeps g c =
@@ -72,7 +72,7 @@ returns-in-Ends-clause-relays g c =
     let taken : TakesTo c.loop-count.outside c.take.new.self c.in-Ok.count c.take.new.into =
     record { takes = c.in-Ok.ensures.takes; leaves = c.in-Ok.ensures.leaves; keeps = c.in-Ok.ensures.keeps } in
     RunsOn-ends c.args.outside.now c.loop-count.outside c.take.new.self c.feed.new.outside c.args.queue.now c.args.run c.loop-count.run c.in-Ok.count c.take.new.into (Ok c.in-Ends.end) taken
-    (rw c.in-Ends.is at c.in_ok-next.ensures.came) c.loop-count.invariant
+    (rw c.in-Ends.is at c.in_ok-next.ensures.advance) c.loop-count.invariant
 
 pub returns-in-Ends-clause-cause : goal.returns-in-Ends-clause-cause
 returns-in-Ends-clause-cause g c =
@@ -89,4 +89,4 @@ loop-count-preserved g c =
     let taken : TakesTo c.loop-count.outside c.take.new.self c.in-Ok.count c.take.new.into =
     record { takes = c.in-Ok.ensures.takes; leaves = c.in-Ok.ensures.leaves; keeps = c.in-Ok.ensures.keeps } in
     RunsOn-next c.args.outside.now c.loop-count.outside c.take.new.self c.feed.new.outside c.args.queue.now c.args.run c.loop-count.run c.in-Goes.next c.in-Ok.count c.take.new.into taken c.in_ok-next.ensures.keeps
-    (rw c.in-Goes.is at c.in_ok-next.ensures.came) (rw c.in-Goes.is at c.in_ok-next.ensures.work) c.loop-count.invariant
+    (rw c.in-Goes.is at c.in_ok-next.ensures.advance) (rw c.in-Goes.is at c.in_ok-next.ensures.work) c.loop-count.invariant

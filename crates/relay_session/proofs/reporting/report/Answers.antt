@@ -17,7 +17,7 @@ returns-then-is_empty-clause-reports g c = λ path_of reads.
     unreported path_of c.args.outside.now c.args.outside.now c.args.queued.now c.args.outcomes.now refl (inr (sym c.in_ok-failed.ensures ∙ c.is_empty.ensures.0 c.if-is_empty.true))
 
 pub reported-requires-clause-named : goal.reported-requires-clause-named
-reported-requires-clause-named g c = rw (c.store.ensures, c.in_ok-stamp.ensures.same) c.requires.opens.named
+reported-requires-clause-named g c = rw (c.store.ensures, c.in_ok-timestamp.ensures.same) c.requires.opens.named
 
 pub reported-requires-clause-failed : goal.reported-requires-clause-failed
 reported-requires-clause-failed g c =
@@ -36,14 +36,14 @@ returns-in-Some-2-clause-reports g c = λ path_of reads.
     let outcomes = c.args.outcomes.now in
     let path = c.in-Some.path in
     let failed = c.in_ok-failed.failed in
-    let moment = moment_of c.in_ok-stamp.stamp in
+    let moment = moment_of c.in_ok-timestamp.timestamp in
     let delivery = Some c.in-Some-2.delivery in
     let same = c.now.ensures.same in
     let due : IsDue path_of before queued outcomes path failed moment delivery = record {
       path_is = c.in-Some.is;
       failed_are = c.in_ok-failed.ensures;
       some = λ none. both_ways c.is_empty.result c.if-is_empty.false (c.is_empty.ensures.1 none);
-      told = c.in_ok-stamp.ensures.told;
+      told = c.in_ok-timestamp.ensures.told;
       reported = rw (c.store.ensures, same, c.in-Some-2.is) at (c.in_ok-delivery.ensures.reported path_of reads);
     } in
     delivered_report path_of before c.deliver.new.outside queued outcomes path failed moment delivery c.deliver.result due (rw same at c.deliver.ensures.kept) (rw same at c.deliver.ensures.makes) c.deliver.ensures.wire
@@ -55,14 +55,14 @@ returns-in-None-clause-reports g c = λ path_of reads.
     let outcomes = c.args.outcomes.now in
     let path = c.in-Some.path in
     let failed = c.in_ok-failed.failed in
-    let moment = moment_of c.in_ok-stamp.stamp in
+    let moment = moment_of c.in_ok-timestamp.timestamp in
     let delivery = c.in_ok-delivery.field-0 in
     let same = c.now.ensures.same in
     let due : IsDue path_of before queued outcomes path failed moment delivery = record {
       path_is = c.in-Some.is;
       failed_are = c.in_ok-failed.ensures;
       some = λ none. both_ways c.is_empty.result c.if-is_empty.false (c.is_empty.ensures.1 none);
-      told = c.in_ok-stamp.ensures.told;
+      told = c.in_ok-timestamp.ensures.told;
       reported = rw (c.store.ensures, same) at (c.in_ok-delivery.ensures.reported path_of reads);
     } in
     dropped_report path_of before c.now.new.self queued outcomes path failed moment delivery same due c.in-None.is

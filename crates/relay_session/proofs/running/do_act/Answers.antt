@@ -1,8 +1,8 @@
 use Rattle.std.proofs.Common.{ap, refl, sym}
 use Rattle.mail_store.specs.declared.queue.Queued.{Queued}
-use Rattle.relay_choice.specs.declared.letters.Act.TheVariants as act
+use Rattle.relay_choice.specs.declared.mail_objects.Act.TheVariants as act
 use Rattle.session_core.specs.Keeps.{fault_of}
-use Rattle.session_core.proofs.MeaningLemmas.{meanings_given}
+use Rattle.session_core.proofs.MeaningLemmas.{oracles_given}
 use Rattle.relay_session.specs.private.Acting.{KeepsQueue}
 use Rattle.relay_session.proofs.OneAct.{ActsBy-data, ActsBy-says, ActsBy-settles, KeepsQueue-gives, KeepsQueue-settles, OnOk-of, data_at, open_settles, settles_at}
 use Rattle.relay_session.proofs.running.do_act.Goals as goal
@@ -47,5 +47,5 @@ pub returns-in-Settle-clause-queue : goal.returns-in-Settle-clause-queue
 returns-in-Settle-clause-queue g c =
     let at = settles_at c.args.queue.now c.args.act.now c.in-Settle.number c.in-Settle.outcomes c.index-queue-number-in-Settle.result c.in-Settle.is c.requires.within c.index-queue-number-in-Settle.is in
     rw c.in-Settle.is (OnOk-of c.settle.result (KeepsQueue c.args.outside.now c.settle.new.outside c.args.queue.now _)
-    (λ fine. KeepsQueue-settles meanings_given.0.path_of c.args.outside.now c.settle.new.outside c.args.queue.now c.in-Settle.number c.index-queue-number-in-Settle.result c.in-Settle.outcomes
-    c.args.tally.now c.settle.new.tally (fault_of c.settle.result) c.requires.known at.there (rw c.as_slice-in-Settle.ensures at (c.settle.ensures.settles meanings_given.0.path_of meanings_given.1.paths)) fine))
+    (λ fine. KeepsQueue-settles oracles_given.0.path_of c.args.outside.now c.settle.new.outside c.args.queue.now c.in-Settle.number c.index-queue-number-in-Settle.result c.in-Settle.outcomes
+    c.args.tally.now c.settle.new.tally (fault_of c.settle.result) c.requires.known at.there (rw c.as_slice-in-Settle.ensures at (c.settle.ensures.settles oracles_given.0.path_of oracles_given.1.paths)) fine))

@@ -8,14 +8,14 @@ use Rattle.relay_session.proofs.running.feed.Goals as goal
 pub loop-rest-init : goal.loop-rest-init
 loop-rest-init g c = feeding_begins c.args.outside.now c.args.queue.now c.args.run c.args.piece.now c.requires.work
 
-pub returns-in_err-reader-clause-came : goal.returns-in_err-reader-clause-came
-returns-in_err-reader-clause-came g c = λ path_of reads before bag same running.
+pub returns-in_err-reader-clause-advance : goal.returns-in_err-reader-clause-advance
+returns-in_err-reader-clause-advance g c = λ path_of reads before bag same running.
     let failed = err_from_is_err_and c.from_residual.result c.from_residual.ensures.1 in
     rw (failed.1, failed.2)
     (feeding_memory c.args.outside.now c.loop-rest.outside c.args.queue.now c.args.run c.loop-rest.run c.args.piece.now c.loop-rest.rest.now c.loop-rest.invariant path_of reads before bag same running)
 
-pub returns-in-Begun-clause-came : goal.returns-in-Begun-clause-came
-returns-in-Begun-clause-came g c =
+pub returns-in-Begun-clause-advance : goal.returns-in-Begun-clause-advance
+returns-in-Begun-clause-advance g c =
     let front = feeding_front c.args.outside.now c.loop-rest.outside c.args.queue.now c.args.run c.loop-rest.run c.args.piece.now c.loop-rest.rest.now c.loop-rest.invariant in
     begun_running c.args.outside.now c.loop-rest.outside c.args.queue.now c.args.run c.loop-rest.run c.args.piece.now c.loop-rest.rest.now c.in-Begun.reader c.loop-rest.invariant
     ((rw c.in-Begun.is at c.in_ok-reader.ensures) front)
@@ -47,8 +47,8 @@ take_reply-requires-clause-work g c =
     decided_of_some c.args.outside.now c.loop-rest.outside c.args.queue.now c.args.run c.loop-rest.run c.args.piece.now c.loop-rest.rest.now
     c.in-Decided.octets c.in-Decided.used c.new-reader.result c.loop-rest.invariant decided
 
-pub returns-in_err-next-in-Decided-clause-came : goal.returns-in_err-next-in-Decided-clause-came
-returns-in_err-next-in-Decided-clause-came g c = λ path_of reads before bag same running.
+pub returns-in_err-next-in-Decided-clause-advance : goal.returns-in_err-next-in-Decided-clause-advance
+returns-in_err-next-in-Decided-clause-advance g c = λ path_of reads before bag same running.
     let decided : Decided c.loop-rest.run c.loop-rest.rest.now c.in-Decided.octets c.in-Decided.used c.new-reader.result =
     record {
       decides = (rw c.in-Decided.is at c.in_ok-reader.ensures) (feeding_front c.args.outside.now c.loop-rest.outside c.args.queue.now c.args.run c.loop-rest.run c.args.piece.now c.loop-rest.rest.now c.loop-rest.invariant);
@@ -58,15 +58,15 @@ returns-in_err-next-in-Decided-clause-came g c = λ path_of reads before bag sam
     let failed = err_from_is_err_and c.from_residual-in_err-next-in-Decided.result c.from_residual-in_err-next-in-Decided.ensures.1 in
     let begun = decided_running c.args.outside.now c.loop-rest.outside c.args.queue.now c.args.run c.loop-rest.run c.args.piece.now c.loop-rest.rest.now c.in-Decided.octets c.in-Decided.used c.new-reader.result c.loop-rest.invariant decided
     path_of reads before bag same running in
-    rw (failed.1, failed.2) (c.in_err-next-in-Decided.ensures.came path_of reads before bag (drop c.in-Decided.used c.loop-rest.rest.now) same begun)
+    rw (failed.1, failed.2) (c.in_err-next-in-Decided.ensures.advance path_of reads before bag (drop c.in-Decided.used c.loop-rest.rest.now) same begun)
 
 pub returns-in_err-next-in-Decided-clause-keeps : goal.returns-in_err-next-in-Decided-clause-keeps
 returns-in_err-next-in-Decided-clause-keeps g c =
     let failed = err_from_is_err_and c.from_residual-in_err-next-in-Decided.result c.from_residual-in_err-next-in-Decided.ensures.1 in
     rw (failed.1, failed.2) (Keeps-then c.args.outside.now c.loop-rest.outside c.take_reply.new.outside _ c.loop-rest.invariant.keeps c.in_err-next-in-Decided.ensures.keeps)
 
-pub returns-in-Ends-clause-came : goal.returns-in-Ends-clause-came
-returns-in-Ends-clause-came g c = λ path_of reads before bag same running.
+pub returns-in-Ends-clause-advance : goal.returns-in-Ends-clause-advance
+returns-in-Ends-clause-advance g c = λ path_of reads before bag same running.
     let decided : Decided c.loop-rest.run c.loop-rest.rest.now c.in-Decided.octets c.in-Decided.used c.new-reader.result =
     record {
       decides = (rw c.in-Decided.is at c.in_ok-reader.ensures) (feeding_front c.args.outside.now c.loop-rest.outside c.args.queue.now c.args.run c.loop-rest.run c.args.piece.now c.loop-rest.rest.now c.loop-rest.invariant);
@@ -75,7 +75,7 @@ returns-in-Ends-clause-came g c = λ path_of reads before bag same running.
     } in
     let begun = decided_running c.args.outside.now c.loop-rest.outside c.args.queue.now c.args.run c.loop-rest.run c.args.piece.now c.loop-rest.rest.now c.in-Decided.octets c.in-Decided.used c.new-reader.result c.loop-rest.invariant decided
     path_of reads before bag same running in
-    (rw c.in-Ends.is at c.in_ok-next-in-Decided.ensures.came) path_of reads before bag (drop c.in-Decided.used c.loop-rest.rest.now) same begun
+    (rw c.in-Ends.is at c.in_ok-next-in-Decided.ensures.advance) path_of reads before bag (drop c.in-Decided.used c.loop-rest.rest.now) same begun
 
 pub returns-in-Ends-clause-keeps : goal.returns-in-Ends-clause-keeps
 returns-in-Ends-clause-keeps g c = Keeps-then c.args.outside.now c.loop-rest.outside c.take_reply.new.outside _ c.loop-rest.invariant.keeps c.in_ok-next-in-Decided.ensures.keeps
@@ -91,14 +91,14 @@ loop-rest-preserved g c =
     feeding_on c.args.outside.now c.loop-rest.outside c.take_reply.new.outside c.args.queue.now c.args.run c.loop-rest.run c.in-Goes.next
     c.args.piece.now c.loop-rest.rest.now c.in-Decided.octets c.in-Decided.used _ c.new-reader.result c.loop-rest.invariant decided
     (record {
-      running = rw c.in-Goes.is at c.in_ok-next-in-Decided.ensures.came;
+      running = rw c.in-Goes.is at c.in_ok-next-in-Decided.ensures.advance;
       works = rw c.in-Goes.is at c.in_ok-next-in-Decided.ensures.work;
       short = rw c.in-Goes.is at c.in_ok-next-in-Decided.ensures.short;
       keeps = c.in_ok-next-in-Decided.ensures.keeps;
     }) refl
 
-pub returns-clause-came : goal.returns-clause-came
-returns-clause-came g c =
+pub returns-clause-advance : goal.returns-clause-advance
+returns-clause-advance g c =
     (feeding_done c.args.outside.now c.loop-rest.outside c.args.queue.now c.args.run c.loop-rest.run c.args.piece.now c.loop-rest.rest.now (eqb-true _ 0 (sym c.loop-rest-test.ensures)) c.loop-rest.invariant).running
 
 pub returns-clause-work : goal.returns-clause-work

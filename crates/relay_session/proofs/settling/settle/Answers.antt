@@ -2,17 +2,17 @@ use Rattle.std.proofs.Common.{refl, ap, ◌+◌, ℕ}
 use Rattle.std.proofs.lemmas.Result.{err_from_is_err_and}
 use Rattle.session_core.specs.Keeps.{fault_of}
 use Rattle.session_core.proofs.KeepsLemmas.{Keeps-opens, Keeps-then}
-use Rattle.relay_session.proofs.EntrySettled.{known_behind, open_behind_report, report_counted, settles_unmade, settles_with}
+use Rattle.relay_session.proofs.EntrySettled.{known_after, open_after_report, report_counted, settles_unmade, settles_with}
 use Rattle.relay_session.proofs.settling.settle.Goals as goal
 
 pub settle_all-requires-clause-opens : goal.settle_all-requires-clause-opens
 settle_all-requires-clause-opens g c = Keeps-opens c.args.outside.now c.report.new.outside c.in_ok-kept.ensures.keeps c.requires.opens
 
 pub settle_all-requires-clause-known : goal.settle_all-requires-clause-known
-settle_all-requires-clause-known g c = known_behind c.args.outside.now c.report.new.outside c.args.queued.now c.args.outcomes.now c.in_ok-kept.kept c.in_ok-kept.ensures.reports c.requires.known
+settle_all-requires-clause-known g c = known_after c.args.outside.now c.report.new.outside c.args.queued.now c.args.outcomes.now c.in_ok-kept.kept c.in_ok-kept.ensures.reports c.requires.known
 
 pub settle_all-requires-clause-open : goal.settle_all-requires-clause-open
-settle_all-requires-clause-open g c = open_behind_report c.args.outside.now c.report.new.outside c.args.queued.now c.args.outcomes.now c.in_ok-kept.kept c.in_ok-kept.ensures.reports c.requires.«open»
+settle_all-requires-clause-open g c = open_after_report c.args.outside.now c.report.new.outside c.args.queued.now c.args.outcomes.now c.in_ok-kept.kept c.in_ok-kept.ensures.reports c.requires.«open»
 
 pub returns-in_err-kept-clause-settles : goal.returns-in_err-kept-clause-settles
 returns-in_err-kept-clause-settles g c = λ path_of reads.

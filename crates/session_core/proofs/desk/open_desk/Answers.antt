@@ -11,10 +11,10 @@ returns-clause-open g c =
     c.in-Ok.ensures
 
 pub returns-in_default-clause-fault : goal.returns-in_default-clause-fault
-returns-in_default-clause-fault g c = memory_wanted (g.J.Keeper.tells c.args.keeper.now).octets (g.J.Keeper.tells c.args.keeper.now).octets
+returns-in_default-clause-fault g c = memory_wanted (g.J.Keeper.observed c.args.keeper.now).octets (g.J.Keeper.observed c.args.keeper.now).octets
 
 pub returns-in_default-clause-cause : goal.returns-in_default-clause-cause
-returns-in_default-clause-cause g c = HasKeeperCause-fine (g.J.Keeper.tells c.args.keeper.now) (g.J.Keeper.tells c.args.keeper.now) _ faults.Keeper (KeepsOn-nil (g.J.Keeper.tells c.args.keeper.now)) (λ bad. cc)
+returns-in_default-clause-cause g c = HasKeeperCause-fine (g.J.Keeper.observed c.args.keeper.now) (g.J.Keeper.observed c.args.keeper.now) _ faults.Keeper (KeepsOn-nil (g.J.Keeper.observed c.args.keeper.now)) (λ bad. cc)
 
 pub returns-in_default-clause-leaves : goal.returns-in_default-clause-leaves
-returns-in_default-clause-leaves g c = left_alone (g.J.Keeper.tells c.args.keeper.now).octets
+returns-in_default-clause-leaves g c = left_alone (g.J.Keeper.observed c.args.keeper.now).octets

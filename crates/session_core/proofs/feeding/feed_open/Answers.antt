@@ -11,23 +11,23 @@ loop-rest-init g c = record {
   on = Keeps-nil c.args.outside.now;
 }
 
-pub returns-in_err-came-clause-feeds : goal.returns-in_err-came-clause-feeds
-returns-in_err-came-clause-feeds g c =
+pub returns-in_err-advance-clause-feeds : goal.returns-in_err-advance-clause-feeds
+returns-in_err-advance-clause-feeds g c =
     let failed = err_from_is_err_and c.from_residual.result c.from_residual.ensures.1 in
     rw (failed.1, failed.2) (Going-fails g.M.Machine.protocol g.M.Machine.stands c.args.outside.now c.loop-rest.outside c.take_next.new.outside c.args.reading c.args.piece.now
-    c.loop-rest.machine c.loop-rest.kept c.take_next.new.kept c.loop-rest.rest.now c.in_err-came.field-0.0 c.loop-rest.invariant.on.clock c.loop-rest.invariant.going c.in_err-came.ensures.steps)
+    c.loop-rest.machine c.loop-rest.kept c.take_next.new.kept c.loop-rest.rest.now c.in_err-advance.field-0.0 c.loop-rest.invariant.on.clock c.loop-rest.invariant.going c.in_err-advance.ensures.steps)
 
 pub returns-in_default-clause-feeds : goal.returns-in_default-clause-feeds
 returns-in_default-clause-feeds g c =
     Going-ends g.M.Machine.protocol g.M.Machine.stands g.met.M.Machine.quiet c.args.outside.now c.loop-rest.outside c.take_next.new.outside c.args.reading c.args.piece.now
-    c.loop-rest.machine c.loop-rest.kept c.take_next.new.kept c.loop-rest.rest.now c.in_ok-came.came c.loop-rest.invariant.on.clock c.loop-rest.invariant.going c.in_ok-came.ensures.steps c.in_default.is
+    c.loop-rest.machine c.loop-rest.kept c.take_next.new.kept c.loop-rest.rest.now c.in_ok-advance.advance c.loop-rest.invariant.on.clock c.loop-rest.invariant.going c.in_ok-advance.ensures.steps c.in_default.is
 
 pub loop-rest-preserved : goal.loop-rest-preserved
 loop-rest-preserved g c = record {
   going = rw c.split_at.ensures.back (Going-more g.M.Machine.protocol g.M.Machine.stands c.args.outside.now c.loop-rest.outside c.take_next.new.outside c.args.reading.machine c.args.reading.kept c.args.piece.now
-      c.loop-rest.machine c.in-Some.next c.loop-rest.kept c.take_next.new.kept c.loop-rest.rest.now c.in_ok-came.came c.loop-rest.invariant.on.clock c.loop-rest.invariant.going c.in_ok-came.ensures.steps c.in-Some.is);
-  ready = rw c.in-Some.is at c.in_ok-came.ensures.ready;
-  on = Keeps-then c.args.outside.now c.loop-rest.outside c.take_next.new.outside None c.loop-rest.invariant.on c.in_ok-came.ensures.keeps;
+      c.loop-rest.machine c.in-Some.next c.loop-rest.kept c.take_next.new.kept c.loop-rest.rest.now c.in_ok-advance.advance c.loop-rest.invariant.on.clock c.loop-rest.invariant.going c.in_ok-advance.ensures.steps c.in-Some.is);
+  ready = rw c.in-Some.is at c.in_ok-advance.ensures.ready;
+  on = Keeps-then c.args.outside.now c.loop-rest.outside c.take_next.new.outside None c.loop-rest.invariant.on c.in_ok-advance.ensures.keeps;
 }
 
 pub returns-clause-feeds : goal.returns-clause-feeds

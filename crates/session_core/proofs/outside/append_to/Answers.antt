@@ -7,5 +7,5 @@ use Rattle.session_core.proofs.outside.append_to.Goals as goal
 pub returns-in-Err-Keeper-clause-changes : goal.returns-in-Err-Keeper-clause-changes
 returns-in-Err-Keeper-clause-changes g c =
     let failed = c.in-Err-Keeper in
-    broken_off ℕ c.args.store.now c.append.new.self (g.J.Keeper.tells c.args.keeper.now).octets (g.J.Keeper.tells c.append.new.keeper).octets failed.field-0
+    broken_off ℕ c.args.store.now c.append.new.self (g.J.Keeper.observed c.args.keeper.now).octets (g.J.Keeper.observed c.append.new.keeper).octets failed.field-0
     (append_refusal c.args.store.now c.args.octets.now) (records.Message c.args.folder c.args.flags c.args.date.now c.args.octets.now ∷ []) failed.field-0-is failed.ensures.changes failed.ensures.refusal

@@ -12,9 +12,9 @@ returns-in_err-octets-clause-does g c =
 pub returns-in-Ok-clause-does : goal.returns-in-Ok-clause-does
 returns-in-Ok-clause-does g c =
     Does-line c.args.outside.now c.give-given.new.self None c.args.state c.args.line.now c.as_slice.result.now
-    (λ meanings are. rw c.as_slice.ensures (rw c.store.ensures at (c.in_ok-octets.ensures.reply meanings are))) c.in-Ok.ensures.replies
+    (λ oracles are. rw c.as_slice.ensures (rw c.store.ensures at (c.in_ok-octets.ensures.reply oracles are))) c.in-Ok.ensures.replies
 
 pub returns-in-Err-clause-does : goal.returns-in-Err-clause-does
 returns-in-Err-clause-does g c =
     Does-line c.args.outside.now c.give-given.new.self (Some c.in-Err.met) c.args.state c.args.line.now c.as_slice.result.now
-    (λ meanings are. rw c.as_slice.ensures (rw c.store.ensures at (c.in_ok-octets.ensures.reply meanings are))) c.in-Err.ensures.replies
+    (λ oracles are. rw c.as_slice.ensures (rw c.store.ensures at (c.in_ok-octets.ensures.reply oracles are))) c.in-Err.ensures.replies

@@ -13,18 +13,18 @@ use Rattle.smtp_session.proofs.EndLemmas.{Does-refused, Does-same, dropped_is, e
 use Rattle.smtp_session.proofs.session.end_data.Goals as goal
 
 pub returns-in_default-clause-does : goal.returns-in_default-clause-does
-returns-in_default-clause-does g c meanings are lines ended =
+returns-in_default-clause-does g c oracles are lines ended =
     let session = c.args.whole.session.state in
     let store = c.args.outside.now.desk.store in
     let limit = c.args.whole.reader.limit in
-    Does-refused c.args.outside.now c.reply_to_data.new.outside (fault_of c.reply_to_data.result) session.client (end_data meanings store session.client session.envelope (moment_of c.args.stamp) (unstuffed lines))
-    (dropped_is meanings limit store session.client session.envelope (moment_of c.args.stamp) lines c.requires.known c.requires.limit
+    Does-refused c.args.outside.now c.reply_to_data.new.outside (fault_of c.reply_to_data.result) session.client (end_data oracles store session.client session.envelope (moment_of c.args.timestamp) (unstuffed lines))
+    (dropped_is oracles limit store session.client session.envelope (moment_of c.args.timestamp) lines c.requires.known c.requires.limit
     (said_none limit lines c.into_content.result c.in_default.not-Some (c.into_content.ensures lines ended))) c.reply_to_data.ensures.replies
 
 pub returns-in_err-accepted-clause-does : goal.returns-in_err-accepted-clause-does
-returns-in_err-accepted-clause-does g c meanings are lines ended =
+returns-in_err-accepted-clause-does g c oracles are lines ended =
     let session = c.args.whole.session.state in
-    let taken = end_data meanings c.args.outside.now.desk.store session.client session.envelope (moment_of c.args.stamp) (unstuffed lines) in
+    let taken = end_data oracles c.args.outside.now.desk.store session.client session.envelope (moment_of c.args.timestamp) (unstuffed lines) in
     let failed = err_from_is_err_and c.from_residual.result c.from_residual.ensures.1 in
     rw (failed.1, failed.2) (DoesFirst-none line_octets c.args.outside.now fault.Memory (acts_in taken) (λ bad. cc))
 
@@ -37,17 +37,17 @@ pub finish_data-requires-clause-deliverable : goal.finish_data-requires-clause-d
 finish_data-requires-clause-deliverable g c stored =
     let session = c.args.whole.session.state in
     let store = c.args.outside.now.desk.store in
-    end_deliverable store session.client session.envelope (moment_of c.args.stamp) c.as_slice.result.now c.in_ok-accepted.accepted.delivery c.requires.known c.requires.opens.named c.requires.moment
+    end_deliverable store session.client session.envelope (moment_of c.args.timestamp) c.as_slice.result.now c.in_ok-accepted.accepted.delivery c.requires.known c.requires.opens.named c.requires.moment
     (c.in_ok-accepted.ensures.delivery store (c.as_bytes-name.ensures.value ∙ (rw c.store.ensures at c.name.ensures))) (rw c.in_ok-accepted.ensures.content at stored)
 
 pub returns-clause-does : goal.returns-clause-does
-returns-clause-does g c meanings are lines ended =
+returns-clause-does g c oracles are lines ended =
     let session = c.args.whole.session.state in
     let store = c.args.outside.now.desk.store in
-    let moment = moment_of c.args.stamp in
+    let moment = moment_of c.args.timestamp in
     let accepted = c.in_ok-accepted.accepted in
-    Does-same c.args.outside.now c.finish_data.new.outside (fault_of c.finish_data.result) (end_by (meanings.has_tree (accepted_content accepted)) store session.client accepted.delivery)
-    (end_data meanings store session.client session.envelope moment (unstuffed lines))
-    (end_is meanings c.args.whole.reader.limit store session.client session.envelope moment lines c.in-Some.content (accepted_content accepted) accepted.delivery (c.in-Some.ensures lines ended)
+    Does-same c.args.outside.now c.finish_data.new.outside (fault_of c.finish_data.result) (end_by (oracles.has_tree (accepted_content accepted)) store session.client accepted.delivery)
+    (end_data oracles store session.client session.envelope moment (unstuffed lines))
+    (end_is oracles c.args.whole.reader.limit store session.client session.envelope moment lines c.in-Some.content (accepted_content accepted) accepted.delivery (c.in-Some.ensures lines ended)
     (c.in_ok-accepted.ensures.content ∙ c.as_slice.ensures) (rw c.as_slice.ensures at (c.in_ok-accepted.ensures.delivery store (c.as_bytes-name.ensures.value ∙ (rw c.store.ensures at c.name.ensures)))))
-    (c.finish_data.ensures.does meanings.has_tree are.trees)
+    (c.finish_data.ensures.does oracles.has_tree are.trees)

@@ -8,14 +8,14 @@ use Rattle.smtp_session.proofs.EndLemmas.{Does-answered}
 use Rattle.smtp_session.proofs.session.finish_data.Goals as goal
 
 pub returns-in_err-reply-clause-does : goal.returns-in_err-reply-clause-does
-returns-in_err-reply-clause-does g c has_tree tells =
+returns-in_err-reply-clause-does g c has_tree observed =
     let taken = end_by (has_tree (accepted_content c.args.accepted)) c.args.outside.now.desk.store c.args.client c.args.accepted.delivery in
     let failed = err_from_is_err_and c.from_residual.result c.from_residual.ensures.1 in
     rw (failed.1, failed.2)
-    (Does-unchanged line_octets c.args.outside.now c.deliver-delivered.new.outside c.in_err-reply.field-0.0 taken.changes taken.reply (c.in_err-reply.ensures.makes has_tree tells c.args.client))
+    (Does-unchanged line_octets c.args.outside.now c.deliver-delivered.new.outside c.in_err-reply.field-0.0 taken.changes taken.reply (c.in_err-reply.ensures.makes has_tree observed c.args.client))
 
 pub returns-clause-does : goal.returns-clause-does
-returns-clause-does g c has_tree tells =
+returns-clause-does g c has_tree observed =
     let taken = end_by (has_tree (accepted_content c.args.accepted)) c.args.outside.now.desk.store c.args.client c.args.accepted.delivery in
     Does-answered c.args.outside.now c.deliver-delivered.new.outside c.reply_to_data.new.outside (fault_of c.reply_to_data.result) taken c.in_ok-reply.reply.now
-    (c.in_ok-reply.ensures.reply has_tree tells c.args.client) (c.in_ok-reply.ensures.makes has_tree tells c.args.client) c.reply_to_data.ensures.replies
+    (c.in_ok-reply.ensures.reply has_tree observed c.args.client) (c.in_ok-reply.ensures.makes has_tree observed c.args.client) c.reply_to_data.ensures.replies

@@ -21,7 +21,7 @@ returns-in_err-greeted-in-Some-clause-steps g c =
     let takes = takes_as c.args.reader ended c.args.piece.now c.in-Ok.found (Some c.in-Some.used) c.in-Some.is c.in-Ok.ensures.takes in
     let failed = err_from_is_err_and c.from_residual.result c.from_residual.ensures.1 in
     rw (failed.1, failed.2)
-    (Steps-data_fails c.args.outside.now c.end_data.new.outside c.args.session c.args.reader ended c.args.kept.now c.args.kept.now c.args.piece.now c.in-Some.used (moment_of c.in-Ok-now.stamp)
+    (Steps-data_fails c.args.outside.now c.end_data.new.outside c.args.session c.args.reader ended c.args.kept.now c.args.kept.now c.args.piece.now c.in-Some.used (moment_of c.in-Ok-now.timestamp)
     c.in_err-greeted-in-Some.field-0.0 c.in-Ok-now.ensures.told takes (rw c.now.ensures.same at c.in_err-greeted-in-Some.ensures.does))
 
 pub returns-in_ok-greeted-in-Some-clause-steps : goal.returns-in_ok-greeted-in-Some-clause-steps
@@ -29,7 +29,7 @@ returns-in_ok-greeted-in-Some-clause-steps g c =
     let ended = c.take-taken.new.self in
     let takes = takes_as c.args.reader ended c.args.piece.now c.in-Ok.found (Some c.in-Some.used) c.in-Some.is c.in-Ok.ensures.takes in
     let first = c.begun.ensures.first c.end_data.new.outside.desk (rw (c.message_max-max.ensures.value, c.store.ensures) refl) (rw c.in_ok-greeted-in-Some.ensures.client c.requires.ready.known.0) in
-    Steps-data c.args.outside.now c.end_data.new.outside c.args.session c.args.reader ended c.args.kept.now c.args.kept.now c.args.piece.now c.in-Some.used (moment_of c.in-Ok-now.stamp)
+    Steps-data c.args.outside.now c.end_data.new.outside c.args.session c.args.reader ended c.args.kept.now c.args.kept.now c.args.piece.now c.in-Some.used (moment_of c.in-Ok-now.timestamp)
     c.in_ok-greeted-in-Some.greeted c.begun.result c.in-Ok-now.ensures.told takes (rw c.now.ensures.same at c.in_ok-greeted-in-Some.ensures.does) c.in_ok-greeted-in-Some.ensures.client c.begun.ensures.state first
     c.requires.ready.unfinished.nothing_kept
 

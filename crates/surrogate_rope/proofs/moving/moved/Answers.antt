@@ -5,27 +5,27 @@ use Rattle.surrogate_rope.specs.declared.moving.End.{End}
 use Rattle.surrogate_rope.proofs.EndLemmas.{moved_before, moved_last, last_before, last_fits}
 use Rattle.surrogate_rope.proofs.moving.moved.Goals as goal
 
-pub returns-then-behind-eq0 : goal.returns-then-behind-eq0
-returns-then-behind-eq0 c =
-    let point = IsPartitionPoint-from_clause (λ (y : End). nat_le y.at c.args.place) c.args.ends.now c.partition_point-behind.result c.partition_point-behind.ensures.partitioned
+pub returns-then-following-eq0 : goal.returns-then-following-eq0
+returns-then-following-eq0 c =
+    let point = IsPartitionPoint-from_clause (λ (y : End). nat_le y.at c.args.place) c.args.ends.now c.partition_point-following.result c.partition_point-following.ensures.partitioned
     (IsPartitionedBy-leb (λ (y : End). y.at) c.args.ends.now c.args.place c.requires.rise) (λ a r q k. search rules) in
-    let none = subst (λ n. IsPartitionPoint (λ (y : End). nat_le y.at c.args.place ≡ true) (λ (y : End). nat_le y.at c.args.place ≡ false) c.args.ends.now n) c.if-behind-eq0.true point in
+    let none = subst (λ n. IsPartitionPoint (λ (y : End). nat_le y.at c.args.place ≡ true) (λ (y : End). nat_le y.at c.args.place ≡ false) c.args.ends.now n) c.if-following-eq0.true point in
     sym (moved_before 0 0 c.args.ends.now c.args.place none ∙ (let same : 0 + (c.args.place - 0) ≡ c.args.place = omega arith in same))
 
 pub overflow_sub-result : goal.overflow_sub-result
 overflow_sub-result c =
-    let point = IsPartitionPoint-from_clause (λ (y : End). nat_le y.at c.args.place) c.args.ends.now c.partition_point-behind.result c.partition_point-behind.ensures.partitioned
+    let point = IsPartitionPoint-from_clause (λ (y : End). nat_le y.at c.args.place) c.args.ends.now c.partition_point-following.result c.partition_point-following.ensures.partitioned
     (IsPartitionedBy-leb (λ (y : End). y.at) c.args.ends.now c.args.place c.requires.rise) (λ a r q k. search rules) in
-    last_before c.args.ends.now c.args.place c.partition_point-behind.result (record { at = 0; made = 0 }) point c.if-behind-eq0.false
+    last_before c.args.ends.now c.args.place c.partition_point-following.result (record { at = 0; made = 0 }) point c.if-following-eq0.false
 
 pub overflow_add-result : goal.overflow_add-result
 overflow_add-result c =
-    let point = IsPartitionPoint-from_clause (λ (y : End). nat_le y.at c.args.place) c.args.ends.now c.partition_point-behind.result c.partition_point-behind.ensures.partitioned
+    let point = IsPartitionPoint-from_clause (λ (y : End). nat_le y.at c.args.place) c.args.ends.now c.partition_point-following.result c.partition_point-following.ensures.partitioned
     (IsPartitionedBy-leb (λ (y : End). y.at) c.args.ends.now c.args.place c.requires.rise) (λ a r q k. search rules) in
-    omega (arith, last_fits c.args.ends.now c.args.place c.partition_point-behind.result (record { at = 0; made = 0 }) point c.if-behind-eq0.false c.partition_point-behind.ensures.bound c.requires.near c.requires.place)
+    omega (arith, last_fits c.args.ends.now c.args.place c.partition_point-following.result (record { at = 0; made = 0 }) point c.if-following-eq0.false c.partition_point-following.ensures.bound c.requires.near c.requires.place)
 
 pub returns : goal.returns
 returns c =
-    let point = IsPartitionPoint-from_clause (λ (y : End). nat_le y.at c.args.place) c.args.ends.now c.partition_point-behind.result c.partition_point-behind.ensures.partitioned
+    let point = IsPartitionPoint-from_clause (λ (y : End). nat_le y.at c.args.place) c.args.ends.now c.partition_point-following.result c.partition_point-following.ensures.partitioned
     (IsPartitionedBy-leb (λ (y : End). y.at) c.args.ends.now c.args.place c.requires.rise) (λ a r q k. search rules) in
-    sym (moved_last c.args.ends.now c.args.place c.partition_point-behind.result (record { at = 0; made = 0 }) point c.if-behind-eq0.false c.partition_point-behind.ensures.bound)
+    sym (moved_last c.args.ends.now c.args.place c.partition_point-following.result (record { at = 0; made = 0 }) point c.if-following-eq0.false c.partition_point-following.ensures.bound)

@@ -13,8 +13,8 @@ pub push_range-requires : goal.push_range-requires
 push_range-requires c =
     range_room c.args.octets.now c.args.at (get_or c.args.octets.now c.args.at 0) c.number_at.result c.args.pieces.now refl c.if-octets-at-eq0.true c.number_at.ensures c.requires
 
-pub overflow_add-behind-else-octets-at-eq0 : goal.overflow_add-behind-else-octets-at-eq0
-overflow_add-behind-else-octets-at-eq0 c =
+pub overflow_add-following-else-octets-at-eq0 : goal.overflow_add-following-else-octets-at-eq0
+overflow_add-following-else-octets-at-eq0 c =
     let fits =
     new_fits c.args.octets.now c.args.at (get_or c.args.octets.now c.args.at 0) c.number_at-first.result refl c.if-octets-at-eq0.false c.number_at-first.ensures c.args.pieces.now c.requires in
     omega arith

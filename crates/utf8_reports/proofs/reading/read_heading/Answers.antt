@@ -24,18 +24,18 @@ returns-in_default-2-clause-exact c name global rest is =
     let found = c.in_ok-global.ensures.exact global (subst (λ t. IsShownText t global) (sym to.body) is.is_path) in
     rw c.in_default-2.is at found
 
-pub returns-in-Some-behind_date-clause-found : goal.returns-in-Some-behind_date-clause-found
-returns-in-Some-behind_date-clause-found c =
+pub returns-in-Some-after_date-clause-found : goal.returns-in-Some-after_date-clause-found
+returns-in-Some-after_date-clause-found c =
     let path = c.in_ok-global.ensures.found in
-    heading_begins c.args.octets.now c.in-Some.name.now c.in-Some.after.now c.in-Some-field_body.to.now c.in-Some-field_body.after.now c.in-Some-behind_date.rest.now c.in-Some-2.global
-    c.in-Some.ensures.found c.in-Some-field_body.ensures.found (c.in_ok-is_reporter.ensures.0 c.if-not-branch.false) (rw c.in-Some-2.is at path) c.in-Some-behind_date.ensures.found
+    heading_begins c.args.octets.now c.in-Some.name.now c.in-Some.after.now c.in-Some-field_body.to.now c.in-Some-field_body.after.now c.in-Some-after_date.rest.now c.in-Some-2.global
+    c.in-Some.ensures.found c.in-Some-field_body.ensures.found (c.in_ok-is_reporter.ensures.0 c.if-not-branch.false) (rw c.in-Some-2.is at path) c.in-Some-after_date.ensures.found
 
-pub returns-in-Some-behind_date-clause-exact : goal.returns-in-Some-behind_date-clause-exact
-returns-in-Some-behind_date-clause-exact c name global rest is =
+pub returns-in-Some-after_date-clause-exact : goal.returns-in-Some-after_date-clause-exact
+returns-in-Some-after_date-clause-exact c name global rest is =
     let from = from_is c.args.octets.now c.in-Some.name.now c.in-Some.after.now name rest global c.in-Some.ensures.found is in
     let to = to_is c.args.octets.now c.in-Some.name.now c.in-Some.after.now c.in-Some-field_body.to.now c.in-Some-field_body.after.now name rest global c.in-Some.ensures.found c.in-Some-field_body.ensures.found is in
     let found = c.in_ok-global.ensures.exact global (subst (λ t. IsShownText t global) (sym to.body) is.is_path) in
-    (from.body, rw c.in-Some-2.is at found, ends_once c.in-Some-field_body.after.now _ rest c.in-Some-behind_date.ensures.found (subst (λ d. EndsHeading d rest) (sym to.rest) is.ends))
+    (from.body, rw c.in-Some-2.is at found, ends_once c.in-Some-field_body.after.now _ rest c.in-Some-after_date.ensures.found (subst (λ d. EndsHeading d rest) (sym to.rest) is.ends))
 
 pub returns-in-None-clause-exact : goal.returns-in-None-clause-exact
 returns-in-None-clause-exact c name global rest is =

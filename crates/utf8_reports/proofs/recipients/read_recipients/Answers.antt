@@ -8,7 +8,7 @@ pub returns-in_default-clause-exact : goal.returns-in_default-clause-exact
 returns-in_default-clause-exact c failed rest begins =
     let empty = c.begins_empty.ensures.0 c.loop-alloc-test.true in
     let next = (next_there c.args.global c.args.octets.now c.loop-alloc.rest.now rest empty.0 c.loop-alloc.failed failed c.loop-alloc.invariant empty.1 begins).1 in
-    let found = c.in_ok-one.ensures.exact next.one next.behind next.begins next.ends in
+    let found = c.in_ok-one.ensures.exact next.one next.following next.begins next.ends in
     rw c.in_default.is at found
 
 pub loop-alloc-smaller : goal.loop-alloc-smaller
@@ -21,7 +21,7 @@ loop-alloc-preserved c =
     let empty = c.begins_empty.ensures.0 c.loop-alloc-test.true in
     let found = c.in_ok-one.ensures.found in
     read_next c.args.global c.args.octets.now c.loop-alloc.rest.now c.in-Some.after.now empty.0 c.loop-alloc.failed c.push.new.self c.in-Some.one c.loop-alloc.invariant empty.1
-    (rw c.in-Some.is at found) (λ other behind b e. let same = c.in_ok-one.ensures.exact other behind b e in rw c.in-Some.is at same) c.in_ok-push.ensures.ok
+    (rw c.in-Some.is at found) (λ other following b e. let same = c.in_ok-one.ensures.exact other following b e in rw c.in-Some.is at same) c.in_ok-push.ensures.ok
 
 pub returns-then-is_empty-clause-exact : goal.returns-then-is_empty-clause-exact
 returns-then-is_empty-clause-exact c failed rest begins =

@@ -1,7 +1,7 @@
 use Rattle.std.proofs.Common.{◌≡◌, length, drop, ap, ◌∙◌}
 use Rattle.std.proofs.lemmas.List.{take_rest}
 use Rattle.imap_mailboxes.specs.Patterns.{is_match}
-use Rattle.imap_mailboxes.specs.private.Runs.{plain_runs, behind_wildcards}
+use Rattle.imap_mailboxes.specs.private.Runs.{plain_runs, after_wildcards}
 use Rattle.imap_mailboxes.proofs.PatternLemmas.{too_long}
 use Rattle.imap_mailboxes.proofs.CutLemmas.{whole_missing, whole_ends, whole_goes_on}
 use Rattle.imap_mailboxes.proofs.patterns.Pattern.matches.Goals as goal
@@ -28,7 +28,7 @@ returns c =
     let i = c.self.inside in
     let front = rw c.as_slice-octets.ensures at c.in-Some.ensures.cases in
     let before = rw c.as_slice-octets.ensures at c.if-self-octets.false in
-    let is : c.has_runs.result ≡ is_match (behind_wildcards (plain_runs i.octets i.runs.items) (drop i.last i.octets)) c.in-Some.rest.now =
+    let is : c.has_runs.result ≡ is_match (after_wildcards (plain_runs i.octets i.runs.items) (drop i.last i.octets)) c.in-Some.rest.now =
     rw (c.as_slice-octets.ensures, c.deref.ensures.value, take_rest i.octets i.last) at c.has_runs.ensures in
     is ∙ (whole_goes_on i.octets c.args.name.now c.in-Some.rest.now i.plain i.first i.runs.items i.last c.self.invariant front.0 front.1 before
     ∙ ap (λ o. is_match o c.args.name.now) c.self.view_is)

@@ -16,22 +16,22 @@ use Rattle.imap_session.proofs.PendingLemmas.{Carries-before, Carries-then}
 use Rattle.imap_session.proofs.fetching.FetchingEachMessage.take.Goals as goal
 
 pub returns-then-not-becomes_seen-clause-carries : goal.returns-then-not-becomes_seen-clause-carries
-returns-then-not-becomes_seen-clause-carries g c = λ meanings are store alike.
+returns-then-not-becomes_seen-clause-carries g c = λ oracles are store alike.
     let self = c.args.self.now in
-    rw (fetched meanings g.V.View.mode store self.by_uid self.read_only self.items.now c.args.number c.args.one.now (sym c.becomes_seen.ensures ∙ c.if-not-becomes_seen.true)) (c.tell.ensures.carries meanings are store alike)
+    rw (fetched oracles g.V.View.mode store self.by_uid self.read_only self.items.now c.args.number c.args.one.now (sym c.becomes_seen.ensures ∙ c.if-not-becomes_seen.true)) (c.tell.ensures.carries oracles are store alike)
 
 pub returns-then-not-becomes_seen-clause-flags : goal.returns-then-not-becomes_seen-clause-flags
 returns-then-not-becomes_seen-clause-flags g c =
     on_ok_weaker c.tell.result (λ same. old_flags c.args.outside.now.desk.store.kept c.tell.new.outside.desk.store.kept c.args.one.now (ap (λ (store : StoreState). store.kept) same)) c.tell.ensures.store
 
 pub returns-in_err-change_flags-clause-carries : goal.returns-in_err-change_flags-clause-carries
-returns-in_err-change_flags-clause-carries g c = λ meanings are store alike.
+returns-in_err-change_flags-clause-carries g c = λ oracles are store alike.
     let failed = err_from_is_err_and c.from_residual.result c.from_residual.ensures.1 in
     let self = c.args.self.now in
-    let told = fetch_told meanings g.V.View.mode store self.by_uid self.items.now c.args.number (seen c.args.one.now) true in
-    rw (failed.1, failed.2, fetched_seen meanings g.V.View.mode store self.by_uid self.read_only self.items.now c.args.number c.args.one.now (sym c.becomes_seen.ensures ∙ c.if-not-becomes_seen.false))
-    (Carries-before (part_octets meanings) c.args.outside.now c.change_flags.new.outside c.in_err-change_flags.field-0.0 c.args.pending.now c.change_flags.new.pending c.change_flags.new.pending
-    (changes (flags_change c.args.one.now (stored_flags Add c.args.one.now.flags 1)) ∷ []) told (c.in_err-change_flags.ensures.carries meanings))
+    let told = fetch_told oracles g.V.View.mode store self.by_uid self.items.now c.args.number (seen c.args.one.now) true in
+    rw (failed.1, failed.2, fetched_seen oracles g.V.View.mode store self.by_uid self.read_only self.items.now c.args.number c.args.one.now (sym c.becomes_seen.ensures ∙ c.if-not-becomes_seen.false))
+    (Carries-before (part_octets oracles) c.args.outside.now c.change_flags.new.outside c.in_err-change_flags.field-0.0 c.args.pending.now c.change_flags.new.pending c.change_flags.new.pending
+    (changes (flags_change c.args.one.now (stored_flags Add c.args.one.now.flags 1)) ∷ []) told (c.in_err-change_flags.ensures.carries oracles))
 
 pub tell-requires-2-clause-opens : goal.tell-requires-2-clause-opens
 tell-requires-2-clause-opens g c = Keeps-opens c.args.outside.now c.change_flags.new.outside c.in_ok-change_flags.ensures.keeps c.requires.opens
@@ -44,17 +44,17 @@ tell-requires-2-clause-id g c =
     rw c.in_ok-change_flags.ensures.changed low
 
 pub returns-clause-carries : goal.returns-clause-carries
-returns-clause-carries g c = λ meanings are store alike.
+returns-clause-carries g c = λ oracles are store alike.
     let self = c.args.self.now in
     let was = c.args.one.now in
     let alike_now = ShowsAlike-then store c.args.outside.now.desk.store c.change_flags.new.outside.desk.store alike
     (ShowsAlike-changed c.args.outside.now.desk.store c.change_flags.new.outside.desk.store was.id (stored_flags Add was.flags 1) c.in_ok-change_flags.ensures.kept) in
-    let told = subst (λ (one : Listed). Carries (part_octets meanings) c.change_flags.new.outside c.tell-2.new.outside (fault_of c.tell-2.result) c.change_flags.new.pending c.tell-2.new.pending
-    (fetch_told meanings g.V.View.mode store self.by_uid self.items.now c.args.number one true)) c.in_ok-change_flags.ensures.changed (c.tell-2.ensures.carries meanings are store alike_now) in
-    rw (fetched_seen meanings g.V.View.mode store self.by_uid self.read_only self.items.now c.args.number was (sym c.becomes_seen.ensures ∙ c.if-not-becomes_seen.false))
-    (Carries-then (part_octets meanings) c.args.outside.now c.change_flags.new.outside c.tell-2.new.outside (fault_of c.tell-2.result) c.args.pending.now c.change_flags.new.pending c.tell-2.new.pending
-    (changes (flags_change was (stored_flags Add was.flags 1)) ∷ []) (fetch_told meanings g.V.View.mode store self.by_uid self.items.now c.args.number (seen was) true)
-    (c.in_ok-change_flags.ensures.carries meanings) told)
+    let told = subst (λ (one : Listed). Carries (part_octets oracles) c.change_flags.new.outside c.tell-2.new.outside (fault_of c.tell-2.result) c.change_flags.new.pending c.tell-2.new.pending
+    (fetch_told oracles g.V.View.mode store self.by_uid self.items.now c.args.number one true)) c.in_ok-change_flags.ensures.changed (c.tell-2.ensures.carries oracles are store alike_now) in
+    rw (fetched_seen oracles g.V.View.mode store self.by_uid self.read_only self.items.now c.args.number was (sym c.becomes_seen.ensures ∙ c.if-not-becomes_seen.false))
+    (Carries-then (part_octets oracles) c.args.outside.now c.change_flags.new.outside c.tell-2.new.outside (fault_of c.tell-2.result) c.args.pending.now c.change_flags.new.pending c.tell-2.new.pending
+    (changes (flags_change was (stored_flags Add was.flags 1)) ∷ []) (fetch_told oracles g.V.View.mode store self.by_uid self.items.now c.args.number (seen was) true)
+    (c.in_ok-change_flags.ensures.carries oracles) told)
 
 pub returns-clause-flags : goal.returns-clause-flags
 returns-clause-flags g c =

@@ -46,7 +46,7 @@ returns-in_err-write_named-clause-changes g c =
     let text = text-one (records.Domain (compared_form c.args.domain.now)) named.text c.in_ok-named.ensures.text in
     let n = ap (λ d. let s : StoreState = record { kept = record (kept_of c.self.inside) { domains = d }; message_max = c.self.inside.message_max; failed = c.write_named.new.progress.failed; end = c.write_named.new.progress.end } in s) c.in_ok-reserve.ensures.items in
     rw (failed.1, failed.2)
-    (changes-unwritten (Unit {0}) c.args.self.now (state_of c.self.inside) _ c.write_named.new.progress (g.J.Keeper.tells c.args.keeper.now).octets (g.J.Keeper.tells c.write_named.new.keeper).octets
+    (changes-unwritten (Unit {0}) c.args.self.now (state_of c.self.inside) _ c.write_named.new.progress (g.J.Keeper.observed c.args.keeper.now).octets (g.J.Keeper.observed c.write_named.new.keeper).octets
     c.in_err-write_named.field-0.0 (records.Domain (compared_form c.args.domain.now) ∷ []) named.text c.self.view_is
     (AreRecords-domain (kept_of c.self.inside) c.args.domain.now c.requires.form room) text n c.in_err-write_named.ensures.writes)
 
@@ -54,7 +54,7 @@ pub returns-in_err-write_named-clause-refusal : goal.returns-in_err-write_named-
 returns-in_err-write_named-clause-refusal g c =
     let failed = err_from_is_err_and c.from_residual-in_err-write_named.result c.from_residual-in_err-write_named.ensures.1 in
     rw (failed.1, failed.2)
-    (refused-unwritten (Unit {0}) c.self.inside.progress c.write_named.new.progress (g.J.Keeper.tells c.args.keeper.now).octets (g.J.Keeper.tells c.write_named.new.keeper).octets
+    (refused-unwritten (Unit {0}) c.self.inside.progress c.write_named.new.progress (g.J.Keeper.observed c.args.keeper.now).octets (g.J.Keeper.observed c.write_named.new.keeper).octets
     c.in_err-write_named.field-0.0 c.in_ok-named.named.text (domain_refusal c.args.self.now.kept c.args.domain.now) c.in_ok-named.ensures.refusal c.in_err-write_named.ensures.writes)
 
 pub invariant_of-self-2 : goal.invariant_of-self-2
@@ -82,6 +82,6 @@ returns-clause-changes g c =
     let domains = c.push_reserved.ensures.items ∙ ap (λ d. d ++ named.name ∷ []) c.in_ok-reserve.ensures.items ∙ ap (λ n. c.self.inside.domains.items ++ n ∷ []) c.in_ok-named.ensures.name in
     let n = ap (λ d. let s : StoreState = record { kept = record (kept_of c.self.inside) { domains = d }; message_max = c.self.inside.message_max; failed = c.write_named.new.progress.failed; end = c.write_named.new.progress.end } in s) domains in
     let written = c.in_ok-write_named.ensures.writes in
-    changes-written c.args.self.now (state_of c.self.inside) c.write_named.new.progress _ (g.J.Keeper.tells c.args.keeper.now).octets
-    (g.J.Keeper.tells c.write_named.new.keeper).octets (records.Domain (compared_form c.args.domain.now) ∷ []) named.text c.self.view_is
+    changes-written c.args.self.now (state_of c.self.inside) c.write_named.new.progress _ (g.J.Keeper.observed c.args.keeper.now).octets
+    (g.J.Keeper.observed c.write_named.new.keeper).octets (records.Domain (compared_form c.args.domain.now) ∷ []) named.text c.self.view_is
     (AreRecords-domain (kept_of c.self.inside) c.args.domain.now c.requires.form room) text written.0 written.1 n

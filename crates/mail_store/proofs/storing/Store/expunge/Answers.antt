@@ -23,7 +23,7 @@ returns-in_err-write-clause-changes g c =
     let live : list_all (is_live (kept_of c.self.inside)) c.args.ids.now ≡ true = rw (← c.deref.ensures.value) (sym c.are_live.ensures ∙ c.if-not-are_live.false) in
     let them = AreRecords-expunged (kept_of c.self.inside) c.args.ids.now c.self.invariant.indexes.few.messages c.requires.distinct live in
     rw (failed.1, failed.2)
-    (changes-unwritten (Unit {0}) c.args.self.now (state_of c.self.inside) _ c.write.new.progress (g.J.Keeper.tells c.args.keeper.now).octets (g.J.Keeper.tells c.write.new.keeper).octets
+    (changes-unwritten (Unit {0}) c.args.self.now (state_of c.self.inside) _ c.write.new.progress (g.J.Keeper.observed c.args.keeper.now).octets (g.J.Keeper.observed c.write.new.keeper).octets
     c.in_err-write.field-0.0 (expunged c.args.ids.now) c.as_slice.result.now c.self.view_is them (c.as_slice.ensures ∙ c.in_ok-text.ensures) refl c.in_err-write.ensures.writes)
 
 pub put_all_expunged-requires : goal.put_all_expunged-requires
@@ -35,6 +35,6 @@ pub returns-clause-changes : goal.returns-clause-changes
 returns-clause-changes g c =
     let live : list_all (is_live (kept_of c.self.inside)) c.args.ids.now ≡ true = rw (← c.deref.ensures.value) (sym c.are_live.ensures ∙ c.if-not-are_live.false) in
     let them = AreRecords-expunged (kept_of c.self.inside) c.args.ids.now c.self.invariant.indexes.few.messages c.requires.distinct live in
-    changes-written c.args.self.now (state_of c.self.inside) c.write.new.progress c.put_all_expunged.new.self (g.J.Keeper.tells c.args.keeper.now).octets
-    (g.J.Keeper.tells c.write.new.keeper).octets (expunged c.args.ids.now) c.as_slice.result.now c.self.view_is them (c.as_slice.ensures ∙ c.in_ok-text.ensures)
+    changes-written c.args.self.now (state_of c.self.inside) c.write.new.progress c.put_all_expunged.new.self (g.J.Keeper.observed c.args.keeper.now).octets
+    (g.J.Keeper.observed c.write.new.keeper).octets (expunged c.args.ids.now) c.as_slice.result.now c.self.view_is them (c.as_slice.ensures ∙ c.in_ok-text.ensures)
     c.in_ok-write.ensures.writes.0 c.in_ok-write.ensures.writes.1 c.put_all_expunged.ensures

@@ -45,14 +45,14 @@ returns-in_err-write_mailbox-clause-changes g c =
     let n = ap₂ (λ a f. let s : StoreState = record { kept = record (kept_of c.self.inside) { accounts = a; folders = f }; message_max = c.self.inside.message_max; failed = c.write_mailbox.new.progress.failed; end = c.write_mailbox.new.progress.end } in s)
     c.in_ok-inbox.ensures.accounts c.in_ok-inbox.ensures.folders in
     rw (failed.1, failed.2)
-    (changes-unwritten ℕ c.args.self.now (state_of c.self.inside) _ c.write_mailbox.new.progress (g.J.Keeper.tells c.args.keeper.now).octets (g.J.Keeper.tells c.write_mailbox.new.keeper).octets
+    (changes-unwritten ℕ c.args.self.now (state_of c.self.inside) _ c.write_mailbox.new.progress (g.J.Keeper.observed c.args.keeper.now).octets (g.J.Keeper.observed c.write_mailbox.new.keeper).octets
     c.in_err-write_mailbox.field-0.0 (one ∷ []) made.named.text c.self.view_is them text n c.in_err-write_mailbox.ensures.writes)
 
 pub returns-in_err-write_mailbox-clause-refusal : goal.returns-in_err-write_mailbox-clause-refusal
 returns-in_err-write_mailbox-clause-refusal g c =
     let failed = err_from_is_err_and c.from_residual-in_err-write_mailbox.result c.from_residual-in_err-write_mailbox.ensures.1 in
     rw (failed.1, failed.2) (refused_as (Unit {0}) ℕ c.in_err-write_mailbox.field-0.0 None
-    (refused-unwritten (Unit {0}) c.self.inside.progress c.write_mailbox.new.progress (g.J.Keeper.tells c.args.keeper.now).octets (g.J.Keeper.tells c.write_mailbox.new.keeper).octets
+    (refused-unwritten (Unit {0}) c.self.inside.progress c.write_mailbox.new.progress (g.J.Keeper.observed c.args.keeper.now).octets (g.J.Keeper.observed c.write_mailbox.new.keeper).octets
     c.in_err-write_mailbox.field-0.0 c.args.made.named.text None refl c.in_err-write_mailbox.ensures.writes))
 
 pub invariant_of-self-2 : goal.invariant_of-self-2
@@ -95,5 +95,5 @@ returns-clause-changes g c =
     (rw c.in_ok-inbox.ensures.accounts at c.put_account.ensures.accounts)
     (rw (c.in_ok-inbox.ensures.accounts, c.in_ok-inbox.ensures.folders) at c.put_account.ensures.folders) in
     let written = c.in_ok-write_mailbox.ensures.writes in
-    changes-written c.args.self.now (state_of c.self.inside) c.write_mailbox.new.progress _ (g.J.Keeper.tells c.args.keeper.now).octets (g.J.Keeper.tells c.write_mailbox.new.keeper).octets
+    changes-written c.args.self.now (state_of c.self.inside) c.write_mailbox.new.progress _ (g.J.Keeper.observed c.args.keeper.now).octets (g.J.Keeper.observed c.write_mailbox.new.keeper).octets
     (one ∷ []) made.named.text c.self.view_is them text written.0 written.1 n

@@ -39,14 +39,14 @@ returns-in_err-write_named-clause-changes g c =
     let n = ap (λ f. let s : StoreState = record { kept = record (kept_of c.self.inside) { folders = f }; message_max = c.self.inside.message_max; failed = c.write_named.new.progress.failed; end = c.write_named.new.progress.end } in s)
     c.in_ok-reserve_folder.ensures.folders in
     rw (failed.1, failed.2)
-    (changes-unwritten ℕ c.args.self.now (state_of c.self.inside) _ c.write_named.new.progress (g.J.Keeper.tells c.args.keeper.now).octets (g.J.Keeper.tells c.write_named.new.keeper).octets
+    (changes-unwritten ℕ c.args.self.now (state_of c.self.inside) _ c.write_named.new.progress (g.J.Keeper.observed c.args.keeper.now).octets (g.J.Keeper.observed c.write_named.new.keeper).octets
     c.in_err-write_named.field-0.0 (one ∷ []) c.args.made.named.text c.self.view_is them text n c.in_err-write_named.ensures.writes)
 
 pub returns-in_err-write_named-clause-refusal : goal.returns-in_err-write_named-clause-refusal
 returns-in_err-write_named-clause-refusal g c =
     let failed = err_from_is_err_and c.from_residual-in_err-write_named.result c.from_residual-in_err-write_named.ensures.1 in
     rw (failed.1, failed.2) (refused_as (Unit {0}) ℕ c.in_err-write_named.field-0.0 None
-    (refused-unwritten (Unit {0}) c.self.inside.progress c.write_named.new.progress (g.J.Keeper.tells c.args.keeper.now).octets (g.J.Keeper.tells c.write_named.new.keeper).octets
+    (refused-unwritten (Unit {0}) c.self.inside.progress c.write_named.new.progress (g.J.Keeper.observed c.args.keeper.now).octets (g.J.Keeper.observed c.write_named.new.keeper).octets
     c.in_err-write_named.field-0.0 c.args.made.named.text None refl c.in_err-write_named.ensures.writes))
 
 pub invariant_of-self-2 : goal.invariant_of-self-2
@@ -75,5 +75,5 @@ returns-clause-changes g c =
     let folders = c.put_folder.ensures.folders ∙ ap (λ (l : List Folder). l ++ own ∷ []) c.in_ok-reserve_folder.ensures.folders in
     let n = ap (λ f. let s : StoreState = record { kept = record (kept_of c.self.inside) { folders = f }; message_max = c.self.inside.message_max; failed = c.write_named.new.progress.failed; end = c.write_named.new.progress.end } in s) folders in
     let written = c.in_ok-write_named.ensures.writes in
-    changes-written c.args.self.now (state_of c.self.inside) c.write_named.new.progress _ (g.J.Keeper.tells c.args.keeper.now).octets (g.J.Keeper.tells c.write_named.new.keeper).octets
+    changes-written c.args.self.now (state_of c.self.inside) c.write_named.new.progress _ (g.J.Keeper.observed c.args.keeper.now).octets (g.J.Keeper.observed c.write_named.new.keeper).octets
     (one ∷ []) c.args.made.named.text c.self.view_is them text written.0 written.1 n

@@ -23,7 +23,7 @@ returns-in_err-write_message-clause-changes g c =
     let n = ap (λ m. let s : StoreState = record { kept = record (kept_of c.self.inside) { messages = m }; message_max = c.self.inside.message_max; failed = c.write_message.new.progress.failed; end = c.write_message.new.progress.end } in s)
     c.in_err-write_message.ensures.messages in
     rw (failed.1, failed.2)
-    (changes-unwritten ℕ c.args.self.now old _ c.write_message.new.progress (g.J.Keeper.tells c.args.keeper.now).octets (g.J.Keeper.tells c.write_message.new.keeper).octets
+    (changes-unwritten ℕ c.args.self.now old _ c.write_message.new.progress (g.J.Keeper.observed c.args.keeper.now).octets (g.J.Keeper.observed c.write_message.new.keeper).octets
     c.in_err-write_message.field-0.0 (one ∷ []) (c.args.made.front ++ own.octets) c.self.view_is them (text-one one (c.args.made.front ++ own.octets) c.requires.text) n c.in_err-write_message.ensures.writes)
 
 pub invariant_of-self-2 : goal.invariant_of-self-2
@@ -51,5 +51,5 @@ returns-clause-changes g c =
     ∙ ap (λ (m : Message). c.self.inside.messages.items ++ m ∷ []) c.requires.own_is in
     let n = ap (λ m. let s : StoreState = record { kept = record (kept_of c.self.inside) { messages = m }; message_max = c.self.inside.message_max; failed = c.write_message.new.progress.failed; end = c.write_message.new.progress.end } in s) messages in
     let written = c.in_ok-write_message.ensures.writes in
-    changes-written c.args.self.now old c.write_message.new.progress _ (g.J.Keeper.tells c.args.keeper.now).octets (g.J.Keeper.tells c.write_message.new.keeper).octets
+    changes-written c.args.self.now old c.write_message.new.progress _ (g.J.Keeper.observed c.args.keeper.now).octets (g.J.Keeper.observed c.write_message.new.keeper).octets
     (one ∷ []) (c.args.made.front ++ own.octets) c.self.view_is them (text-one one (c.args.made.front ++ own.octets) c.requires.text) written.0 written.1 n

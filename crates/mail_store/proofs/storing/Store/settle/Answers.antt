@@ -18,7 +18,7 @@ returns-in_err-write-clause-changes g c =
     let waits : IsUnsettled (slice_get c.self.inside.entries.items c.args.entry) c.args.index = rw (← c.deref.ensures.value) (c.is_unsettled.ensures.value.0 c.if-not-is_unsettled.false) in
     let them = AreRecords-settle (kept_of c.self.inside) c.args.entry c.args.index waits c.ranges.entry.fits c.ranges.index.fits in
     rw (failed.1, failed.2)
-    (changes-unwritten (Unit {0}) c.args.self.now (state_of c.self.inside) _ c.write.new.progress (g.J.Keeper.tells c.args.keeper.now).octets (g.J.Keeper.tells c.write.new.keeper).octets
+    (changes-unwritten (Unit {0}) c.args.self.now (state_of c.self.inside) _ c.write.new.progress (g.J.Keeper.observed c.args.keeper.now).octets (g.J.Keeper.observed c.write.new.keeper).octets
     c.in_err-write.field-0.0 (one ∷ []) c.as_slice.result.now c.self.view_is them (text-one one c.as_slice.result.now (c.as_slice.ensures ∙ c.in_ok-text.ensures)) refl c.in_err-write.ensures.writes)
 
 pub invariant_of-self-2 : goal.invariant_of-self-2
@@ -35,5 +35,5 @@ returns-clause-changes g c =
     let them = AreRecords-settle (kept_of c.self.inside) c.args.entry c.args.index waits c.ranges.entry.fits c.ranges.index.fits in
     let n = ap (λ e. let s : StoreState = record { kept = record (kept_of c.self.inside) { entries = e }; message_max = c.self.inside.message_max; failed = c.write.new.progress.failed; end = c.write.new.progress.end } in s) c.settle_open.ensures.entries in
     let written = c.in_ok-write.ensures.writes in
-    changes-written c.args.self.now (state_of c.self.inside) c.write.new.progress _ (g.J.Keeper.tells c.args.keeper.now).octets (g.J.Keeper.tells c.write.new.keeper).octets
+    changes-written c.args.self.now (state_of c.self.inside) c.write.new.progress _ (g.J.Keeper.observed c.args.keeper.now).octets (g.J.Keeper.observed c.write.new.keeper).octets
     (one ∷ []) c.as_slice.result.now c.self.view_is them (text-one one c.as_slice.result.now (c.as_slice.ensures ∙ c.in_ok-text.ensures)) written.0 written.1 n

@@ -9,4 +9,4 @@ pub returns-in_err-give-clause-begins : goal.returns-in_err-give-clause-begins
 returns-in_err-give-clause-begins g c =
     let failed = err_from_is_err_and c.from_residual.result c.from_residual.ensures.1 in
     rw (failed.1, failed.2)
-    (record { does = λ meanings are. Does-replies (part_octets meanings) c.args.outside.now c.give.new.self (Some c.in_err-give.field-0.0) greeting c.in_err-give.ensures.replies; stands_for = tt })
+    (record { does = λ oracles are. Does-replies (part_octets oracles) c.args.outside.now c.give.new.self (Some c.in_err-give.field-0.0) greeting c.in_err-give.ensures.replies; stands_for = tt })

@@ -8,9 +8,9 @@ use Rattle.session_core.proofs.outside.Outside.show.Goals as goal
 pub returns-clause-asks : goal.returns-clause-asks
 returns-clause-asks g c =
     let a : Around = record {
-      wire = g.W.Wire.tells c.self.inside.wire.now;
-      keeper = g.J.Keeper.tells c.self.inside.keeper.now;
-      clock = g.C.Clock.tells c.self.inside.clock.now;
+      wire = g.W.Wire.observed c.self.inside.wire.now;
+      keeper = g.J.Keeper.observed c.self.inside.keeper.now;
+      clock = g.C.Clock.observed c.self.inside.clock.now;
       desk = c.self.inside.desk;
       loans = record { wire = c.self.inside.wire.ghost_name; keeper = c.self.inside.keeper.ghost_name; clock = c.self.inside.clock.ghost_name };
     } in
@@ -19,9 +19,9 @@ returns-clause-asks g c =
 pub returns-clause-keeps : goal.returns-clause-keeps
 returns-clause-keeps g c =
     let a : Around = record {
-      wire = g.W.Wire.tells c.self.inside.wire.now;
-      keeper = g.J.Keeper.tells c.self.inside.keeper.now;
-      clock = g.C.Clock.tells c.self.inside.clock.now;
+      wire = g.W.Wire.observed c.self.inside.wire.now;
+      keeper = g.J.Keeper.observed c.self.inside.keeper.now;
+      clock = g.C.Clock.observed c.self.inside.clock.now;
       desk = c.self.inside.desk;
       loans = record { wire = c.self.inside.wire.ghost_name; keeper = c.self.inside.keeper.ghost_name; clock = c.self.inside.clock.ghost_name };
     } in

@@ -35,13 +35,13 @@ returns-in_ok-next-in-Whole-clause-steps g c =
     let want = g.R.Rows.wanted c.args.self.rows in
     let unit = c.as_slice-in-Whole.ensures ∙ c.in_ok-push_slice-in-Whole.ensures.ok ∙ ap (λ l. c.args.kept.now ++ l) {x = c.split_at.result.0.now} {y = take c.in-Whole.used c.args.piece.now} c.split_at.ensures.front in
     let found = found_whole want c.find_unit.result c.args.kept.now c.args.piece.now c.as_slice-in-Whole.result.now c.in-Whole.used (rw (c.wants.ensures, c.as_slice.ensures) at c.find_unit.ensures.unit) c.in-Whole.is unit in
-    rw (c.came_of.ensures, c.clear.ensures)
+    rw (c.advance_of.ensures, c.clear.ensures)
     (Steps-unit g.R.Rows.grammar g.R.Rows.stands want c.args.outside.now c.answer.new.outside c.args.self c.args.kept.now c.args.piece.now
     c.as_slice-in-Whole.result.now c.in-Whole.used c.in_ok-next-in-Whole.next (λ more state. g.met.R.Rows.agrees more c.args.self.rows c.args.outside.now.desk state) found c.in_ok-next-in-Whole.ensures.answers)
 
 pub returns-in_ok-next-in-Whole-clause-ready : goal.returns-in_ok-next-in-Whole-clause-ready
 returns-in_ok-next-in-Whole-clause-ready g c =
-    rw (c.came_of.ensures, c.clear.ensures) (next_ready g.R.Rows.wanted g.R.Rows.knows c.in_ok-next-in-Whole.next c.in-Whole.used c.answer.new.outside.desk c.in_ok-next-in-Whole.ensures.known)
+    rw (c.advance_of.ensures, c.clear.ensures) (next_ready g.R.Rows.wanted g.R.Rows.knows c.in_ok-next-in-Whole.next c.in-Whole.used c.answer.new.outside.desk c.in_ok-next-in-Whole.ensures.known)
 
 pub returns-in_err-refuse_line-in-TooLong-clause-steps : goal.returns-in_err-refuse_line-in-TooLong-clause-steps
 returns-in_err-refuse_line-in-TooLong-clause-steps g c =
@@ -56,7 +56,7 @@ pub returns-in_ok-refuse_line-in-TooLong-clause-steps : goal.returns-in_ok-refus
 returns-in_ok-refuse_line-in-TooLong-clause-steps g c =
     let want = g.R.Rows.wanted c.args.self.rows in
     let found = found_long want c.find_unit.result c.args.kept.now c.args.piece.now (rw (c.wants.ensures, c.as_slice.ensures) at c.find_unit.ensures.unit) c.in-TooLong.is in
-    Steps-long g.R.Rows.grammar g.R.Rows.stands (λ meanings state. g.met.R.Rows.ends meanings state) want c.args.outside.now c.refuse_line.new.outside c.args.self c.args.kept.now c.args.kept.now c.args.piece.now
+    Steps-long g.R.Rows.grammar g.R.Rows.stands (λ oracles state. g.met.R.Rows.ends oracles state) want c.args.outside.now c.refuse_line.new.outside c.args.self c.args.kept.now c.args.kept.now c.args.piece.now
     (drop LINE_MAX (c.args.kept.now ++ c.args.piece.now)) (λ more state. g.met.R.Rows.agrees more c.args.self.rows c.args.outside.now.desk state) found c.in_ok-refuse_line-in-TooLong.ensures.refuses
 
 pub returns-in_err-push_slice-in-Waiting-clause-steps : goal.returns-in_err-push_slice-in-Waiting-clause-steps
