@@ -5,6 +5,8 @@ pub mod AddressLemmas
 pub mod PathLemmas
 pub mod Utf8Lemmas
 pub mod SoundLemmas
+pub mod PathParts
+pub mod DecidePaths
 pub mod WritingLemmas
 pub mod PlainPathLemmas
 pub mod PhraseReading

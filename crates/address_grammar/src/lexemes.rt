@@ -71,8 +71,7 @@ pub fn first_word<'a, 'b>(lexemes: Lexemes<'a, 'b>) -> Option<(Lexeme<'a>, Lexem
 pub fn front_before<'a, 'b>(lexemes: Lexemes<'a, 'b>, rest: Lexemes<'a, 'b>) -> Lexemes<'a, 'b>
     ensures { (front : List TokenValue) → values_of lexemes.entry ≡ front ++ values_of rest.entry → values_of result ≡ front }
 {
-    let (front, _) = lexemes.split_at(lexemes.len().saturating_sub(rest.len()));
-    front
+    lexemes.front(lexemes.len().saturating_sub(rest.len()))
 }
 
 /// What stands before the first special of this octet, and what stands behind it.

@@ -1,24 +1,24 @@
 -- Whether a text says a list of addresses is decided.
-use Rattle.std.proofs.Common.{◌≡◌, ℕ, Bool, true, false, not, ◌⊎◌, inl, inr, List, [], ◌∷◌, refl, ap, arith}
-use Rattle.std.proofs.lemmas.Bool.{cases_Bool, and_from, both_ways}
+use Rattle.std.proofs.Common.{◌≡◌, ℕ, Bool, true, false, ◌⊎◌, inl, inr, List, [], ◌∷◌, refl, arith}
+use Rattle.std.proofs.lemmas.Bool.{cases_Bool, both_ways}
 use Rattle.std.specs.List.{AllByRecursion}
 use Rattle.encoded_words.specs.Words.{UnitValue}
 use Rattle.encoded_words.proofs.AllUnits.{HasPhraseUnits-some}
 use Rattle.field_tokens.specs.declared.Style.TheVariants.{Mail}
 use Rattle.field_tokens.specs.Tokens.{TokenValue}
-use Rattle.field_tokens.specs.Squeezed.{comments_of, words_of}
+use Rattle.field_tokens.specs.Squeezed.{comments_of}
 use Rattle.field_tokens.specs.Comments.{CommentValue}
 use Rattle.field_tokens.proofs.CommentValues.{CommentsSay-some}
 use Rattle.field_tokens.proofs.DecideTokens.{decide_tokens}
 use Rattle.address_grammar.specs.declared.Address.{Address}
-use Rattle.address_grammar.specs.private.Lexemes.{is_part, is_special_of, lacks_special, contents, are_blank, are_dotted, SplitsAt}
-use Rattle.address_grammar.specs.Addresses.{is_domain, IsAddress}
+use Rattle.address_grammar.specs.private.Lexemes.{lacks_special, are_blank, SplitsAt}
+use Rattle.address_grammar.specs.Addresses.{is_domain}
 use Rattle.address_grammar.specs.Phrases.{IsPhrase, phrase_items, SaysPhrase}
 use Rattle.address_grammar.specs.AddressLists.{IsHop, IsRoute, MailboxValue, IsRoutedOrNot, IsNamed, IsMailbox, SayParts, IsOneMailbox, AreMembers, ElementValue, One, Group, IsGroupBy, IsElement, SaysPlace}
 use Rattle.address_lists.specs.ListPieces.{SaysAddresses}
 use Rattle.address_grammar.specs.private.ListSteps.{SplitsName, SaysGroup}
 use Rattle.address_grammar.proofs.LexemeLemmas.{not_lacking}
-use Rattle.address_grammar.proofs.AddressLemmas.{address_parts, address_missing, address_made}
+use Rattle.address_grammar.proofs.DecidePaths.{Found, splits_or_lacks, decide_address}
 use Rattle.address_grammar.proofs.PathLemmas.{angled_made, no_close, something_after}
 use Rattle.address_grammar.proofs.MailboxLemmas.{no_says, hop_lacks, hop_parts, hop_made, no_hop, routed_parts, routed_made, unrouted, named_angles, named_parts, bare_lacks, only_bare, named_made}
 use Rattle.address_grammar.proofs.DividedLemmas.{Walked}
@@ -28,38 +28,6 @@ use Rattle.address_grammar.proofs.WholeLists.{members_malformed, group_unclosed,
 use Rattle.address_lists.proofs.PhraseListTexts.{decide_phrase}
 use Rattle.address_lists.proofs.SoundPhrases.{text_comments}
 use Rattle.address_lists.proofs.AddressListTexts.{addresses_of}
-
--- ---- marks
-
-pub splits_or_lacks : (m : ℕ) (ts : List TokenValue) → ((before after : List TokenValue) × SplitsAt m ts before after) ⊎ (lacks_special m ts ≡ true)
-splits_or_lacks m [] = inr refl
-splits_or_lacks m (t ∷ ts) = elim (cases_Bool (is_special_of m t)) [
-  | inl is ↦ inl ([], ts, record { at = t; whole = refl; is_at = is; first = refl })
-  | inr other ↦ elim (splits_or_lacks m ts) [
-    | inl s ↦ inl (t ∷ s.0, s.1, record { at = s.2.at; whole = ap (λ r. t ∷ r) s.2.whole; is_at = s.2.is_at; first = and_from (not (is_special_of m t)) (lacks_special m s.0) (ap not other) s.2.first })
-    | inr l ↦ inr (and_from (not (is_special_of m t)) (lacks_special m ts) (ap not other) l)
-  ]
-]
-
--- ---- addresses
-
--- some value is right, or none
-abbrev pub Found : {V : Type 0} → (V → Type 0) → Type 0
-Found {V = V} P = ((v : V) × P v) ⊎ ((v : V) → ¬ P v)
-
-pub decide_address : (ts : List TokenValue) → Found (IsAddress ts)
-decide_address ts = elim (splits_or_lacks 64 ts) [
-  | inr l ↦ inr (λ a is. address_missing ts a l is)
-  | inl s ↦ elim (cases_Bool (are_dotted (is_part true) (words_of s.0))) [
-    | inr other ↦ inr (λ a is. both_ways (are_dotted (is_part true) (words_of s.0)) other (address_parts ts s.0 s.1 a s.2 is).0)
-    | inl local ↦ elim (cases_Bool (is_domain s.1)) [
-      | inr other ↦ inr (λ a is. both_ways (is_domain s.1) other (address_parts ts s.0 s.1 a s.2 is).1)
-      | inl domain ↦
-          let a : Address = record { local = contents s.0; domain = contents s.1 } in
-          inl (a, address_made ts s.0 s.1 a s.2 local domain refl refl)
-    ]
-  ]
-]
 
 -- ---- routes
 

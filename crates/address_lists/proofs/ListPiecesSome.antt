@@ -8,7 +8,7 @@ use Rattle.mail_wire.specs.Octets.{is_ascii}
 use Rattle.mail_wire.proofs.AllLemmas.{all-append}
 use Rattle.encoded_words.specs.Words.{UnitValue, Text}
 use Rattle.encoded_words.specs.Written.{IsWritable, AreWritable}
-use Rattle.encoded_words.proofs.BWords.{ascii_literal}
+use Rattle.encoded_words.proofs.WrittenWords.{ascii_literal}
 use Rattle.encoded_words.proofs.AddedUnits.{WriteAll-some}
 use Rattle.encoded_words.proofs.WritableUnits.{merged_writable, HasPhraseUnits-writable, one_ascii}
 use Rattle.field_tokens.specs.Tokens.{TokenValue}

@@ -1,7 +1,5 @@
 -- A text says one path at most, which is written in one way.
-use Rattle.std.proofs.Common.{◌≡◌, ℕ, true, false, ◌⊎◌, inl, inr, List, [], ◌∷◌, ◌++◌, Option, Some, None, IfNone, refl, sym, ap, ◌∙◌}
-use Rattle.std.proofs.lemmas.Bool.{both_ways, cases_Bool}
-use Rattle.std.specs.Str.{IsUtf8}
+use Rattle.std.proofs.Common.{◌≡◌, ℕ, ◌⊎◌, inl, inr, List, [], ◌∷◌, ◌++◌, Option, Some, None, IfNone, refl, sym, ap, ◌∙◌}
 use Rattle.encoded_words.specs.Folding.{lines_of, AddsLines}
 use Rattle.encoded_words.proofs.LineLemmas.{adds_both}
 use Rattle.field_tokens.specs.declared.Style.TheVariants.{Mail}
@@ -11,17 +9,15 @@ use Rattle.field_tokens.specs.Comments.{CommentValue, CommentsPieces}
 use Rattle.field_tokens.proofs.CommentValues.{CommentsSay-once, CommentsSay-some, CommentsPieces-once, CommentsPieces-some}
 use Rattle.field_tokens.proofs.DecideTokens.{decide_tokens}
 use Rattle.address_grammar.specs.declared.Address.{Address}
-use Rattle.address_grammar.specs.private.Lexemes.{HasMailTokens, are_blank}
+use Rattle.address_grammar.specs.private.Lexemes.{HasMailTokens}
 use Rattle.address_grammar.specs.Addresses.{address_text}
-use Rattle.address_grammar.specs.Paths.{IsFirstAngled, IsPathOf, IsPath, HasPath, ReadsPaths, IsReading, in_angles}
-use Rattle.address_grammar.specs.AddressLists.{MailboxValue}
+use Rattle.address_grammar.specs.Paths.{IsPath, HasPath, in_angles}
 use Rattle.address_lists.specs.ListPieces.{served_address}
 use Rattle.address_lists.specs.PathPieces.{SaysPath, PathPieces, ServesPath}
-use Rattle.address_grammar.proofs.PathLemmas.{HasTokenValues-once, HasPath-once, IsPath-once, angled_made, angles_once, no_open, no_close, something_after, path_angles, path_of_tokens, KnownPath, no_address_path}
+use Rattle.address_grammar.proofs.PathLemmas.{HasTokenValues-once, HasPath-once, IsPath-once, path_of_tokens}
 use Rattle.address_lists.proofs.AddedPieces.{adds_piece}
 use Rattle.address_lists.proofs.SoundPhrases.{text_comments}
-use Rattle.address_lists.proofs.WritableTokens.{text_can, front_can, following_can, address_parts, mailbox_writable}
-use Rattle.address_lists.proofs.DecideAddresses.{Found, splits_or_lacks, decide_address}
+use Rattle.address_grammar.proofs.DecidePaths.{decide_is_path}
 
 -- ---- what a text says
 
@@ -70,38 +66,6 @@ PathPieces-some text address served comments says e =
 
 -- ---- whether a text says a path
 
-known : (ts before inner : List TokenValue) (answer : Option Address) → IsFirstAngled ts before inner → IsPath ts answer → KnownPath before inner answer
-known ts before inner answer first is =
-    let same = angles_once ts before is.before inner is.inner first (path_angles ts answer is) in
-    record { nothing_before = rw (same.before) is.nothing_before; holds = rw (same.inner) is.holds }
-
-path_made : (ts before inner : List TokenValue) (answer : Option Address) → IsFirstAngled ts before inner → are_blank before ≡ true → IsPathOf inner answer → IsPath ts answer
-path_made ts before inner answer first blank holds = record { before = before; inner = inner; angled = first.angled; nothing_before = blank; holds = holds }
-
-decide_angled : (ts before inner : List TokenValue) → IsFirstAngled ts before inner → Found (IsPath ts)
-decide_angled ts before inner first = elim (cases_Bool (are_blank before)) [
-  | inr other ↦ inr (λ answer is. both_ways (are_blank before) other (known ts before inner answer first is).nothing_before)
-  | inl nothing ↦ elim (cases_Bool (are_blank inner)) [
-    | inl blank ↦ inl (None, path_made ts before inner None first nothing blank)
-    | inr some ↦ elim (decide_address inner) [
-      | inl a ↦ inl (Some a.0, path_made ts before inner (Some a.0) first nothing a.1)
-      | inr none ↦ inr (λ answer is. no_address_path before inner answer some none (known ts before inner answer first is))
-    ]
-  ]
-]
-
-decide_is_path : (ts : List TokenValue) → Found (IsPath ts)
-decide_is_path ts = elim (splits_or_lacks 60 ts) [
-  | inr l ↦ inr (λ answer is. no_open ts is.before is.inner l (path_angles ts answer is))
-  | inl s ↦ elim (splits_or_lacks 62 s.1) [
-    | inr l ↦ inr (λ answer is. no_close ts s.0 s.1 is.before is.inner s.2 l (path_angles ts answer is))
-    | inl c ↦ elim (cases_Bool (are_blank c.1)) [
-      | inr other ↦ inr (λ answer is. something_after ts s.0 s.1 c.0 c.1 is.before is.inner s.2 c.2 other (path_angles ts answer is))
-      | inl blank ↦ decide_angled ts s.0 c.0 (angled_made ts s.0 s.1 c.0 c.1 s.2 c.2 blank)
-    ]
-  ]
-]
-
 -- A text says a path, or it doesn't.
 pub decide_path : (text : List ℕ)
     → ((answer : Option Address) × (comments : List CommentValue) × SaysPath text answer comments) ⊎ ((answer : Option Address) (comments : List CommentValue) → ¬ SaysPath text answer comments)
@@ -113,36 +77,7 @@ decide_path text = elim (decide_tokens Mail text) [
   ]
 ]
 
-read_text : (text : List ℕ) → (answer : Option (Option Address)) × IsReading text answer
-read_text text = elim (decide_tokens Mail text) [
-  | inr none ↦ (None, λ answer has. none has.tokens has.has_tokens)
-  | inl found ↦ elim (decide_is_path found.0) [
-    | inr none ↦ (None, λ answer has. none answer (rw (HasTokenValues-once text found.0 has.tokens found.1 has.has_tokens) has.is_path))
-    | inl is ↦ (Some is.0, record { tokens = found.0; has_tokens = found.1; is_path = is.1 })
-  ]
-]
-
--- A function that reads paths.
-pub paths_read : (path_of : List ℕ → Option (Option Address)) × ReadsPaths path_of
-paths_read = (λ text. (read_text text).0, λ text. (read_text text).1)
-
 -- ---- what the code reads
-
--- the domain of a path's address is UTF-8
-pub path_utf8 : (text : List ℕ) (a : Address) → HasPath text (Some a) → IsUtf8 a.domain
-path_utf8 text a path =
-    let m : MailboxValue = record { phrase = false; display = []; angle = true; address = a } in
-    let is = path.is_path in
-    (mailbox_writable path.tokens m (text_can text path.tokens path.has_tokens)
-    (inr (record { before = is.before; inner = is.inner; angled = is.angled; named = record { says = (is.nothing_before, refl); address = inl is.holds; angle = refl } }))).domain
-
--- the parts of a path's address are UTF-8
-pub path_parts : (text : List ℕ) (a : Address) → HasPath text (Some a) → IsUtf8 a.local × IsUtf8 a.domain
-path_parts text a path =
-    let is = path.is_path in
-    let can = text_can text path.tokens path.has_tokens in
-    let following = following_can path.tokens is.before (is.inner ++ is.angled.close_mark ∷ is.angled.after) is.angled.open_mark is.angled.whole can in
-    address_parts is.inner a (front_can is.inner (is.angled.close_mark ∷ is.angled.after) following) is.holds
 
 -- a path of a known address is served as that is, or isn't
 pub path_not_served : (text : List ℕ) (a : Address) (found : Option Address) → HasPath text (Some a) → found ≡ served_address a → IfNone found ((served : Address) → ¬ ServesPath text served)

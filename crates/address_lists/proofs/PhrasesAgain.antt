@@ -10,10 +10,10 @@ use Rattle.mail_wire.specs.Octets.{is_ascii}
 use Rattle.mail_wire.proofs.AllLemmas.{all-append}
 use Rattle.encoded_words.specs.Words.{UnitValue, Text, Opaque}
 use Rattle.encoded_words.specs.Units.{raw_units}
-use Rattle.encoded_words.specs.Pieces.{b_word}
+use Rattle.encoded_words.specs.WrittenWords.{is_safe_octet, written_word}
 use Rattle.encoded_words.specs.PhraseUnits.{HasPhraseUnits, separated}
 use Rattle.encoded_words.specs.Written.{AreUnits, AreWritable}
-use Rattle.encoded_words.proofs.BWords.{b_word-all, b_word_some}
+use Rattle.encoded_words.proofs.WrittenWords.{written_word-all, written_word_some}
 use Rattle.encoded_words.proofs.EncodedOctets.{encoded_some, encoded_ascii}
 use Rattle.encoded_words.proofs.PhraseLemmas.{HasPhraseUnits-once}
 use Rattle.encoded_words.proofs.PhraseSources.{SourceHas, WriteAll-nil, WriteAll-each, AreSeparators, HasPhraseUnits-sources, HasPhraseUnits-around, HasPhraseUnits-within}
@@ -181,11 +181,17 @@ record IsWordPiece (w : List ℕ) : Type 0 where
   atom : list_all (is_atom_octet Mail) w ≡ true
   ascii : list_all is_ascii w ≡ true
 
-b_word_piece : (chunk : List ℕ) → IsUtf8 chunk → IsWordPiece (b_word chunk)
-b_word_piece chunk u = record {
-  some = b_word_some chunk;
-  atom = b_word-all (is_atom_octet Mail) (record { symbols = refl; marks = refl }) chunk u;
-  ascii = b_word-all is_ascii (record { symbols = refl; marks = refl }) chunk u;
+atom_safe : (x : ℕ) → is_safe_octet x ≡ true → is_atom_octet Mail x ≡ true
+atom_safe x h = grind (arith, nat_tests)
+
+ascii_safe : (x : ℕ) → is_safe_octet x ≡ true → is_ascii x ≡ true
+ascii_safe x h = grind (arith, nat_tests)
+
+written_word_piece : (chunk : List ℕ) → IsUtf8 chunk → IsWordPiece (written_word chunk)
+written_word_piece chunk u = record {
+  some = written_word_some chunk;
+  atom = written_word-all (is_atom_octet Mail) (record { safe = atom_safe; marks = refl }) chunk u;
+  ascii = written_word-all is_ascii (record { safe = ascii_safe; marks = refl }) chunk u;
 }
 
 source_words : (us : List UnitValue) → AreWritable us → AllByRecursion (SourceHas AreAtomOctets) us → AllByRecursion (SourceHas IsWordPiece) us
@@ -296,7 +302,7 @@ pub units_head : (us : List UnitValue) (pieces : List (List ℕ)) → AreUnits u
 units_head [] pieces are can have writes = rw (writes) (empty_head no_units)
 units_head (u ∷ us) [] are can have writes = let none : u ∷ us ≡ [] = sym are ∙ WriteAll-nil (u ∷ us) writes in cc none
 units_head (u ∷ us) (w ∷ ws) are can have writes =
-    words_head (u ∷ us) w ws (WriteAll-each IsWordPiece b_word_piece (u ∷ us) (w ∷ ws) can (source_words (u ∷ us) can have) writes) (HasPhraseUnits-written (u ∷ us) (w ∷ ws) are can writes)
+    words_head (u ∷ us) w ws (WriteAll-each IsWordPiece written_word_piece (u ∷ us) (w ∷ ws) can (source_words (u ∷ us) can have) writes) (HasPhraseUnits-written (u ∷ us) (w ∷ ws) are can writes)
 
 -- ---- all of it
 

@@ -13,7 +13,7 @@ use Rattle.encoded_words.specs.Units.{with_text, merged}
 use Rattle.encoded_words.specs.PhraseUnits.{IsUtf8Item}
 use Rattle.encoded_words.specs.private.Merging.{IsMerging, TakesWord, done_values, all_units_then, onto}
 use Rattle.encoded_words.specs.Written.{IsWritable, AreWritable, WriteAll}
-use Rattle.encoded_words.proofs.BWords.{ascii_literal}
+use Rattle.encoded_words.proofs.WrittenWords.{ascii_literal}
 use Rattle.encoded_words.proofs.LineLemmas.{adds_none, adds_both, adds_as}
 use Rattle.encoded_words.proofs.Once.{says_once}
 use Rattle.encoded_words.proofs.Reading.{merged-onto}

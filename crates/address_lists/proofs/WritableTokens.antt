@@ -70,13 +70,6 @@ record IsUtf8Address (a : Address) : Type 0 where
   text : IsUtf8 (address_text a)
   domain : IsUtf8 a.domain
 
--- the parts of an address are UTF-8
-pub address_parts : (ts : List TokenValue) (a : Address) → CanBeWritten ts → IsAddress ts a → IsUtf8 a.local × IsUtf8 a.domain
-address_parts ts a can is = (
-  rw (is.local_says) (contents_says is.local (before_can ts is.local is.domain is.at is.whole can).says),
-  rw (is.domain_says) (contents_says is.domain (following_can ts is.local is.domain is.at is.whole can).says),
-)
-
 address_utf8 : (ts : List TokenValue) (a : Address) → CanBeWritten ts → IsAddress ts a → IsUtf8Address a
 address_utf8 ts a can is =
     let domain : IsUtf8 a.domain = rw (is.domain_says) (contents_says is.domain (following_can ts is.local is.domain is.at is.whole can).says) in

@@ -15,11 +15,11 @@ use Rattle.mail_wire.proofs.AllLemmas.{pass-weaker, pass-append}
 use Rattle.mail_wire.proofs.OctetLemmas.{no_fold}
 use Rattle.encoded_words.specs.Words.{UnitValue, Text, IsEncodedWord, is_token_octet as is_charset_octet, is_text_octet}
 use Rattle.encoded_words.specs.Units.{HasUnits, merged}
-use Rattle.encoded_words.specs.Pieces.{b_word, AreBWords, AreChunks, IsChunk}
+use Rattle.encoded_words.specs.WrittenWords.{written_word, AreWordsOf, AreChunks, IsChunk}
 use Rattle.encoded_words.specs.Folding.{Piece, made_body, word_pieces, AddsWordLines}
 use Rattle.encoded_words.specs.Written.{WriteAll}
-use Rattle.encoded_words.proofs.BWords.{b_word-says, chunk_utf8}
-use Rattle.encoded_words.proofs.Chunks.{AreBWords-once}
+use Rattle.encoded_words.proofs.WrittenWords.{written_word-says, chunk_utf8}
+use Rattle.encoded_words.proofs.Chunks.{AreWordsOf-once}
 use Rattle.encoded_words.proofs.EncodedOctets.{encoded_all, encoded_ascii, encoded_nonwhite, encoded_some}
 use Rattle.encoded_words.proofs.WrittenUnits.{HasUnits-written}
 use Rattle.encapsulated_fields.specs.Encapsulated.{IsFieldName, downgraded_name, field_of, Encapsulates, FieldSays}
@@ -53,15 +53,15 @@ IsWord-encoded w u is = record {
   ascii = encoded_ascii w u is;
 }
 
-chunks_are_words : (chunks : List (List ℕ)) → AreChunks chunks [] → IsUtf8 (concat chunks) → AllByRecursion IsWord (map b_word chunks)
+chunks_are_words : (chunks : List (List ℕ)) → AreChunks chunks [] → IsUtf8 (concat chunks) → AllByRecursion IsWord (map written_word chunks)
 chunks_are_words [] are u = tt
 chunks_are_words (c ∷ cs) are u =
     let is : IsChunk c (concat cs) = rw append-nil at are.0 in
     let both = chunk_utf8 c (concat cs) u is in
-    (IsWord-encoded (b_word c) (Text c) (b_word-says c both.0 is.some is.fits), chunks_are_words cs are.1 both.1)
+    (IsWord-encoded (written_word c) (Text c) (written_word-says c both.0 is.some is.fits), chunks_are_words cs are.1 both.1)
 
-b_words_are_words : (text : List ℕ) (words : List (List ℕ)) → IsUtf8 text → AreBWords text words → AllByRecursion IsWord words
-b_words_are_words text words u are =
+written_words_are_words : (text : List ℕ) (words : List (List ℕ)) → IsUtf8 text → AreWordsOf text words → AllByRecursion IsWord words
+written_words_are_words text words u are =
     let whole : text ≡ concat are.chunks = are.whole ∙ append-nil (concat are.chunks) in
     rw are.spelled (chunks_are_words are.chunks are.are_chunks (subst IsUtf8 whole u))
 
@@ -146,10 +146,10 @@ text_stays : (text : List ℕ) → 0 < length text → merged (Text text ∷ [])
 text_stays [] some = absurd (omega arith)
 text_stays (b ∷ bs) some = refl
 
-no_words : (text : List ℕ) → 0 < length text → AreBWords text [] → ⊥
+no_words : (text : List ℕ) → 0 < length text → AreWordsOf text [] → ⊥
 no_words text some are = by are.chunks are.spelled (are.whole ∙ append-nil (concat are.chunks))
   where
-    by : (chunks : List (List ℕ)) → [] ≡ map b_word chunks → text ≡ concat chunks → ⊥
+    by : (chunks : List (List ℕ)) → [] ≡ map written_word chunks → text ≡ concat chunks → ⊥
     by [] e whole = omega (arith, ap length whole)
     by (c ∷ cs) e whole = cc e
 
@@ -158,14 +158,14 @@ pub record BodySays (value : List ℕ) (words : List (List ℕ)) : Type 0 where
   pub trimmed : IsTrimmed is_white (unfolded (made_body (word_pieces 32 words))) (join_with_byte 32 words)
   pub says : HasUnits (join_with_byte 32 words) (Text value ∷ [])
 
-body_says : (value : List ℕ) (words : List (List ℕ)) → IsUtf8 value → 0 < length value → AreBWords value words → AllByRecursion IsWord words → BodySays value words
+body_says : (value : List ℕ) (words : List (List ℕ)) → IsUtf8 value → 0 < length value → AreWordsOf value words → AllByRecursion IsWord words → BodySays value words
 body_says value [] u some are of = absurd (no_words value some are)
 body_says value (w ∷ ws) u some are of =
     let writes : WriteAll (Text value ∷ []) (w ∷ ws) = (w ∷ ws, [], sym (append-nil (w ∷ ws)), are, refl) in
     record { trimmed = IsTrimmed-body w ws of.0 of.1; says = HasUnits-written (Text value ∷ []) (w ∷ ws) (text_stays value some) (u, tt) writes }
 
-pub words_say : (value : List ℕ) (words : List (List ℕ)) → IsUtf8 value → 0 < length value → AreBWords value words → BodySays value words
-words_say value words u some are = body_says value words u some are (b_words_are_words value words u are)
+pub words_say : (value : List ℕ) (words : List (List ℕ)) → IsUtf8 value → 0 < length value → AreWordsOf value words → BodySays value words
+words_say value words u some are = body_says value words u some are (written_words_are_words value words u are)
 
 pub FieldSays-encapsulated : (name value field : List ℕ) → IsUtf8 value → 0 < length value → Encapsulates name value field → FieldSays (downgraded_name name) field (Text value ∷ [])
 FieldSays-encapsulated name value field u some is =
@@ -189,14 +189,14 @@ ascii_lines (w ∷ ws) are = pass-append is_ascii w (flat_map line_of (map after
 pub ascii-encapsulated : (name value field : List ℕ) → IsFieldName name → IsUtf8 value → Encapsulates name value field → list_all is_ascii field ≡ true
 ascii-encapsulated name value field is_name u is =
     let body : List ℕ = made_body (word_pieces 32 is.words) in
-    let lines : list_all is_ascii body ≡ true = rw (body_is is.words) (ascii_lines is.words (b_words_are_words value is.words u is.are_words)) in
+    let lines : list_all is_ascii body ≡ true = rw (body_is is.words) (ascii_lines is.words (written_words_are_words value is.words u is.are_words)) in
     let head : list_all is_ascii (downgraded_name name) ≡ true = pass-append is_ascii (codes "Downgraded-") name refl (pass-weaker is_field_name_octet is_ascii ascii_name name is_name.1) in
     rw (is.spelled) (pass-append is_ascii (downgraded_name name) (58 ∷ (body ++ crlf)) head (pass-append is_ascii body crlf lines refl))
 
 -- One field keeps a value under a name.
 pub Encapsulates-once : (name value field other : List ℕ) → Encapsulates name value field → Encapsulates name value other → field ≡ other
 Encapsulates-once name value field other a b =
-    let same : a.words ≡ b.words = AreBWords-once value a.words b.words a.are_words b.are_words in
+    let same : a.words ≡ b.words = AreWordsOf-once value a.words b.words a.are_words b.are_words in
     a.spelled ∙ ap (λ ws. field_of (downgraded_name name) (made_body (word_pieces 32 ws))) same ∙ sym b.spelled
 
 -- what the writer puts one after the other is the field

@@ -8,7 +8,7 @@ use Rattle.mail_wire.specs.Folds.{unfolded}
 use Rattle.mail_wire.specs.Spans.{IsTrimmed}
 use Rattle.encoded_words.specs.Words.{UnitValue}
 use Rattle.encoded_words.specs.Units.{HasUnits}
-use Rattle.encoded_words.specs.Pieces.{AreBWords}
+use Rattle.encoded_words.specs.WrittenWords.{AreWordsOf}
 use Rattle.encoded_words.specs.Folding.{made_body, word_pieces}
 
 -- One or more octets that may stand in the name of a field (RFC 5322, 3.6.8).
@@ -23,10 +23,10 @@ downgraded_name name = codes "Downgraded-" ++ name
 abbrev pub field_of : List ℕ → List ℕ → List ℕ
 field_of name body = name ++ colon ∷ (body ++ crlf)
 
--- the field keeps the value of a field of this name as B words, each on a line of its own behind a space
+-- the field keeps the value of a field of this name as encoded words, each on a line of its own behind a space
 pub record Encapsulates (name value field : List ℕ) : Type 0 where
   pub words : List (List ℕ)
-  pub are_words : AreBWords value words
+  pub are_words : AreWordsOf value words
   pub spelled : field ≡ field_of (downgraded_name name) (made_body (word_pieces space words))
 
 -- a field of this name says these units: they are those of its body, unfolded and without white at its ends

@@ -10,7 +10,7 @@ use encoded_words::push_words;
 use mail_wire::{Memory, Octets};
 use std::alloc::Global;
 
-/// The field that keeps a value where a field of this name can't: `Downgraded-` before its name, and the value as B words,
+/// The field that keeps a value where a field of this name can't: `Downgraded-` before its name, and the value as encoded words,
 /// with the CRLF at its end.
 pub fn encapsulate(alloc: Global, name: &[u8], value: &[u8]) -> Result<Octets, Memory>
     requires name { IsFieldName name.now }

@@ -6,9 +6,9 @@ use Rattle.encoded_words.specs.private.Values.{value_of}
 use Rattle.encoded_words.specs.Words.{UnitValue, Text, Opaque}
 use Rattle.encoded_words.specs.Folding.{AddsWordLines, lines_of, AddsLines}
 use Rattle.encoded_words.specs.Written.{WritesUnit, WriteAll, IsWritable, AreWritable}
-use Rattle.encoded_words.proofs.Chunks.{AreBWords-once}
+use Rattle.encoded_words.proofs.Chunks.{AreWordsOf-once}
 use Rattle.encoded_words.proofs.LineLemmas.{adds_none, adds_these, adds_both, made-lines}
-use Rattle.encoded_words.proofs.AllChunks.{AreBWords-some}
+use Rattle.encoded_words.proofs.AllChunks.{AreWordsOf-some}
 
 pub write_append : (us vs : List UnitValue) (a b : List (List ℕ)) → WriteAll us a → WriteAll vs b → WriteAll (us ++ vs) (a ++ b)
 write_append [] vs a b p q = rw (p) q
@@ -49,7 +49,7 @@ adds_words text old new adds = adds_these adds.words adds.are_words (adds.added 
 
 -- There is one list of pieces of units.
 Writes-once : (u : UnitValue) (ps qs : List (List ℕ)) → WritesUnit u ps → WritesUnit u qs → ps ≡ qs
-Writes-once (Text octets) ps qs p q = AreBWords-once octets ps qs p q
+Writes-once (Text octets) ps qs p q = AreWordsOf-once octets ps qs p q
 Writes-once (Opaque charset octets source) ps qs p q = p ∙ sym q
 
 pub WriteAll-once : (us : List UnitValue) (ps qs : List (List ℕ)) → WriteAll us ps → WriteAll us qs → ps ≡ qs
@@ -61,7 +61,7 @@ WriteAll-once (u ∷ us) ps qs p q =
 
 -- Units that can be written have pieces.
 Writes-some : (u : UnitValue) → IsWritable u → (pieces : List (List ℕ)) × WritesUnit u pieces
-Writes-some (Text octets) can = AreBWords-some octets can
+Writes-some (Text octets) can = AreWordsOf-some octets can
 Writes-some (Opaque charset octets source) can = (source ∷ [], refl)
 
 pub WriteAll-some : (us : List UnitValue) → AreWritable us → (pieces : List (List ℕ)) × WriteAll us pieces

@@ -1,11 +1,11 @@
--- Every text has B words.
+-- Every text has encoded words.
 use Rattle.std.proofs.Common.{◌≡◌, ℕ, ◌<◌, ◌≤◌, ◌⊎◌, inl, inr, zero, suc, List, [], ◌∷◌, ◌++◌, length, map, take, drop, get_or, refl, sym, ap, ◌∙◌, subst, arith}
 use Rattle.std.proofs.lemmas.Bool.{cases_lt}
 use Rattle.std.proofs.lemmas.List.{append-nil, take-append-drop}
 use Rattle.std.proofs.lemmas.Str.{IsCharBoundary-start, IsUtf8-drop}
 use Rattle.std.specs.List.{concat}
 use Rattle.std.specs.Str.{IsUtf8, IsCharBoundary}
-use Rattle.encoded_words.specs.Pieces.{b_word, IsChunk, AreChunks, AreBWords}
+use Rattle.encoded_words.specs.WrittenWords.{written_word, IsChunk, AreChunks, AreWordsOf}
 use Rattle.encoded_words.proofs.Chunks.{IsChunk-take, chunk_shortens}
 
 decide_boundary : (bs : List ℕ) (i : ℕ) → IsCharBoundary bs i ⊎ ¬ (IsCharBoundary bs i)
@@ -58,7 +58,7 @@ chunks_of (suc n) (x ∷ text) small u =
     let more = chunks_of n (drop b.at all) (omega (arith, small, shorter)) (IsUtf8-drop all b.at u b.boundary) in
     (take b.at all ∷ more.0, (subst (IsChunk (take b.at all)) (more.2 ∙ sym (append-nil (concat more.0))) is, more.1), whole ∙ ap (λ t. take b.at all ++ t) more.2)
 
-pub AreBWords-some : (text : List ℕ) → IsUtf8 text → (words : List (List ℕ)) × AreBWords text words
-AreBWords-some text u =
+pub AreWordsOf-some : (text : List ℕ) → IsUtf8 text → (words : List (List ℕ)) × AreWordsOf text words
+AreWordsOf-some text u =
     let c = chunks_of (length text) text (omega arith) u in
-    (map b_word c.0, record { chunks = c.0; are_chunks = c.1; whole = c.2 ∙ sym (append-nil (concat c.0)); spelled = refl })
+    (map written_word c.0, record { chunks = c.0; are_chunks = c.1; whole = c.2 ∙ sym (append-nil (concat c.0)); spelled = refl })

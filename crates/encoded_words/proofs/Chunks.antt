@@ -8,7 +8,7 @@ use lib.Utf8.{scalar}
 use Rattle.std.specs.Char.{encode_utf8, len_utf8}
 use Rattle.std.specs.Str.{IsUtf8, IsCharBoundary, encode_utf8_all, all_scalars}
 use Rattle.mail_wire.specs.Lines.{crlf}
-use Rattle.encoded_words.specs.Pieces.{b_word, IsChunk, AreChunks, AreFirstBWords, AreBWords, AddsBWords}
+use Rattle.encoded_words.specs.WrittenWords.{written_word, IsChunk, AreChunks, AreFirstWords, AreWordsOf, AddsWords}
 use Rattle.encoded_words.specs.Folding.{Piece, made_body, word_pieces, AddsWordLines}
 
 concat-append : (xs ys : List (List ℕ)) → concat (xs ++ ys) ≡ concat xs ++ concat ys
@@ -24,21 +24,21 @@ AreChunks-push (c ∷ cs) chunk rest are is =
     (subst (IsChunk c) (sym e) are.0, AreChunks-push cs chunk rest are.1 is)
 
 -- no words yet
-pub AddsBWords-none : (text : List ℕ) (old : List (List ℕ)) → AddsBWords text old old text
-AddsBWords-none text old = record {
+pub AddsWords-none : (text : List ℕ) (old : List (List ℕ)) → AddsWords text old old text
+AddsWords-none text old = record {
   words = [];
   are_words = record { chunks = []; are_chunks = tt; whole = refl; spelled = refl };
   added = sym (append-nil old);
 }
 
 -- one word more
-AreFirstBWords-push : (text : List ℕ) (words : List (List ℕ)) (chunk rest : List ℕ) → AreFirstBWords text words (chunk ++ rest) → IsChunk chunk rest
-    → AreFirstBWords text (words ++ b_word chunk ∷ []) rest
-AreFirstBWords-push text words chunk rest were is = record {
+AreFirstWords-push : (text : List ℕ) (words : List (List ℕ)) (chunk rest : List ℕ) → AreFirstWords text words (chunk ++ rest) → IsChunk chunk rest
+    → AreFirstWords text (words ++ written_word chunk ∷ []) rest
+AreFirstWords-push text words chunk rest were is = record {
   chunks = were.chunks ++ chunk ∷ [];
   are_chunks = AreChunks-push were.chunks chunk rest were.are_chunks is;
   whole = were.whole ∙ rw (concat-append were.chunks (chunk ∷ []), append-nil, append_assoc) refl;
-  spelled = ap (λ ws. ws ++ b_word chunk ∷ []) were.spelled ∙ sym (map-append b_word were.chunks (chunk ∷ []));
+  spelled = ap (λ ws. ws ++ written_word chunk ∷ []) were.spelled ∙ sym (map-append written_word were.chunks (chunk ∷ []));
 }
 
 -- A text that is not empty has a boundary behind its first character.
@@ -74,12 +74,12 @@ IsChunk-take text n utf8 some fits cut most =
     }
 
 -- one turn of the loop that writes the words
-pub AddsBWords-turn : (text rest chunk after word : List ℕ) (old mid new : List (List ℕ)) → rest ≡ chunk ++ after → IsChunk chunk after
-    → word ≡ b_word chunk → new ≡ mid ++ word ∷ [] → AddsBWords text old mid rest → AddsBWords text old new after
-AddsBWords-turn text rest chunk after word old mid new whole is word_is pushed adds = record {
-  words = adds.words ++ b_word chunk ∷ [];
-  are_words = AreFirstBWords-push text adds.words chunk after (subst (AreFirstBWords text adds.words) whole adds.are_words) is;
-  added = pushed ∙ rw (word_is, adds.added) (append_assoc old adds.words (b_word chunk ∷ []));
+pub AddsWords-turn : (text rest chunk after word : List ℕ) (old mid new : List (List ℕ)) → rest ≡ chunk ++ after → IsChunk chunk after
+    → word ≡ written_word chunk → new ≡ mid ++ word ∷ [] → AddsWords text old mid rest → AddsWords text old new after
+AddsWords-turn text rest chunk after word old mid new whole is word_is pushed adds = record {
+  words = adds.words ++ written_word chunk ∷ [];
+  are_words = AreFirstWords-push text adds.words chunk after (subst (AreFirstWords text adds.words) whole adds.are_words) is;
+  added = pushed ∙ rw (word_is, adds.added) (append_assoc old adds.words (written_word chunk ∷ []));
 }
 
 -- what is left is shorter behind a chunk
@@ -103,10 +103,10 @@ next_white-push : (white : ℕ) (ws : List (List ℕ)) (w : List ℕ) → next_w
 next_white-push white [] w = refl
 next_white-push white (v ∷ ws) w = refl
 
--- the lines of the first B words were added, and this white octet comes before the next one
+-- the lines of the first encoded words were added, and this white octet comes before the next one
 pub record AddsFirstLines (text : List ℕ) (white : ℕ) (old new : List ℕ) (before : ℕ) (rest : List ℕ) : Type 0 where
   pub words : List (List ℕ)
-  pub are_words : AreFirstBWords text words rest
+  pub are_words : AreFirstWords text words rest
   pub added : new ≡ old ++ made_body (word_pieces white words)
   pub before_is : before ≡ next_white white words
 
@@ -120,14 +120,14 @@ AddsFirstLines-none text white old = record {
 
 -- one turn of the loop that puts the lines
 pub AddsFirstLines-turn : (text : List ℕ) (white : ℕ) (old made new : List ℕ) (before : ℕ) (rest chunk after : List ℕ) → rest ≡ chunk ++ after → IsChunk chunk after
-    → new ≡ ((made ++ crlf) ++ before ∷ []) ++ b_word chunk → AddsFirstLines text white old made before rest → AddsFirstLines text white old new 32 after
+    → new ≡ ((made ++ crlf) ++ before ∷ []) ++ written_word chunk → AddsFirstLines text white old made before rest → AddsFirstLines text white old new 32 after
 AddsFirstLines-turn text white old made new before rest chunk after whole is put adds =
-    let word : List ℕ = b_word chunk in
+    let word : List ℕ = written_word chunk in
     let b : ℕ = next_white white adds.words in
     let done : List ℕ = made_body (word_pieces white adds.words) in
     record {
       words = adds.words ++ word ∷ [];
-      are_words = AreFirstBWords-push text adds.words chunk after (subst (AreFirstBWords text adds.words) whole adds.are_words) is;
+      are_words = AreFirstWords-push text adds.words chunk after (subst (AreFirstWords text adds.words) whole adds.are_words) is;
       added = put ∙ rw (adds.added, adds.before_is, word_pieces-push white adds.words word, made_body-append (word_pieces white adds.words) (record { white = b; octets = word } ∷ []))
           (append_assoc ((old ++ done) ++ crlf) (b ∷ []) word ∙ append_assoc (old ++ done) crlf (b ∷ word) ∙ append_assoc old done (crlf ++ b ∷ word)
           ∙ ap (λ t. old ++ (done ++ t)) (sym (append-nil (crlf ++ b ∷ word))));
@@ -138,11 +138,11 @@ pub AddsFirstLines-end : (text : List ℕ) (white : ℕ) (old new : List ℕ) (b
     → AddsWordLines text white old new
 AddsFirstLines-end text white old new before rest end adds = record {
   words = adds.words;
-  are_words = subst (AreFirstBWords text adds.words) (nil_from_length rest end) adds.are_words;
+  are_words = subst (AreFirstWords text adds.words) (nil_from_length rest end) adds.are_words;
   added = adds.added;
 }
 
--- There is one list of B words.
+-- There is one list of encoded words.
 chunk_once : (c d rest more : List ℕ) → IsChunk c rest → IsChunk d more → c ++ rest ≡ d ++ more → (c ≡ d) × (rest ≡ more)
 chunk_once c d rest more p q e =
     let not_less : length c < length d → ⊥ = λ l. p.most (length d) l q.fits (rw e q.cut) in
@@ -166,7 +166,7 @@ chunks_once (c ∷ cs) (d ∷ ds) p q e =
     let tail : cs ≡ ds = chunks_once cs ds p.1 q.1 both.1 in
     cc
 
-pub AreBWords-once : (text : List ℕ) (ws vs : List (List ℕ)) → AreBWords text ws → AreBWords text vs → ws ≡ vs
-AreBWords-once text ws vs p q =
+pub AreWordsOf-once : (text : List ℕ) (ws vs : List (List ℕ)) → AreWordsOf text ws → AreWordsOf text vs → ws ≡ vs
+AreWordsOf-once text ws vs p q =
     let whole : concat p.chunks ≡ concat q.chunks = sym (p.whole ∙ append-nil (concat p.chunks)) ∙ q.whole ∙ append-nil (concat q.chunks) in
-    p.spelled ∙ ap (map b_word) (chunks_once p.chunks q.chunks p.are_chunks q.are_chunks whole) ∙ sym q.spelled
+    p.spelled ∙ ap (map written_word) (chunks_once p.chunks q.chunks p.are_chunks q.are_chunks whole) ∙ sym q.spelled

@@ -1,10 +1,11 @@
 pub mod Chunks
 pub mod AllChunks
 pub mod Octets
-pub mod BWords
+pub mod WrittenWords
 pub mod WithText
 pub mod Cuts
 pub mod QText
+pub mod QWords
 pub mod Charsets
 pub mod Reading
 pub mod Once

@@ -7,17 +7,17 @@ use Rattle.std.specs.Str.{IsUtf8, str_to_ascii_lowercase}
 use Rattle.encoded_words.specs.Words.{UnitValue, Text, Opaque, SaysWhere, gives_text, unit_of}
 use Rattle.encoded_words.specs.Units.{Place, word_unit, raw_units, with_text, merged}
 use Rattle.encoded_words.specs.PhraseUnits.{PhraseItem, Atom, Content, Dot, Separator, PhraseWord, phrase_words, ArePhrasePlaces, HasPhraseUnits, begins_free, has_word}
-use Rattle.encoded_words.specs.Pieces.{b_word, IsChunk, AreChunks, AreBWords}
+use Rattle.encoded_words.specs.WrittenWords.{written_word, IsChunk, AreChunks, AreWordsOf}
 use Rattle.encoded_words.specs.Written.{WriteAll, AreWritable}
-use Rattle.encoded_words.proofs.BWords.{chunk_utf8}
+use Rattle.encoded_words.proofs.WrittenWords.{chunk_utf8}
 
 -- ---- pieces
 
 -- What is written as nothing says nothing.
-no_text : (octets : List ℕ) → AreBWords octets [] → octets ≡ []
+no_text : (octets : List ℕ) → AreWordsOf octets [] → octets ≡ []
 no_text octets are = by are.chunks are.whole are.spelled
   where
-    by : (chunks : List (List ℕ)) → octets ≡ concat chunks ++ [] → [] ≡ map b_word chunks → octets ≡ []
+    by : (chunks : List (List ℕ)) → octets ≡ concat chunks ++ [] → [] ≡ map written_word chunks → octets ≡ []
     by [] whole spelled = whole
     by (c ∷ chunks) whole spelled = cc spelled
 
@@ -29,33 +29,33 @@ pub WriteAll-nil : (us : List UnitValue) → WriteAll us [] → merged us ≡ []
 WriteAll-nil [] writes = refl
 WriteAll-nil (Text octets ∷ us) writes =
     let none = no_front writes.0 writes.1 writes.2 in
-    let text : octets ≡ [] = no_text octets (subst (AreBWords octets) none.0 writes.3) in
+    let text : octets ≡ [] = no_text octets (subst (AreWordsOf octets) none.0 writes.3) in
     rw (text) (WriteAll-nil us (subst (WriteAll us) none.1 writes.4))
 WriteAll-nil (Opaque charset octets source ∷ us) writes =
     let none = no_front writes.0 writes.1 writes.2 in
     let one : source ∷ [] ≡ [] = sym writes.3 ∙ none.0 in
     cc one
 
--- what holds of each B word, and of what each opaque unit comes from, holds of each piece
+-- what holds of each encoded word, and of what each opaque unit comes from, holds of each piece
 abbrev pub SourceHas : (List ℕ → Type 0) → UnitValue → Type 0
 SourceHas P (Text octets) = Unit {0}
 SourceHas P (Opaque charset octets source) = P source
 
-b_words_have : (P : List ℕ → Type 0) → ((chunk : List ℕ) → IsUtf8 chunk → P (b_word chunk)) → (chunks more : List (List ℕ)) → AreChunks chunks [] → IsUtf8 (concat chunks)
-    → AllByRecursion P more → AllByRecursion P (map b_word chunks ++ more)
-b_words_have P words [] more are u all = all
-b_words_have P words (c ∷ chunks) more are u all =
+written_words_have : (P : List ℕ → Type 0) → ((chunk : List ℕ) → IsUtf8 chunk → P (written_word chunk)) → (chunks more : List (List ℕ)) → AreChunks chunks [] → IsUtf8 (concat chunks)
+    → AllByRecursion P more → AllByRecursion P (map written_word chunks ++ more)
+written_words_have P words [] more are u all = all
+written_words_have P words (c ∷ chunks) more are u all =
     let is : IsChunk c (concat chunks) = rw append-nil at are.0 in
     let both = chunk_utf8 c (concat chunks) u is in
-    (words c both.0, b_words_have P words chunks more are.1 both.1 all)
+    (words c both.0, written_words_have P words chunks more are.1 both.1 all)
 
-pub WriteAll-each : (P : List ℕ → Type 0) → ((chunk : List ℕ) → IsUtf8 chunk → P (b_word chunk)) → (us : List UnitValue) (pieces : List (List ℕ)) → AreWritable us
+pub WriteAll-each : (P : List ℕ → Type 0) → ((chunk : List ℕ) → IsUtf8 chunk → P (written_word chunk)) → (us : List UnitValue) (pieces : List (List ℕ)) → AreWritable us
     → AllByRecursion (SourceHas P) us → WriteAll us pieces → AllByRecursion P pieces
 WriteAll-each P words [] pieces can have writes = rw writes tt
 WriteAll-each P words (Text octets ∷ us) pieces can have writes =
-    let are : AreBWords octets writes.0 = writes.3 in
+    let are : AreWordsOf octets writes.0 = writes.3 in
     let whole : octets ≡ concat are.chunks = are.whole ∙ append-nil (concat are.chunks) in
-    rw (writes.2, are.spelled) (b_words_have P words are.chunks writes.1 are.are_chunks (subst IsUtf8 whole can.0) (WriteAll-each P words us writes.1 can.1 have.1 writes.4))
+    rw (writes.2, are.spelled) (written_words_have P words are.chunks writes.1 are.are_chunks (subst IsUtf8 whole can.0) (WriteAll-each P words us writes.1 can.1 have.1 writes.4))
 WriteAll-each P words (Opaque charset octets source ∷ us) pieces can have writes = rw (writes.2, writes.3) ((have.0, WriteAll-each P words us writes.1 can.1 have.1 writes.4))
 
 -- ---- sources

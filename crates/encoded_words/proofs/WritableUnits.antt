@@ -14,7 +14,7 @@ use Rattle.encoded_words.specs.Units.{Place, ArePlaces, HasUnits, place_octets, 
 use Rattle.encoded_words.specs.CommentUnits.{TextItem, Plain, Pair, item_spelling, item_octet, has_backslash, is_white_item, CommentWord, word_items, ItemsDivide, AreCommentWords, comment_places, HasCommentUnits}
 use Rattle.encoded_words.specs.PhraseUnits.{PhraseItem, Atom, Content, Dot, Separator, IsUtf8Item, PhraseWord, phrase_words, ArePhrasePlaces, HasPhraseUnits, begins_free, has_word}
 use Rattle.encoded_words.specs.Written.{IsWritable, AreWritable}
-use Rattle.encoded_words.proofs.BWords.{ascii_literal}
+use Rattle.encoded_words.proofs.WrittenWords.{ascii_literal}
 use Rattle.encoded_words.proofs.Once.{after_word}
 
 -- What an encoded word says.

@@ -1,5 +1,5 @@
 -- The pieces of a comment's units hold no parenthesis and no backslash, and there are some where the text is not white.
-use Rattle.std.proofs.Common.{◌≡◌, ◌==◌, ℕ, ◌<◌, Bool, true, false, ◌&&◌, ◌||◌, ◌⊎◌, not, inl, inr, List, [], ◌∷◌, ◌++◌, length, map, codes, Option, Some, None, refl, sym, ap, ◌∙◌, subst, arith}
+use Rattle.std.proofs.Common.{◌≡◌, ◌==◌, ℕ, ◌<◌, Bool, true, false, ◌&&◌, ◌||◌, ◌⊎◌, not, inl, inr, List, [], ◌∷◌, ◌++◌, length, map, Option, Some, None, refl, sym, ap, ◌∙◌, subst, arith}
 use Rattle.std.proofs.lemmas.Bool.{and_parts, and_from, both_ways, cases_Bool}
 use Rattle.std.proofs.lemmas.Bool.Decides.{nat_tests}
 use Rattle.std.proofs.lemmas.List.{append-nil, length-append, length-map}
@@ -13,10 +13,9 @@ use Rattle.mail_wire.proofs.AllLemmas.{all-append, pass-append}
 use Rattle.encoded_words.specs.Words.{UnitValue, Text, Opaque, IsEncodedWord, IsTextOf, q_spelling, q_octet, QItem, SaysWhere, is_visible, gives_text, unit_of}
 use Rattle.encoded_words.specs.Units.{word_unit, raw_units, with_text, merged}
 use Rattle.encoded_words.specs.CommentUnits.{TextItem, Plain, Pair, AreTextItems, item_spelling, item_octet, has_backslash, is_white_item, CommentWord, word_items, AreCommentWords, comment_places, HasCommentUnits}
-use Rattle.encoded_words.specs.Pieces.{b_word, IsChunk, AreChunks, AreBWords}
+use Rattle.encoded_words.specs.WrittenWords.{is_safe_octet, written_word, IsChunk, AreChunks, AreWordsOf}
 use Rattle.encoded_words.specs.Written.{WriteAll, AreUnits, AreWritable}
-use Rattle.encoded_words.proofs.Octets.{is_byte, bytes-IsUtf8, encoded_hold}
-use Rattle.encoded_words.proofs.BWords.{length-encode_of, chunk_utf8}
+use Rattle.encoded_words.proofs.WrittenWords.{written_word-all, written_word_some, length-encode_of, chunk_utf8}
 use Rattle.encoded_words.proofs.EncodedOctets.{encoded_all, encoded_some}
 use Rattle.encoded_words.proofs.CommentLemmas.{items_once}
 
@@ -102,12 +101,11 @@ HasCommentUnits-sources p items units are h has =
     rw (has.says) (merged_source p (raw_units (comment_places has.words)) (words_source p has.words has.are_words (item_parts (passes_alone p) has.lead words (subst (λ xs. list_all (passes_alone p) xs ≡ true) same h)).1))
 
 -- The pieces of units.
-pub b_word-plain : (chunk : List ℕ) → list_all is_byte chunk ≡ true → IsPlainPiece (b_word chunk)
-unfolding b_word
-b_word-plain chunk bytes = record {
-  some = omega arith;
-  plain = pass-append is_plain (codes "=?UTF-8?B?") (encode_of standard chunk ++ codes "?=") refl (pass-append is_plain (encode_of standard chunk) (codes "?=") (encoded_hold is_plain refl refl chunk bytes) refl);
-}
+plain_safe : (x : ℕ) → is_safe_octet x ≡ true → is_plain x ≡ true
+plain_safe x h = grind (arith, nat_tests)
+
+pub written_word-plain : (chunk : List ℕ) → IsUtf8 chunk → IsPlainPiece (written_word chunk)
+written_word-plain chunk u = record { some = written_word_some chunk; plain = written_word-all is_plain (record { safe = plain_safe; marks = refl }) chunk u }
 
 visible_letter : (x : ℕ) → (to_ascii_uppercase x ≡ 66) ⊎ (to_ascii_uppercase x ≡ 81) → is_visible x ≡ true
 visible_letter x (inl h) = grind (arith, nat_tests)
@@ -126,19 +124,19 @@ source_plain source unit is h =
     = encoded_all is_visible (record { name = λ x n. (and_parts (is_visible x) _ n).0; text = λ x t. (and_parts (is_visible x) _ t).0; letter = visible_letter; marks = refl }) source unit is in
     record { some = encoded_some source unit is; plain = both_hold is_visible is_no_mark source visible h }
 
-chunks_plain : (chunks : List (List ℕ)) → AreChunks chunks [] → IsUtf8 (concat chunks) → AllByRecursion IsPlainPiece (map b_word chunks)
+chunks_plain : (chunks : List (List ℕ)) → AreChunks chunks [] → IsUtf8 (concat chunks) → AllByRecursion IsPlainPiece (map written_word chunks)
 chunks_plain [] are u = tt
 chunks_plain (chunk ∷ chunks) are u =
     let is : IsChunk chunk (concat chunks) = rw append-nil at are.0 in
     let both = chunk_utf8 chunk (concat chunks) u is in
-    (b_word-plain chunk (bytes-IsUtf8 chunk both.0), chunks_plain chunks are.1 both.1)
+    (written_word-plain chunk both.0, chunks_plain chunks are.1 both.1)
 
 pub WriteAll-plain : (us : List UnitValue) (pieces : List (List ℕ)) → AreWritable us → AllByRecursion (HoldsSource is_no_mark) us → WriteAll us pieces → AllByRecursion IsPlainPiece pieces
 WriteAll-plain [] pieces can all writes = rw writes tt
 WriteAll-plain (Text octets ∷ us) pieces can all writes =
-    let are : AreBWords octets writes.0 = writes.3 in
+    let are : AreWordsOf octets writes.0 = writes.3 in
     let whole : octets ≡ concat are.chunks = are.whole ∙ append-nil (concat are.chunks) in
-    rw (writes.2, are.spelled) (all-append IsPlainPiece (map b_word are.chunks) writes.1 (chunks_plain are.chunks are.are_chunks (subst IsUtf8 whole can.0)) (WriteAll-plain us writes.1 can.1 all.1 writes.4))
+    rw (writes.2, are.spelled) (all-append IsPlainPiece (map written_word are.chunks) writes.1 (chunks_plain are.chunks are.are_chunks (subst IsUtf8 whole can.0)) (WriteAll-plain us writes.1 can.1 all.1 writes.4))
 WriteAll-plain (Opaque charset octets source ∷ us) pieces can all writes =
     rw (writes.2, writes.3) (source_plain source (Opaque charset octets source) can.0 all.0, WriteAll-plain us writes.1 can.1 all.1 writes.4)
 
@@ -221,14 +219,14 @@ merged_says [] = tt
 merged_says (Text bs ∷ us) = with_text_says bs (merged us) (merged_says us)
 merged_says (Opaque charset octets source ∷ us) = (tt, merged_says us)
 
-words_there : (octets : List ℕ) (chunks words : List (List ℕ)) → octets ≡ concat chunks ++ [] → words ≡ map b_word chunks → 0 < length octets → 0 < length words
+words_there : (octets : List ℕ) (chunks words : List (List ℕ)) → octets ≡ concat chunks ++ [] → words ≡ map written_word chunks → 0 < length octets → 0 < length words
 words_there octets [] words whole spelled h = absurd (omega (arith, h, ap length whole))
 words_there octets (chunk ∷ chunks) words whole spelled h = rw spelled (omega arith)
 
 pieces_there : (us : List UnitValue) (pieces : List (List ℕ)) → AllByRecursion SaysSome us → 0 < length us → WriteAll us pieces → 0 < length pieces
 pieces_there [] pieces all h writes = absurd (omega (arith, h))
 pieces_there (Text octets ∷ us) pieces all h writes =
-    let are : AreBWords octets writes.0 = writes.3 in
+    let are : AreWordsOf octets writes.0 = writes.3 in
     let first = words_there octets are.chunks writes.0 are.whole are.spelled all.0 in
     omega (arith, first, ap length writes.2, length-append writes.0 writes.1)
 pieces_there (Opaque charset octets source ∷ us) pieces all h writes =

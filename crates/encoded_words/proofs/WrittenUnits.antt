@@ -9,9 +9,9 @@ use Rattle.encoded_words.specs.Words.{UnitValue, Text, Opaque, IsEncodedWord}
 use Rattle.encoded_words.specs.Units.{Place, ArePlaces, Divides, HasUnits, place_octets, raw_units, run_text, begins_encoded, merged, with_text}
 use Rattle.encoded_words.specs.CommentUnits.{Plain, is_white_item, CommentWord, word_items, ItemsDivide, AreCommentWords, comment_places, HasCommentUnits}
 use Rattle.encoded_words.specs.PhraseUnits.{has_word, separated, phrase_words, ArePhrasePlaces, HasPhraseUnits}
-use Rattle.encoded_words.specs.Pieces.{b_word, IsChunk, AreChunks, AreBWords, AreFirstBWords, AddsBWords, ReadBack, AreShort}
+use Rattle.encoded_words.specs.WrittenWords.{written_word, IsChunk, AreChunks, AreWordsOf, AreFirstWords, AddsWords, ReadBack, AreShort}
 use Rattle.encoded_words.specs.Written.{WriteAll, AreUnits, AreWritable, has_no_backslash}
-use Rattle.encoded_words.proofs.BWords.{b_word-says, chunk_utf8, AreShort-b_words}
+use Rattle.encoded_words.proofs.WrittenWords.{written_word-says, chunk_utf8, AreShort-written_words}
 use Rattle.encoded_words.proofs.PlainItems.{plain_octets, plain_spelling, plain_items, plain_no_backslash, no_backslash_parts}
 use Rattle.encoded_words.proofs.EncodedOctets.{encoded_nonwhite, encoded_some}
 use Rattle.encoded_words.proofs.Reading.{merged-onto}
@@ -24,14 +24,14 @@ Say [] (u ∷ us) = ⊥
 Say (w ∷ ws) [] = ⊥
 Say (w ∷ ws) (u ∷ us) = IsEncodedWord w u × Say ws us
 
--- B words say their chunks, and units that touch are put together
+-- encoded words say their chunks, and units that touch are put together
 record Spoken (pieces : List (List ℕ)) (units : List UnitValue) : Type 0 where
   says : List UnitValue
   say : Say pieces says
   same : merged says ≡ merged units
 
 spoken_text : (chunks : List (List ℕ)) (more : List (List ℕ)) (us : List UnitValue) → AreChunks chunks [] → IsUtf8 (concat chunks) → Spoken more us
-    → Spoken (map b_word chunks ++ more) (Text (concat chunks) ∷ us)
+    → Spoken (map written_word chunks ++ more) (Text (concat chunks) ∷ us)
 spoken_text [] more us are u s = record { says = s.says; say = s.say; same = s.same }
 spoken_text (c ∷ cs) more us are u s =
     let is : IsChunk c (concat cs) = rw append-nil at are.0 in
@@ -39,14 +39,14 @@ spoken_text (c ∷ cs) more us are u s =
     let rest = spoken_text cs more us are.1 both.1 s in
     record {
       says = Text c ∷ rest.says;
-      say = (b_word-says c both.0 is.some is.fits, rest.say);
+      say = (written_word-says c both.0 is.some is.fits, rest.say);
       same = ap (with_text c) rest.same ∙ with_text-append c (concat cs) (merged us);
     }
 
 spoken : (us : List UnitValue) (pieces : List (List ℕ)) → AreWritable us → WriteAll us pieces → Spoken pieces us
 spoken [] pieces can writes = rw writes (record { says = []; say = tt; same = refl })
 spoken (Text octets ∷ us) pieces can writes =
-    let are : AreBWords octets writes.0 = writes.3 in
+    let are : AreWordsOf octets writes.0 = writes.3 in
     let whole : octets ≡ concat are.chunks = are.whole ∙ append-nil (concat are.chunks) in
     rw (writes.2, are.spelled, whole) (spoken_text are.chunks writes.1 us are.are_chunks (subst IsUtf8 whole can.0) (spoken us writes.1 can.1 writes.4))
 spoken (Opaque charset octets source ∷ us) pieces can writes =
@@ -219,15 +219,15 @@ HasPhraseUnits-written us pieces are can writes =
       says = sym are ∙ sym s.same ∙ sym (merged-places_of pieces s.says s.say);
     }
 
--- What the writer of B words added is read back as the text.
-pub ReadBack-added : (text rest : List ℕ) (old new words : List (List ℕ)) → IsUtf8 text → AddsBWords text old new rest → length rest ≡ 0 → new ≡ old ++ words → ReadBack text words
+-- What the writer of encoded words added is read back as the text.
+pub ReadBack-added : (text rest : List ℕ) (old new words : List (List ℕ)) → IsUtf8 text → AddsWords text old new rest → length rest ≡ 0 → new ≡ old ++ words → ReadBack text words
 ReadBack-added text rest old new words u adds end new_is =
     let same : adds.words ≡ words = append_cancel_left old adds.words words (sym adds.added ∙ new_is) in
     let nil : rest ≡ [] = nil_from_length rest end in
-    let are : AreBWords text words = subst (λ ws. AreFirstBWords text ws []) same (subst (AreFirstBWords text adds.words) nil adds.are_words) in
+    let are : AreWordsOf text words = subst (λ ws. AreFirstWords text ws []) same (subst (AreFirstWords text adds.words) nil adds.are_words) in
     let whole : text ≡ concat are.chunks = are.whole ∙ append-nil (concat are.chunks) in
     let writes : WriteAll (Text text ∷ []) words = (words, [], sym (append-nil words), are, refl) in
     record {
-      short = subst AreShort (sym are.spelled) (AreShort-b_words are.chunks are.are_chunks (subst IsUtf8 whole u));
+      short = subst AreShort (sym are.spelled) (AreShort-written_words are.chunks are.are_chunks (subst IsUtf8 whole u));
       units = HasUnits-merged (Text text ∷ []) words (u, tt) writes;
     }

@@ -3,7 +3,7 @@ use Rattle.std.specs.Prelude.{◌≡◌, ℕ, List, [], ◌∷◌, ◌++◌, map
 use Rattle.std.specs.List.{flat_map}
 use Rattle.mail_wire.specs.Characters.{space}
 use Rattle.mail_wire.specs.Lines.{crlf}
-use Rattle.encoded_words.specs.Pieces.{AreBWords}
+use Rattle.encoded_words.specs.WrittenWords.{AreWordsOf}
 
 -- a piece of a made field, and the white octet before it
 pub record Piece : Type 0 where
@@ -19,10 +19,10 @@ abbrev pub word_pieces : ℕ → List (List ℕ) → List Piece
 word_pieces white [] = []
 word_pieces white (word ∷ words) = record { white = white; octets = word } ∷ map (λ w. record { white = space; octets = w }) words
 
--- new is old and the lines of the B words of a text
+-- new is old and the lines of the encoded words of a text
 pub record AddsWordLines (text : List ℕ) (white : ℕ) (old new : List ℕ) : Type 0 where
   pub words : List (List ℕ)
-  pub are_words : AreBWords text words
+  pub are_words : AreWordsOf text words
   pub added : new ≡ old ++ made_body (word_pieces white words)
 
 -- pieces stand on a line each, behind a space

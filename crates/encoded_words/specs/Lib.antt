@@ -4,7 +4,7 @@ pub mod Units
 pub mod CommentUnits
 pub mod Contexts
 pub mod PhraseUnits
-pub mod Pieces
+pub mod WrittenWords
 pub mod Folding
 pub mod Written
 pub mod private

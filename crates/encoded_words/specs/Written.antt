@@ -1,15 +1,15 @@
--- How units are written: each text as its B words, each opaque unit as the word that it came from.
+-- How units are written: each text as its encoded words, each opaque unit as the word that it came from.
 use Rattle.std.specs.Prelude.{◌≡◌, ℕ, ◌==◌, Bool, not, List, [], ◌∷◌, ◌++◌, IsUtf8}
 use Rattle.std.specs.List.{AllByRecursion, list_all}
 use Rattle.mail_wire.specs.Characters.{backslash}
 use Rattle.encoded_words.specs.Words.{UnitValue, Text, Opaque, IsEncodedWord}
 use Rattle.encoded_words.specs.Units.{merged}
 use Rattle.encoded_words.specs.CommentUnits.{HasCommentUnits}
-use Rattle.encoded_words.specs.Pieces.{AreBWords}
+use Rattle.encoded_words.specs.WrittenWords.{AreWordsOf}
 
 -- the pieces of one unit
 abbrev pub WritesUnit : UnitValue → List (List ℕ) → Type 0
-WritesUnit (Text octets) pieces = AreBWords octets pieces
+WritesUnit (Text octets) pieces = AreWordsOf octets pieces
 WritesUnit (Opaque charset octets source) pieces = pieces ≡ source ∷ []
 
 -- the pieces of units, one after the other

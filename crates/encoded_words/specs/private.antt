@@ -3,3 +3,4 @@ pub mod CommentReading
 pub mod Parts
 pub mod Values
 pub mod Merging
+pub mod Escapes

@@ -5,7 +5,7 @@ ghost use Rattle.encoded_words.specs.Words.{UnitValue};
 ghost use Rattle.encoded_words.specs.Units.{HasUnits};
 ghost use Rattle.encoded_words.specs.CommentUnits.{HasCommentUnits};
 ghost use Rattle.encoded_words.specs.PhraseUnits.{PhraseItem, Content, IsUtf8Item, HasPhraseUnits, separated};
-ghost use Rattle.encoded_words.specs.Pieces.{AreBWords};
+ghost use Rattle.encoded_words.specs.WrittenWords.{AreWordsOf};
 ghost use Rattle.encoded_words.specs.Written.{AreUnits, AreWritable, WriteAll, has_no_backslash};
 
 /// A text or a phrase has one list of units.
@@ -38,9 +38,9 @@ pub fn units_are_writable()
         → HasPhraseUnits items units → AreWritable units }
 {}
 
-/// A text has one list of B words.
-pub fn b_words_are_one()
-    ensures { (text : List ℕ) (words others : List (List ℕ)) → AreBWords text words → AreBWords text others → words ≡ others }
+/// A text has one list of encoded words.
+pub fn words_are_one()
+    ensures { (text : List ℕ) (words others : List (List ℕ)) → AreWordsOf text words → AreWordsOf text others → words ≡ others }
 {}
 
 /// Units that are written, with a space between any two pieces, are read back. (In a comment a backslash quotes, and

@@ -5,7 +5,7 @@ ghost use Rattle.encoded_words.specs.Folding.{lines_of, AddsLines};
 ghost use Rattle.encoded_words.specs.Written.{WritesUnit, WriteAll, IsWritable, AreWritable};
 
 use crate::Unit;
-use crate::b_words::push_words;
+use crate::written_words::push_words;
 use mail_wire::{Memory, Octets};
 
 /// Puts a piece last, on a line of its own behind a space. After want of memory a front of this line was put.
@@ -26,7 +26,7 @@ fn push_unit(unit: &Unit, made: &mut Octets) -> Result<(), Memory>
     }
 }
 
-/// Puts the pieces of units last, each on a line of its own: each text as its B words, and each opaque unit as the word
+/// Puts the pieces of units last, each on a line of its own: each text as its encoded words, and each opaque unit as the word
 /// that it came from. After want of memory a front of these lines was put.
 pub fn write_units(units: &[Unit], made: &mut Octets) -> Result<(), Memory>
     requires { AreWritable (map value_of units.now) }

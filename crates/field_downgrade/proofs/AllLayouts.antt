@@ -4,7 +4,7 @@ use Rattle.std.proofs.lemmas.Bool.{and_parts, and_from, both_ways, cases_Bool, n
 use Rattle.std.specs.List.{list_all}
 use Rattle.mail_wire.specs.Octets.{is_ascii}
 use Rattle.encoded_words.specs.Folding.{word_pieces, made_body}
-use Rattle.encoded_words.proofs.AllChunks.{AreBWords-some}
+use Rattle.encoded_words.proofs.AllChunks.{AreWordsOf-some}
 use Rattle.utf8_fields.specs.Parts.{FieldParts, IsField, field_octets}
 use Rattle.field_downgrade.specs.declared.segments.Side.{Side}
 use Rattle.field_downgrade.specs.declared.segments.Side.TheVariants.{Edge, Encoded, Plain}
@@ -113,7 +113,7 @@ segment_lines before core copied old can =
     let left = cut_left (last_side before) (last_run before) (needs_left before core copied can) in
     let right = cut_right (first_side copied) (last_run core) (needs_right before core copied can) in
     let text : List ℕ = (left.0 ++ plain_text core) ++ right.0 in
-    let words = AreBWords-some text (text_utf8 before core copied left.0 right.0 left.1 right.1 can left.2 right.2) in
+    let words = AreWordsOf-some text (text_utf8 before core copied left.0 right.0 left.1 right.1 can left.2 right.2) in
     let mid : List ℕ = old ++ made_body (word_pieces left.1 words.0) in
     let new : List ℕ = mid ++ made_body (copied_pieces right.1 copied) in (
       new,

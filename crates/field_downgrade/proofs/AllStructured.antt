@@ -4,7 +4,7 @@ use Rattle.std.proofs.lemmas.Bool.{both_ways, cases_Bool, eqb-true, eq-eqb}
 use Rattle.mail_wire.specs.Octets.{is_white}
 use Rattle.mail_wire.specs.Folds.{unfolded}
 use Rattle.encoded_words.specs.Folding.{word_pieces}
-use Rattle.encoded_words.proofs.AllChunks.{AreBWords-some}
+use Rattle.encoded_words.proofs.AllChunks.{AreWordsOf-some}
 use Rattle.utf8_fields.specs.Parts.{FieldParts}
 use Rattle.field_downgrade.specs.declared.kind.Kind.{Kind}
 use Rattle.field_downgrade.specs.declared.kind.Kind.TheVariants.{Unstructured, Addresses, Phrases, Params, Ids, Path, Typed, Trace, Plain}
@@ -21,7 +21,7 @@ use Rattle.field_downgrade.proofs.StructuredWriting.{aside_why, kept_why}
 pub structured_some : (open_global : Bool) (octets : List ℕ) (f : FieldParts) → IsHighField octets f → IsOther f → (g : FieldParts) × HasHighLayout open_global f g
 structured_some open_global octets f high other =
     let value = trimmed is_white (unfolded f.body) in
-    let words = AreBWords-some value.0 (value_utf8 octets f value.0 high value.1) in
+    let words = AreWordsOf-some value.0 (value_utf8 octets f value.0 high value.1) in
     elim other [
       | inr begins ↦ (downgraded_of f (word_pieces 32 words.0), Encapsulated value.0 words.0 (ByHyphen begins) value.1 words.1 refl)
       | inl kind ↦ elim (decide_pieces (kind_named f.name) open_global f.name value.0 kind) [

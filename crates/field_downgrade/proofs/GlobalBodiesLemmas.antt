@@ -13,7 +13,7 @@ use Rattle.mail_wire.specs.Spans.{Stops}
 use Rattle.mail_wire.proofs.Folded.{without_ends, without_ends-append, unfolded-folded, IsFolded-append, IsFolded-plain}
 use Rattle.mail_wire.proofs.SpanLemmas.{span_once}
 use Rattle.mail_wire.proofs.AllLemmas.{pass-append}
-use Rattle.encoded_words.proofs.BWords.{ascii_literal}
+use Rattle.encoded_words.proofs.WrittenWords.{ascii_literal}
 use Rattle.utf8_fields.specs.Parts.{FieldParts, field_octets, HasParts, HasValue}
 use Rattle.utf8_fields.proofs.OneValue.{IsTrimmed-once}
 use Rattle.encoded_words.proofs.WritableUnits.{all_ascii, before_ascii, BeginsAscii}

@@ -36,10 +36,11 @@ use Rattle.field_downgrade.proofs.TypedDecide.{decide_typed}
 use Rattle.field_downgrade.proofs.TypedAgain.{TypedPieces-says, TypedPieces-some, TypedPieces-read}
 use Rattle.field_downgrade.proofs.ReceivedLemmas.{SaysReceived-once, ReceivedPieces-once, ReceivedPieces-says, ReceivedPieces-some, decide_received}
 use Rattle.field_downgrade.proofs.ReceivedAgain.{ReceivedPieces-read}
-use Rattle.param_2231.proofs.ParamsOnce.{SaysParams-once, ParamsPieces-once}
+use Rattle.param_grammar.proofs.SaidParams.{SaysParams-once}
+use Rattle.param_2231.proofs.ParamsOnce.{ParamsPieces-once}
 use Rattle.param_2231.proofs.ParamsSome.{ParamsPieces-some, ParamsPieces-says}
 use Rattle.param_2231.proofs.ParamsAgain.{ParamsPieces-read}
-use Rattle.param_2231.proofs.DecideParams.{decide_params}
+use Rattle.param_grammar.proofs.DecideParams.{decide_params}
 
 -- a value says one thing
 pub SaysAs-once : (kind : Kind) (name value : List ℕ) (m n : Meaning) → SaysAs kind name value m → SaysAs kind name value n → m ≡ n

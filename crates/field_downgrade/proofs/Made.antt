@@ -11,8 +11,8 @@ use Rattle.mail_wire.specs.Lines.{crlf}
 use Rattle.mail_wire.specs.Folds.{unfolded, IsFolded}
 use Rattle.mail_wire.proofs.Folded.{without_ends, without_ends-append, unfolded-folded, IsFolded-nil, IsFolded-append, IsFolded-fold, IsFolded-plain}
 use Rattle.mail_wire.specs.Spans.{Stops}
-use Rattle.encoded_words.specs.Pieces.{b_word, IsChunk, AreChunks, AreBWords}
-use Rattle.encoded_words.proofs.BWords.{b_word-ascii, ascii_literal}
+use Rattle.encoded_words.specs.WrittenWords.{written_word, IsChunk, AreChunks, AreWordsOf}
+use Rattle.encoded_words.proofs.WrittenWords.{written_word-ascii, ascii_literal}
 use Rattle.encoded_words.proofs.Once.{begins_nonwhite}
 use Rattle.mail_wire.proofs.SpanLemmas.{all_from_places}
 use Rattle.utf8_fields.specs.Parts.{FieldParts, HasParts, HasValue, field_octets}
@@ -33,7 +33,7 @@ use Rattle.field_downgrade.specs.Stands.{IsSameMeaning, Means, SaysAs, Units}
 use Rattle.field_downgrade.specs.private.Steps.{KeepsWords}
 use Rattle.field_downgrade.proofs.Units.{units_from, units_from-front}
 use Rattle.field_downgrade.proofs.Places.{without_ends-white}
-use Rattle.field_downgrade.proofs.Pieces.{following, shown, AreWords-front, AreWords-back, last_white, chunks_first, AreUtf8-front, AreUtf8-back, white_utf8, plain_utf8, b_word-no_end, word_keeps, Ends-places}
+use Rattle.field_downgrade.proofs.Pieces.{following, shown, AreWords-front, AreWords-back, last_white, chunks_first, AreUtf8-front, AreUtf8-back, white_utf8, plain_utf8, written_word-no_end, word_keeps, Ends-places}
 use Rattle.field_downgrade.proofs.ReadBack.{IsReadBack, IsReadBack-pieces, left_white, right_white}
 use Rattle.field_downgrade.proofs.WordLemmas.{word_no_end, gap_ascii}
 
@@ -76,27 +76,27 @@ copied_are white (w ∷ ws) h are low = (record { white = h; folded = copied_fol
 all_ascii : (xs : List ℕ) → IsAscii xs → list_all is_ascii xs ≡ true
 all_ascii xs h = all_from_places is_ascii xs (λ k l. lt-ltb (get_or xs k 0) 128 (h k))
 
-b_word_is : (chunk rest : List ℕ) (white : ℕ) → is_white white ≡ true → IsUtf8 chunk → IsChunk chunk rest → IsPiece (record { white = white; octets = b_word chunk })
-b_word_is chunk rest white h u is = record {
+written_word_is : (chunk rest : List ℕ) (white : ℕ) → is_white white ≡ true → IsUtf8 chunk → IsChunk chunk rest → IsPiece (record { white = white; octets = written_word chunk })
+written_word_is chunk rest white h u is = record {
   white = h;
-  folded = IsFolded-plain (b_word chunk) (b_word-no_end chunk rest u is);
-  ascii = all_ascii (b_word chunk) (b_word-ascii chunk);
+  folded = IsFolded-plain (written_word chunk) (written_word-no_end chunk rest u is);
+  ascii = all_ascii (written_word chunk) (written_word-ascii chunk u);
 }
 
-others_are : (chunks : List (List ℕ)) → AreChunks chunks [] → IsUtf8 (concat chunks) → ArePieces (map (λ w. record { white = 32; octets = w }) (map b_word chunks))
+others_are : (chunks : List (List ℕ)) → AreChunks chunks [] → IsUtf8 (concat chunks) → ArePieces (map (λ w. record { white = 32; octets = w }) (map written_word chunks))
 others_are [] are u = tt
-others_are (c ∷ cs) are u = let first = chunks_first c cs are u in (b_word_is c _ 32 refl first.1 are.0, others_are cs are.1 first.2)
+others_are (c ∷ cs) are u = let first = chunks_first c cs are u in (written_word_is c _ 32 refl first.1 are.0, others_are cs are.1 first.2)
 
-chunks_are : (white : ℕ) (chunks : List (List ℕ)) → is_white white ≡ true → AreChunks chunks [] → IsUtf8 (concat chunks) → ArePieces (word_pieces white (map b_word chunks))
+chunks_are : (white : ℕ) (chunks : List (List ℕ)) → is_white white ≡ true → AreChunks chunks [] → IsUtf8 (concat chunks) → ArePieces (word_pieces white (map written_word chunks))
 chunks_are white [] h are u = tt
-chunks_are white (c ∷ cs) h are u = let first = chunks_first c cs are u in (b_word_is c _ white h first.1 are.0, others_are cs are.1 first.2)
+chunks_are white (c ∷ cs) h are u = let first = chunks_first c cs are u in (written_word_is c _ white h first.1 are.0, others_are cs are.1 first.2)
 
-pub words_are : (white : ℕ) (text : List ℕ) (b_words : List (List ℕ)) → is_white white ≡ true → IsUtf8 text → AreBWords text b_words → ArePieces (word_pieces white b_words)
-words_are white text b_words h u are =
+pub words_are : (white : ℕ) (text : List ℕ) (made_words : List (List ℕ)) → is_white white ≡ true → IsUtf8 text → AreWordsOf text made_words → ArePieces (word_pieces white made_words)
+words_are white text made_words h u are =
     let whole : text ≡ concat are.chunks = are.whole ∙ append-nil (concat are.chunks) in
     rw (are.spelled) (chunks_are white are.chunks h are.are_chunks (subst IsUtf8 whole u))
 
--- the text of the B words of a segment
+-- the text of the encoded words of a segment
 pub gives_utf8 : (side : Side) (run : List ℕ) (s : Segment) (pieces : List Piece) → AreWords (segment_words s) → AreUtf8 (segment_words s) → list_all is_white run ≡ true
     → (g : GivesPieces side run s pieces) → IsUtf8 (g.left ++ (plain_text s.core ++ g.right))
 gives_utf8 side run s pieces are u white g =
@@ -113,8 +113,8 @@ gives_are side run s pieces is are u white g =
     let left = left_white side run g.left g.white white g.cuts_left in
     let right = right_white (first_side s.copied) (last_run s.core) g.right g.next (last_white s.core are_core) g.cuts_right in
     let text = gives_utf8 side run s pieces are u white g in
-    rw (g.pieces_are) (ArePieces-append (word_pieces g.white g.b_words) (copied_pieces g.next s.copied)
-    (words_are g.white (g.left ++ (plain_text s.core ++ g.right)) g.b_words left.1 text g.are_b_words) (copied_are g.next s.copied right.1 (AreWords-back s.core s.copied are) is.copied))
+    rw (g.pieces_are) (ArePieces-append (word_pieces g.white g.made_words) (copied_pieces g.next s.copied)
+    (words_are g.white (g.left ++ (plain_text s.core ++ g.right)) g.made_words left.1 text g.are_made_words) (copied_are g.next s.copied right.1 (AreWords-back s.core s.copied are) is.copied))
 
 all_are : (ss : List Segment) (side : Side) (run : List ℕ) (pieces : List Piece) → AreSegments ss → AreWords (flat_map segment_words ss) → AreUtf8 (flat_map segment_words ss)
     → list_all is_white run ≡ true → GiveAll side run ss pieces → ArePieces pieces

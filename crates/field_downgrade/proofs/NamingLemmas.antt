@@ -25,8 +25,8 @@ use Rattle.utf8_fields.proofs.TrimLemmas.{trimmed}
 use Rattle.field_downgrade.proofs.OneMeaning.{HasValue-once}
 use Rattle.field_downgrade.proofs.Rewriting.{IsServed-kept}
 use Rattle.field_downgrade.proofs.StructuredFields.{structured_no_hyphen}
-use Rattle.param_2231.proofs.ParamsOnce.{SaysParams-once}
-use Rattle.param_2231.proofs.DecideParams.{decide_params}
+use Rattle.param_grammar.proofs.SaidParams.{SaysParams-once}
+use Rattle.param_grammar.proofs.DecideParams.{decide_params}
 use Rattle.param_2231.proofs.GlobalLemmas.{decide_global, global_read}
 use Rattle.field_downgrade.proofs.GlobalBodiesPlaces.{ChangesGlobal-some}
 use Rattle.field_downgrade.proofs.GlobalBodiesLemmas.{ChangesGlobal-value, ChangesGlobal-all, ChangesGlobal-parts}

@@ -10,8 +10,8 @@ use Rattle.mail_wire.specs.Lines.{crlf}
 use Rattle.mail_wire.specs.Message.{IsNul}
 use Rattle.mail_wire.proofs.AllLemmas.{pass-append, pass-weaker, pass-front, pass-back}
 use Rattle.encoded_words.specs.Folding.{Piece, made_body, word_pieces}
-use Rattle.encoded_words.specs.Pieces.{AreBWords, AreChunks, b_word}
-use Rattle.encoded_words.proofs.BWords.{b_word-all}
+use Rattle.encoded_words.specs.WrittenWords.{AreWordsOf, AreChunks, is_safe_octet, written_word}
+use Rattle.encoded_words.proofs.WrittenWords.{written_word-all}
 use Rattle.field_tokens.specs.Comments.{IsLinePiece}
 use Rattle.field_tokens.specs.TokenOctets.{is_line_octet}
 use Rattle.utf8_fields.specs.Parts.{FieldParts, HasParts, field_octets}
@@ -77,19 +77,22 @@ pub LackNul-spaced : (pieces : List (List ℕ)) → AllByRecursion IsLinePiece p
 LackNul-spaced [] lines = tt
 LackNul-spaced (p ∷ ps) lines = (pass-weaker is_line_octet not_nul line_not_nul p lines.0.line, LackNul-spaced ps lines.1)
 
--- those of B words
-b_word_lacks : (chunk : List ℕ) → IsUtf8 chunk → list_all not_nul (b_word chunk) ≡ true
-b_word_lacks chunk u = b_word-all not_nul (record { symbols = refl; marks = refl }) chunk u
+-- those of encoded words
+safe_not_nul : (x : ℕ) → is_safe_octet x ≡ true → not_nul x ≡ true
+safe_not_nul x h = grind (arith, nat_tests)
 
-others_lack : (chunks : List (List ℕ)) → AreChunks chunks [] → IsUtf8 (concat chunks) → LackNul (map (λ w. record { white = 32; octets = w }) (map b_word chunks))
+written_word_lacks : (chunk : List ℕ) → IsUtf8 chunk → list_all not_nul (written_word chunk) ≡ true
+written_word_lacks chunk u = written_word-all not_nul (record { safe = safe_not_nul; marks = refl }) chunk u
+
+others_lack : (chunks : List (List ℕ)) → AreChunks chunks [] → IsUtf8 (concat chunks) → LackNul (map (λ w. record { white = 32; octets = w }) (map written_word chunks))
 others_lack [] are u = tt
-others_lack (c ∷ cs) are u = let first = chunks_first c cs are u in (b_word_lacks c first.1, others_lack cs are.1 first.2)
+others_lack (c ∷ cs) are u = let first = chunks_first c cs are u in (written_word_lacks c first.1, others_lack cs are.1 first.2)
 
-chunks_lack : (white : ℕ) (chunks : List (List ℕ)) → AreChunks chunks [] → IsUtf8 (concat chunks) → LackNul (word_pieces white (map b_word chunks))
+chunks_lack : (white : ℕ) (chunks : List (List ℕ)) → AreChunks chunks [] → IsUtf8 (concat chunks) → LackNul (word_pieces white (map written_word chunks))
 chunks_lack white [] are u = tt
-chunks_lack white (c ∷ cs) are u = let first = chunks_first c cs are u in (b_word_lacks c first.1, others_lack cs are.1 first.2)
+chunks_lack white (c ∷ cs) are u = let first = chunks_first c cs are u in (written_word_lacks c first.1, others_lack cs are.1 first.2)
 
-pub LackNul-words : (white : ℕ) (text : List ℕ) (words : List (List ℕ)) → IsUtf8 text → AreBWords text words → LackNul (word_pieces white words)
+pub LackNul-words : (white : ℕ) (text : List ℕ) (words : List (List ℕ)) → IsUtf8 text → AreWordsOf text words → LackNul (word_pieces white words)
 LackNul-words white text words u are =
     let whole : text ≡ concat are.chunks = are.whole ∙ append-nil (concat are.chunks) in
     rw (are.spelled) (chunks_lack white are.chunks are.are_chunks (subst IsUtf8 whole u))
@@ -122,7 +125,7 @@ gives_lack : (side : Side) (run : List ℕ) (s : Segment) (pieces : List Piece) 
     → list_all word_lacks (segment_words s) ≡ true → GivesPieces side run s pieces → LackNul pieces
 gives_lack side run s pieces are u white h g =
     let text = gives_utf8 side run s pieces are u white g in
-    rw (g.pieces_are) (LackNul-append (word_pieces g.white g.b_words) (copied_pieces g.next s.copied) (LackNul-words g.white _ g.b_words text g.are_b_words)
+    rw (g.pieces_are) (LackNul-append (word_pieces g.white g.made_words) (copied_pieces g.next s.copied) (LackNul-words g.white _ g.made_words text g.are_made_words)
     (copied_pieces_lack g.next s.copied (pass-back word_lacks s.core s.copied h)))
 
 all_lack : (ss : List Segment) (side : Side) (run : List ℕ) (pieces : List Piece) → AreWords (flat_map segment_words ss) → AreUtf8 (flat_map segment_words ss) → list_all is_white run ≡ true

@@ -7,8 +7,8 @@ use Rattle.mail_wire.specs.Octets.{is_ascii}
 use Rattle.mail_wire.specs.Folds.{unfolded}
 use Rattle.mail_wire.proofs.Unfolded.{unfolded-nil}
 use Rattle.mail_wire.specs.Spans.{Stops}
-use Rattle.encoded_words.specs.Pieces.{AreBWords}
-use Rattle.encoded_words.proofs.Chunks.{AreBWords-once}
+use Rattle.encoded_words.specs.WrittenWords.{AreWordsOf}
+use Rattle.encoded_words.proofs.Chunks.{AreWordsOf-once}
 use Rattle.mail_wire.proofs.SpanLemmas.{span_once}
 use Rattle.field_downgrade.specs.declared.segments.Side.{Side}
 use Rattle.field_downgrade.specs.declared.segments.Side.TheVariants.{Edge, Encoded, Plain as PlainSide}
@@ -215,7 +215,7 @@ gives_once side run s ps qs p q =
     let lefts = left_once side run p.left q.left p.white q.white p.cuts_left q.cuts_left in
     let rights = right_once (first_side s.copied) (last_run s.core) p.right q.right p.next q.next p.cuts_right q.cuts_right in
     let text : p.left ++ (plain_text s.core ++ p.right) ≡ q.left ++ (plain_text s.core ++ q.right) = rw (lefts.0, rights.0) refl in
-    let words : p.b_words ≡ q.b_words = AreBWords-once (q.left ++ (plain_text s.core ++ q.right)) p.b_words q.b_words (subst (λ t. AreBWords t p.b_words) text p.are_b_words) q.are_b_words in
+    let words : p.made_words ≡ q.made_words = AreWordsOf-once (q.left ++ (plain_text s.core ++ q.right)) p.made_words q.made_words (subst (λ t. AreWordsOf t p.made_words) text p.are_made_words) q.are_made_words in
     p.pieces_are ∙ rw (words, lefts.1, rights.1) refl ∙ sym q.pieces_are
 
 all_once : (ss : List Segment) (side : Side) (run : List ℕ) (ps qs : List Piece) → GiveAll side run ss ps → GiveAll side run ss qs → ps ≡ qs
@@ -256,9 +256,9 @@ pieces_mean open_global f value pieces has values malformed =
 words_mean : (f : FieldParts) (value : List ℕ) → kind_named f.name ≡ Unstructured → HasValue f.body value → IsMalformed f → ⊥
 words_mean f value kind has malformed = let said = units_mean f value kind has in malformed said.0 said.1
 
-one_value : (f : FieldParts) (value other : List ℕ) (words others : List (List ℕ)) → HasValue f.body value → HasValue f.body other → AreBWords value words → AreBWords other others → words ≡ others
+one_value : (f : FieldParts) (value other : List ℕ) (words others : List (List ℕ)) → HasValue f.body value → HasValue f.body other → AreWordsOf value words → AreWordsOf other others → words ≡ others
 one_value f value other words others has has' are are' =
-    AreBWords-once other words others (subst (λ v. AreBWords v words) (HasValue-once f.body value other has has') are) are'
+    AreWordsOf-once other words others (subst (λ v. AreWordsOf v words) (HasValue-once f.body value other has has') are) are'
 
 -- a meaning of a field is what its value says
 says_of : (f : FieldParts) (value : List ℕ) (meaning : Meaning) → HasValue f.body value → Means f meaning → SaysAs (kind_named f.name) f.name value meaning

@@ -10,16 +10,15 @@ use Rattle.mail_wire.specs.Octets.{is_white, is_nonwhite, is_line_end}
 use Rattle.mail_wire.proofs.Folded.{without_ends, without_ends-append, unfolded-folded}
 use Rattle.encoded_words.specs.Words.{Text, is_token_octet, is_text_octet}
 use Rattle.encoded_words.specs.Units.{Place, IsPlace, ArePlaces, Divides as PlaceDivides, place_octets}
-use Rattle.encoded_words.specs.Pieces.{b_word, IsChunk, AreChunks}
-use Rattle.encoded_words.proofs.BWords.{b_word-says, b_word-nonwhite, b_word_some, chunk_utf8}
-use Rattle.encoded_words.proofs.Octets.{bytes-IsUtf8}
+use Rattle.encoded_words.specs.WrittenWords.{written_word, IsChunk, AreChunks}
+use Rattle.encoded_words.proofs.WrittenWords.{written_word-says, written_word-nonwhite, written_word_some, chunk_utf8}
 use Rattle.encoded_words.proofs.EncodedOctets.{encoded_all}
 use Rattle.std.specs.Char.{to_ascii_uppercase}
 use Rattle.mail_wire.specs.Spans.{StopsAfter}
 use Rattle.mail_wire.proofs.OctetLemmas.{white_below}
 use Rattle.field_downgrade.specs.Words.{AreUtf8, Word, AreWords, DividesWords, run_of, last_run, plain_text, copied_octets, is_word_octet}
 use Rattle.encoded_words.specs.Folding.{Piece, word_pieces}
-use Rattle.field_downgrade.proofs.Units.{b_places}
+use Rattle.field_downgrade.proofs.Units.{encoded_places}
 use Rattle.field_downgrade.proofs.Places.{places, place_of, Joint, joint_white, run-white, ArePlaces-cons}
 
 -- what pieces show without their folds: each with the white octet before it, and without that of the first
@@ -94,10 +93,10 @@ letter_no_end : (x : ℕ) → (to_ascii_uppercase x ≡ 66) ⊎ (to_ascii_upperc
 letter_no_end x (inl h) = grind (arith, nat_tests)
 letter_no_end x (inr h) = grind (arith, nat_tests)
 
-pub b_word-no_end : (chunk rest : List ℕ) → IsUtf8 chunk → IsChunk chunk rest → list_all (λ x. not (is_line_end x)) (b_word chunk) ≡ true
-b_word-no_end chunk rest u is =
-    encoded_all (λ x. not (is_line_end x)) (record { name = name_no_end; text = text_no_end; letter = letter_no_end; marks = refl }) (b_word chunk) (Text chunk)
-    (b_word-says chunk u is.some is.fits)
+pub written_word-no_end : (chunk rest : List ℕ) → IsUtf8 chunk → IsChunk chunk rest → list_all (λ x. not (is_line_end x)) (written_word chunk) ≡ true
+written_word-no_end chunk rest u is =
+    encoded_all (λ x. not (is_line_end x)) (record { name = name_no_end; text = text_no_end; letter = letter_no_end; marks = refl }) (written_word chunk) (Text chunk)
+    (written_word-says chunk u is.some is.fits)
 
 pub keeps_all : (xs : List ℕ) → list_all (λ x. not (is_line_end x)) xs ≡ true → without_ends xs ≡ xs
 keeps_all [] h = refl
@@ -105,8 +104,8 @@ keeps_all (x ∷ xs) h =
     let parts = and_parts (not (is_line_end x)) (list_all (λ x. not (is_line_end x)) xs) h in
     rw (parts.0, keeps_all xs parts.1) refl
 
-b_word_keeps : (chunk rest : List ℕ) → IsUtf8 chunk → IsChunk chunk rest → without_ends (b_word chunk) ≡ b_word chunk
-b_word_keeps chunk rest u is = keeps_all (b_word chunk) (b_word-no_end chunk rest u is)
+written_word_keeps : (chunk rest : List ℕ) → IsUtf8 chunk → IsChunk chunk rest → without_ends (written_word chunk) ≡ written_word chunk
+written_word_keeps chunk rest u is = keeps_all (written_word chunk) (written_word-no_end chunk rest u is)
 
 pub chunks_first : (c : List ℕ) (cs : List (List ℕ)) → AreChunks (c ∷ cs) [] → IsUtf8 (concat (c ∷ cs)) → IsChunk c (concat cs) × IsUtf8 c × IsUtf8 (concat cs)
 chunks_first c cs are u =
@@ -114,43 +113,43 @@ chunks_first c cs are u =
     let both = chunk_utf8 c (concat cs) u is in
     (is, both.0, both.1)
 
-b_place_is : (c rest run : List ℕ) → IsChunk c rest → IsUtf8 c → list_all is_white run ≡ true → IsPlace (record { word = b_word c; says = Some (Text c); run = run })
-b_place_is c rest run is u white = record {
-  is_word = b_word_some c;
-  nonwhite = b_word-nonwhite c (bytes-IsUtf8 c u);
+encoded_place_is : (c rest run : List ℕ) → IsChunk c rest → IsUtf8 c → list_all is_white run ≡ true → IsPlace (record { word = written_word c; says = Some (Text c); run = run })
+encoded_place_is c rest run is u white = record {
+  is_word = written_word_some c;
+  nonwhite = written_word-nonwhite c u;
   white = white;
-  says = b_word-says c u is.some is.fits;
+  says = written_word-says c u is.some is.fits;
 }
 
-pub ArePlaces-b_places : (chunks : List (List ℕ)) (last : List ℕ) (rest : List Place) → AreChunks chunks [] → IsUtf8 (concat chunks) → Joint last rest → ArePlaces rest
-    → ArePlaces (b_places chunks last rest)
-ArePlaces-b_places [] last rest are u joint all = all
-ArePlaces-b_places (c ∷ []) last rest are u joint all =
+pub ArePlaces-encoded_places : (chunks : List (List ℕ)) (last : List ℕ) (rest : List Place) → AreChunks chunks [] → IsUtf8 (concat chunks) → Joint last rest → ArePlaces rest
+    → ArePlaces (encoded_places chunks last rest)
+ArePlaces-encoded_places [] last rest are u joint all = all
+ArePlaces-encoded_places (c ∷ []) last rest are u joint all =
     let first = chunks_first c [] are u in
-    ArePlaces-cons (record { word = b_word c; says = Some (Text c); run = last }) rest (b_place_is c (concat []) last first.0 first.1 (joint_white last rest joint)) joint all
-ArePlaces-b_places (c ∷ d ∷ cs) last rest are u joint all =
+    ArePlaces-cons (record { word = written_word c; says = Some (Text c); run = last }) rest (encoded_place_is c (concat []) last first.0 first.1 (joint_white last rest joint)) joint all
+ArePlaces-encoded_places (c ∷ d ∷ cs) last rest are u joint all =
     let first = chunks_first c (d ∷ cs) are u in
-    let more = ArePlaces-b_places (d ∷ cs) last rest are.1 first.2 joint all in
-    (b_place_is c (concat (d ∷ cs)) (32 ∷ []) first.0 first.1 refl, by cs, more)
+    let more = ArePlaces-encoded_places (d ∷ cs) last rest are.1 first.2 joint all in
+    (encoded_place_is c (concat (d ∷ cs)) (32 ∷ []) first.0 first.1 refl, by cs, more)
   where
-    by : (cs : List (List ℕ)) → PlaceDivides (32 ∷ []) (b_places (d ∷ cs) last rest)
+    by : (cs : List (List ℕ)) → PlaceDivides (32 ∷ []) (encoded_places (d ∷ cs) last rest)
     by [] = omega arith
     by (e ∷ cs) = omega arith
 
--- the pieces of B words show them
-pub octets-b_places : (white : ℕ) (c : List ℕ) (cs : List (List ℕ)) (last : List ℕ) (rest : List Place) → AreChunks (c ∷ cs) [] → IsUtf8 (concat (c ∷ cs))
-    → flat_map place_octets (b_places (c ∷ cs) last rest) ≡ shown (word_pieces white (map b_word (c ∷ cs))) ++ (last ++ flat_map place_octets rest)
-octets-b_places white c [] last rest are u =
+-- the pieces of encoded words show them
+pub octets-encoded_places : (white : ℕ) (c : List ℕ) (cs : List (List ℕ)) (last : List ℕ) (rest : List Place) → AreChunks (c ∷ cs) [] → IsUtf8 (concat (c ∷ cs))
+    → flat_map place_octets (encoded_places (c ∷ cs) last rest) ≡ shown (word_pieces white (map written_word (c ∷ cs))) ++ (last ++ flat_map place_octets rest)
+octets-encoded_places white c [] last rest are u =
     let first = chunks_first c [] are u in
-    rw (b_word_keeps c _ first.1 are.0, append-nil) (append_assoc (b_word c) last (flat_map place_octets rest))
-octets-b_places white c (d ∷ cs) last rest are u =
+    rw (written_word_keeps c _ first.1 are.0, append-nil) (append_assoc (written_word c) last (flat_map place_octets rest))
+octets-encoded_places white c (d ∷ cs) last rest are u =
     let first = chunks_first c (d ∷ cs) are u in
-    let more = octets-b_places 32 d cs last rest are.1 first.2 in
-    let others : List Piece = map (λ w. record { white = 32; octets = w }) (map b_word cs) in
-    let text : List ℕ = without_ends (b_word d) ++ following others in
+    let more = octets-encoded_places 32 d cs last rest are.1 first.2 in
+    let others : List Piece = map (λ w. record { white = 32; octets = w }) (map written_word cs) in
+    let text : List ℕ = without_ends (written_word d) ++ following others in
     let after : List ℕ = last ++ flat_map place_octets rest in
-    ap (λ t. (b_word c ++ 32 ∷ []) ++ t) more ∙ append_assoc (b_word c) (32 ∷ []) (text ++ after) ∙ sym (append_assoc (b_word c) (32 ∷ text) after)
-    ∙ ap (λ t. (t ++ 32 ∷ text) ++ after) (sym (b_word_keeps c _ first.1 are.0))
+    ap (λ t. (written_word c ++ 32 ∷ []) ++ t) more ∙ append_assoc (written_word c) (32 ∷ []) (text ++ after) ∙ sym (append_assoc (written_word c) (32 ∷ text) after)
+    ∙ ap (λ t. (t ++ 32 ∷ text) ++ after) (sym (written_word_keeps c _ first.1 are.0))
 
 -- UTF-8 of a core's text
 pub AreUtf8-front : (xs ys : List Word) → AreUtf8 (xs ++ ys) → AreUtf8 xs
@@ -222,7 +221,7 @@ bare-places w [] are last rest joint bare = bare_after last rest joint (place_of
 bare-places w (v ∷ []) are last rest joint bare = bare-places v [] are.2 last rest joint bare
 bare-places w (v ∷ u ∷ ws) are last rest joint bare = bare-places v (u ∷ ws) are.2 last rest joint bare
 
-pub bare-b_places : (c : List ℕ) (cs : List (List ℕ)) (last : List ℕ) (rest : List Place) → Joint last rest → IsBare rest → IsBare (b_places (c ∷ cs) last rest)
-bare-b_places c [] last rest joint bare = bare_after last rest joint (record { word = b_word c; says = Some (Text c); run = last }) refl bare
-bare-b_places c (d ∷ []) last rest joint bare = bare-b_places d [] last rest joint bare
-bare-b_places c (d ∷ e ∷ cs) last rest joint bare = bare-b_places d (e ∷ cs) last rest joint bare
+pub bare-encoded_places : (c : List ℕ) (cs : List (List ℕ)) (last : List ℕ) (rest : List Place) → Joint last rest → IsBare rest → IsBare (encoded_places (c ∷ cs) last rest)
+bare-encoded_places c [] last rest joint bare = bare_after last rest joint (record { word = written_word c; says = Some (Text c); run = last }) refl bare
+bare-encoded_places c (d ∷ []) last rest joint bare = bare-encoded_places d [] last rest joint bare
+bare-encoded_places c (d ∷ e ∷ cs) last rest joint bare = bare-encoded_places d (e ∷ cs) last rest joint bare

@@ -9,16 +9,16 @@ use Rattle.std.proofs.lemmas.Str.{IsUtf8-append}
 use Rattle.mail_wire.specs.Octets.{is_white}
 use Rattle.encoded_words.specs.Words.{UnitValue}
 use Rattle.encoded_words.specs.Units.{Place, ArePlaces, place_octets, with_text}
-use Rattle.encoded_words.specs.Pieces.{b_word, AreChunks, AreBWords}
+use Rattle.encoded_words.specs.WrittenWords.{written_word, AreChunks, AreWordsOf}
 use Rattle.encoded_words.proofs.WithText.{with_text-append}
 use Rattle.field_downgrade.specs.Words.{AreUtf8, Word, AreWords, run_of, last_run, plain_text}
 use Rattle.field_downgrade.specs.Layout.{side_of, first_side, last_side, CutsLeft, CutsRight, Segment, segment_words, Parts, AreSegments, copied_pieces, GivesPieces, GiveAll, HavePieces, begins_high}
 use Rattle.encoded_words.specs.Folding.{Piece, word_pieces}
 use Rattle.field_downgrade.specs.declared.segments.Side.{Side}
 use Rattle.field_downgrade.specs.declared.segments.Side.TheVariants.{Edge, Encoded, Plain}
-use Rattle.field_downgrade.proofs.Units.{units_from, b_places, core_same}
+use Rattle.field_downgrade.proofs.Units.{units_from, encoded_places, core_same}
 use Rattle.field_downgrade.proofs.Places.{places, octets-places, Joint, ArePlaces-places, units_from-plain, was_of, copied_same, says_of-is_some}
-use Rattle.field_downgrade.proofs.Pieces.{following, shown, shown-append, AreWords-front, AreWords-back, last_some, last_white, plain_text-append, copied_text, ArePlaces-b_places, octets-b_places, AreUtf8-front, AreUtf8-back, white_utf8, plain_utf8, IsBare, bare-places, bare-b_places}
+use Rattle.field_downgrade.proofs.Pieces.{following, shown, shown-append, AreWords-front, AreWords-back, last_some, last_white, plain_text-append, copied_text, ArePlaces-encoded_places, octets-encoded_places, AreUtf8-front, AreUtf8-back, white_utf8, plain_utf8, IsBare, bare-places, bare-encoded_places}
 
 -- what stands behind a word with this run, where these words follow
 abbrev pub tail_text : List ℕ → List Word → List ℕ
@@ -88,9 +88,9 @@ joint_places : (run : List ℕ) → IsRun run → (w : Word) (ws : List Word) (a
 joint_places run is w [] are last rest = (is.some, is.white)
 joint_places run is w (v ∷ ws) are last rest = (is.some, is.white)
 
-joint_b_places : (run : List ℕ) → IsRun run → (c : List ℕ) (cs : List (List ℕ)) (last : List ℕ) (rest : List Place) → Joint run (b_places (c ∷ cs) last rest)
-joint_b_places run is c [] last rest = (is.some, is.white)
-joint_b_places run is c (d ∷ cs) last rest = (is.some, is.white)
+joint_encoded_places : (run : List ℕ) → IsRun run → (c : List ℕ) (cs : List (List ℕ)) (last : List ℕ) (rest : List Place) → Joint run (encoded_places (c ∷ cs) last rest)
+joint_encoded_places run is c [] last rest = (is.some, is.white)
+joint_encoded_places run is c (d ∷ cs) last rest = (is.some, is.white)
 
 -- copied words behind a run
 abbrev follow_copied : (run : List ℕ) (next : ℕ) (d : Word) (ds : List Word) (are : AreWords (d ∷ ds)) (ws : List Word) (more : List Piece) → IsRun run → is_white next ≡ true
@@ -144,7 +144,7 @@ core_chunks : (was : Bool) (run lead left right : List ℕ) (white : ℕ) (c : W
     → cond was [] lead ++ left ≡ run
     → AreChunks chunks [] → left ++ (plain_text (c ∷ cs) ++ right) ≡ concat chunks
     → (b : Follow (last_run (c ∷ cs)) ws pieces) → units_from false b.real b.orig ≡ with_text right (units_from true b.lead b.made)
-    → Same was run lead white ((c ∷ cs) ++ ws) (word_pieces white (map b_word chunks) ++ pieces)
+    → Same was run lead white ((c ∷ cs) ++ ws) (word_pieces white (map written_word chunks) ++ pieces)
 core_chunks was run lead left right white c cs are ws pieces [] u plain wl wr run_is are_chunks whole b after =
     let some = are.0.some in
     absurd (omega (arith, ap length whole, length-append left (plain_text (c ∷ cs) ++ right), length-append (plain_text (c ∷ cs)) right, first_some c cs some))
@@ -157,28 +157,28 @@ core_chunks was run lead left right white c cs are ws pieces (k ∷ ks) u plain 
     let orig : List Place = places (c ∷ cs) are b.real b.orig in
     record {
       orig = orig;
-      made = b_places (k ∷ ks) b.lead b.made;
+      made = encoded_places (k ∷ ks) b.lead b.made;
       begins = refl;
       joint = λ r is. joint_places r is c cs are b.real b.orig;
-      made_joint = λ r is. joint_b_places r is k ks b.lead b.made;
+      made_joint = λ r is. joint_encoded_places r is k ks b.lead b.made;
       are_orig = ArePlaces-places (c ∷ cs) are b.real b.orig b.joint b.are_orig;
-      are_made = ArePlaces-b_places (k ∷ ks) b.lead b.made are_chunks text_utf8 b.made_joint b.are_made;
+      are_made = ArePlaces-encoded_places (k ∷ ks) b.lead b.made are_chunks text_utf8 b.made_joint b.are_made;
       bare_orig = bare-places c cs are b.real b.orig b.joint b.bare_orig;
-      bare_made = bare-b_places k ks b.lead b.made b.made_joint b.bare_made;
+      bare_made = bare-encoded_places k ks b.lead b.made b.made_joint b.bare_made;
       orig_octets = octets-places c cs are b.real b.orig ∙ ap (λ t. plain_text (c ∷ cs) ++ t) b.orig_octets ∙ sym (plain_text-tail c cs ws);
-      made_octets = octets-b_places white k ks b.lead b.made are_chunks text_utf8 ∙ ap (λ t. shown (word_pieces white (map b_word (k ∷ ks))) ++ t) b.made_octets
-          ∙ sym (shown-append (record { white = white; octets = b_word k }) (map (λ w. record { white = 32; octets = w }) (map b_word ks)) pieces);
+      made_octets = octets-encoded_places white k ks b.lead b.made are_chunks text_utf8 ∙ ap (λ t. shown (word_pieces white (map written_word (k ∷ ks))) ++ t) b.made_octets
+          ∙ sym (shown-append (record { white = white; octets = written_word k }) (map (λ w. record { white = 32; octets = w }) (map written_word ks)) pieces);
       units = core_same was run lead left (plain_text (c ∷ cs)) b.real right b.lead orig b.orig b.made k ks run_is (sym whole)
           (units_from-plain was run c cs are b.real b.orig plain) after;
     }
 
-core_step : (was : Bool) (run lead left right : List ℕ) (white : ℕ) (c : Word) (cs : List Word) (are : AreWords (c ∷ cs)) (ws : List Word) (pieces : List Piece) (b_words : List (List ℕ)) → AreUtf8 (c ∷ cs)
+core_step : (was : Bool) (run lead left right : List ℕ) (white : ℕ) (c : Word) (cs : List Word) (are : AreWords (c ∷ cs)) (ws : List Word) (pieces : List Piece) (made_words : List (List ℕ)) → AreUtf8 (c ∷ cs)
     → list_all (λ (w : Word). not w.is_encoded) (c ∷ cs) ≡ true → list_all is_white left ≡ true → list_all is_white right ≡ true
     → cond was [] lead ++ left ≡ run
-    → AreBWords (left ++ (plain_text (c ∷ cs) ++ right)) b_words
+    → AreWordsOf (left ++ (plain_text (c ∷ cs) ++ right)) made_words
     → (b : Follow (last_run (c ∷ cs)) ws pieces) → units_from false b.real b.orig ≡ with_text right (units_from true b.lead b.made)
-    → Same was run lead white ((c ∷ cs) ++ ws) (word_pieces white b_words ++ pieces)
-core_step was run lead left right white c cs are ws pieces b_words u plain wl wr run_is are_b b after =
+    → Same was run lead white ((c ∷ cs) ++ ws) (word_pieces white made_words ++ pieces)
+core_step was run lead left right white c cs are ws pieces made_words u plain wl wr run_is are_b b after =
     let whole = are_b.whole ∙ append-nil (concat are_b.chunks) in
     let same = core_chunks was run lead left right white c cs are ws pieces are_b.chunks u plain wl wr run_is are_b.are_chunks whole b after in
     subst (λ ks. Same was run lead white ((c ∷ cs) ++ ws) (word_pieces white ks ++ pieces)) (sym are_b.spelled) same
@@ -217,26 +217,26 @@ last_not_edge w [] = by w.is_encoded
 last_not_edge w (v ∷ ws) = last_not_edge v ws
 
 -- A segment, where what follows it is done.
-segment_same : (was : Bool) (run lead left right : List ℕ) (white next : ℕ) (core copied : List Word) (ss : List Segment) (first more : List Piece) (b_words : List (List ℕ))
+segment_same : (was : Bool) (run lead left right : List ℕ) (white next : ℕ) (core copied : List Word) (ss : List Segment) (first more : List Piece) (made_words : List (List ℕ))
     → begins_high core ≡ true → list_all (λ (w : Word). not w.is_encoded) core ≡ true → Parts copied ss
     → AreWords ((core ++ copied) ++ flat_map segment_words ss) → AreUtf8 ((core ++ copied) ++ flat_map segment_words ss)
     → list_all is_white left ≡ true → cond was [] lead ++ left ≡ run
-    → CutsRight (first_side copied) (last_run core) right next → AreBWords (left ++ (plain_text core ++ right)) b_words
-    → first ≡ word_pieces white b_words ++ copied_pieces next copied
+    → CutsRight (first_side copied) (last_run core) right next → AreWordsOf (left ++ (plain_text core ++ right)) made_words
+    → first ≡ word_pieces white made_words ++ copied_pieces next copied
     → GiveAll (last_side copied) (last_run copied) ss more
     → (b : Follow (last_run copied) (flat_map segment_words ss) more) → units_from (was_of (last_side copied)) b.real b.orig ≡ units_from (was_of (last_side copied)) b.lead b.made
     → Same was run lead white ((core ++ copied) ++ flat_map segment_words ss) (first ++ more)
-segment_same was run lead left right white next [] copied ss first more b_words begins plain parts are u wl run_is cuts are_b first_is give b same = cc begins
-segment_same was run lead left right white next (c ∷ cs) [] [] first more b_words begins plain parts are u wl run_is cuts are_b first_is give b same =
+segment_same was run lead left right white next [] copied ss first more made_words begins plain parts are u wl run_is cuts are_b first_is give b same = cc begins
+segment_same was run lead left right white next (c ∷ cs) [] [] first more made_words begins plain parts are u wl run_is cuts are_b first_is give b same =
     let are_core = AreWords-front (c ∷ cs) [] (AreWords-front ((c ∷ cs) ++ []) [] are) in
     let u_core = AreUtf8-front (c ∷ cs) [] (AreUtf8-front ((c ∷ cs) ++ []) [] u) in
     let none : right ≡ [] = cuts.0 in
-    let done = core_step was run lead left right white c cs are_core [] [] b_words u_core plain wl (rw none refl) run_is are_b (follow_none (last_run (c ∷ cs))) (rw none refl) in
+    let done = core_step was run lead left right white c cs are_core [] [] made_words u_core plain wl (rw none refl) run_is are_b (follow_none (last_run (c ∷ cs))) (rw none refl) in
     let words_is : (c ∷ cs) ++ [] ≡ ((c ∷ cs) ++ []) ++ [] = sym (append-nil ((c ∷ cs) ++ [])) in
-    let pieces_is : word_pieces white b_words ++ [] ≡ first ++ more = rw (first_is, give) (sym (append-nil (word_pieces white b_words ++ []))) in
+    let pieces_is : word_pieces white made_words ++ [] ≡ first ++ more = rw (first_is, give) (sym (append-nil (word_pieces white made_words ++ []))) in
     subst (λ ws. Same was run lead white ws (first ++ more)) words_is (subst (λ ps. Same was run lead white ((c ∷ cs) ++ []) ps) pieces_is done)
-segment_same was run lead left right white next (c ∷ cs) [] (t ∷ ss) first more b_words begins plain parts are u wl run_is cuts are_b first_is give b same = cc parts
-segment_same was run lead left right white next (c ∷ cs) (d ∷ ds) ss first more b_words begins plain parts are u wl run_is cuts are_b first_is give b same =
+segment_same was run lead left right white next (c ∷ cs) [] (t ∷ ss) first more made_words begins plain parts are u wl run_is cuts are_b first_is give b same = cc parts
+segment_same was run lead left right white next (c ∷ cs) (d ∷ ds) ss first more made_words begins plain parts are u wl run_is cuts are_b first_is give b same =
     let ws : List Word = flat_map segment_words ss in
     let are_both = AreWords-front ((c ∷ cs) ++ (d ∷ ds)) ws are in
     let are_core = AreWords-front (c ∷ cs) (d ∷ ds) are_both in
@@ -246,9 +246,9 @@ segment_same was run lead left right white next (c ∷ cs) (d ∷ ds) ss first m
     let whites = right_white (side_of d) (last_run (c ∷ cs)) right next is_run.white cuts in
     let after_core = follow_copied (last_run (c ∷ cs)) next d ds are_copied ws more is_run whites.1 b in
     let units = follow_core_units (last_run (c ∷ cs)) right next d ds are_copied ws more cuts b same in
-    let done = core_step was run lead left right white c cs are_core ((d ∷ ds) ++ ws) (copied_pieces next (d ∷ ds) ++ more) b_words u_core plain wl whites.0 run_is are_b after_core units in
+    let done = core_step was run lead left right white c cs are_core ((d ∷ ds) ++ ws) (copied_pieces next (d ∷ ds) ++ more) made_words u_core plain wl whites.0 run_is are_b after_core units in
     let words_is : (c ∷ cs) ++ ((d ∷ ds) ++ ws) ≡ ((c ∷ cs) ++ (d ∷ ds)) ++ ws = sym (append_assoc (c ∷ cs) (d ∷ ds) ws) in
-    let pieces_is : word_pieces white b_words ++ (copied_pieces next (d ∷ ds) ++ more) ≡ first ++ more = rw first_is (sym (append_assoc (word_pieces white b_words) (copied_pieces next (d ∷ ds)) more)) in
+    let pieces_is : word_pieces white made_words ++ (copied_pieces next (d ∷ ds) ++ more) ≡ first ++ more = rw first_is (sym (append_assoc (word_pieces white made_words) (copied_pieces next (d ∷ ds)) more)) in
     subst (λ ws. Same was run lead white ws (first ++ more)) words_is (subst (λ ps. Same was run lead white ((c ∷ cs) ++ ((d ∷ ds) ++ ws)) ps) pieces_is done)
 
 -- what segments need in front of them
@@ -294,8 +294,8 @@ segments_follow (s ∷ ss) side run pieces segs are u ready give =
     let after = segments_follow ss (last_side s.copied) (last_run s.copied) more segs.2 (AreWords-back (segment_words s) ws are) (AreUtf8-back (segment_words s) ws u)
     (ready_next s.core s.copied ss segs.1 segs.2 are) give.4 in
     let whites = left_white side run g.left g.white ready.0.white g.cuts_left in
-    let same = segment_same (was_of side) run (g.white ∷ []) g.left g.right g.white g.next s.core s.copied ss first more g.b_words segs.0.begins segs.0.plain segs.1 are u
-    whites.0 (left_run side run g.left g.white ready.1 g.cuts_left) g.cuts_right g.are_b_words g.pieces_are give.4 after.0 after.1 in
+    let same = segment_same (was_of side) run (g.white ∷ []) g.left g.right g.white g.next s.core s.copied ss first more g.made_words segs.0.begins segs.0.plain segs.1 are u
+    whites.0 (left_run side run g.left g.white ready.1 g.cuts_left) g.cuts_right g.are_made_words g.pieces_are give.4 after.0 after.1 in
     let is_lead : IsRun (g.white ∷ []) = record { some = omega arith; white = rw (whites.1) refl } in
     let words_is : (s.core ++ (s.copied ++ ws)) ≡ (s.core ++ s.copied) ++ ws = sym (append_assoc s.core s.copied ws) in
     let all : Follow run ((s.core ++ s.copied) ++ ws) (first ++ more) = record {
@@ -348,8 +348,8 @@ read_back_by [] (s ∷ ss) more segs are u give =
     (ready_next s.core s.copied ss segs.1 segs.2 are) give.4 in
     let whites = left_white Edge [] g.left g.white refl g.cuts_left in
     let none : [] ++ g.left ≡ [] = g.cuts_left.0 in
-    let same = segment_same false [] [] g.left g.right g.white g.next s.core s.copied ss first rest g.b_words segs.0.begins segs.0.plain segs.1 are u
-    whites.0 none g.cuts_right g.are_b_words g.pieces_are give.4 after.0 after.1 in
+    let same = segment_same false [] [] g.left g.right g.white g.next s.core s.copied ss first rest g.made_words segs.0.begins segs.0.plain segs.1 are u
+    whites.0 none g.cuts_right g.are_made_words g.pieces_are give.4 after.0 after.1 in
     rw (give.2) (record {
       orig = same.orig;
       made = same.made;

@@ -1,4 +1,4 @@
--- A structured field is made of its pieces, or keeps its value as B words.
+-- A structured field is made of its pieces, or keeps its value as encoded words.
 use Rattle.std.proofs.Common.{◌≡◌, ◌≢◌, ℕ, ◌+◌, ◌<◌, Bool, true, false, not, inl, inr, List, [], ◌∷◌, ◌++◌, Some, length, map, codes, refl, sym, ap, ◌∙◌, subst, arith}
 use Rattle.std.proofs.lemmas.Bool.{and_parts, and_from, both_ways, cases_Bool, or_cases, true≢false}
 use Rattle.std.proofs.lemmas.Bool.Decides.{nat_tests}
@@ -16,7 +16,8 @@ use Rattle.mail_wire.proofs.Folded.{without_ends, unfolded-folded, IsFolded-plai
 use Rattle.mail_wire.proofs.AllLemmas.{pass-append, pass-weaker}
 use Rattle.mail_wire.proofs.OctetLemmas.{white_below}
 use Rattle.encoded_words.specs.Folding.{made_body, word_pieces}
-use Rattle.encoded_words.specs.Pieces.{AreBWords, b_word}
+use Rattle.encoded_words.specs.WrittenWords.{AreWordsOf, written_word}
+use Rattle.encoded_words.proofs.WrittenWords.{written_word-first}
 use Rattle.encapsulated_fields.proofs.EncapsulatedLemmas.{words_say}
 use Rattle.field_tokens.specs.TokenOctets.{is_line_octet}
 use Rattle.field_tokens.specs.Comments.{CommentValue, IsLinePiece}
@@ -90,8 +91,8 @@ IsSameMeaning-pieces open_global f value pieces meaning no_hyphen has says read 
   made_means = record { value = join_with_byte 32 pieces; has_value = HasValue-spaced pieces read.lines read.begins read.ends; says = read.says };
 }
 
--- the field of the B words keeps the value
-pub KeepsValue-words : (f g : FieldParts) (value : List ℕ) (words : List (List ℕ)) → HasValue f.body value → IsUtf8 value → 0 < length value → AreBWords value words
+-- the field of the encoded words keeps the value
+pub KeepsValue-words : (f g : FieldParts) (value : List ℕ) (words : List (List ℕ)) → HasValue f.body value → IsUtf8 value → 0 < length value → AreWordsOf value words
     → g.body ≡ made_body (word_pieces 32 words) → KeepsValue f g
 KeepsValue-words f g value words has u some are body =
     let said = words_say value words u some are in
@@ -218,18 +219,14 @@ kept_structured name is e = by (kept_kind name is)
     by (KeptType kind) = let no = sym kind ∙ e in cc no
     by (KeptEncoding kind encoding) = let no = sym kind ∙ e in cc no
 
--- B words begin with `=`
-first : (chunk : List ℕ) → (rest : List ℕ) × (b_word chunk ≡ 61 ∷ rest)
-unfolding b_word
-first chunk = (_, refl)
-
-words_begin : (value : List ℕ) (words : List (List ℕ)) → 0 < length value → AreBWords value words → (rest : List ℕ) × (join_with_byte 32 words ≡ 61 ∷ rest)
+-- encoded words begin with `=`
+words_begin : (value : List ℕ) (words : List (List ℕ)) → 0 < length value → AreWordsOf value words → (rest : List ℕ) × (join_with_byte 32 words ≡ 61 ∷ rest)
 words_begin value words some are = by are.chunks are.spelled (are.whole ∙ append-nil (concat are.chunks))
   where
-    by : (chunks : List (List ℕ)) → words ≡ map b_word chunks → value ≡ concat chunks → (rest : List ℕ) × (join_with_byte 32 words ≡ 61 ∷ rest)
+    by : (chunks : List (List ℕ)) → words ≡ map written_word chunks → value ≡ concat chunks → (rest : List ℕ) × (join_with_byte 32 words ≡ 61 ∷ rest)
     by [] e whole = absurd (omega (arith, some, ap length whole))
-    by (c ∷ []) e whole = let f = first c in (f.0, rw (e, f.1) refl)
-    by (c ∷ d ∷ cs) e whole = let f = first c in (f.0 ++ (32 ∷ join_with_byte 32 (map b_word (d ∷ cs))), rw (e, f.1) refl)
+    by (c ∷ []) e whole = let f = written_word-first c in (f.0, rw (e, f.1) refl)
+    by (c ∷ d ∷ cs) e whole = let f = written_word-first c in (f.0 ++ (32 ∷ join_with_byte 32 (map written_word (d ∷ cs))), rw (e, f.1) refl)
 
 -- the first token of a text that begins with `=` is that special
 equals_first : (text rest : List ℕ) (t : TokenValue) (ts : List TokenValue) → text ≡ 61 ∷ rest → AreTokens Mime (t ∷ ts) text → t.kind ≡ Special
@@ -297,8 +294,8 @@ no_type text rest main params comments e says = by says.body.has_tokens.values s
         let sections : sections_of text (token ∷ others) ≡ body.first ∷ body.others = ap (sections_of text) (sym placed) ∙ body.sections in
         both_ways (is_main Content text (solid body.first)) (special_first text token others body.first body.others special no_mark sections) body.is_main_part
 
--- the B words of a value that is kept under its name are malformed too
-pub still_malformed : (f : FieldParts) (value : List ℕ) (words : List (List ℕ)) → HasValue f.body value → IsUtf8 value → 0 < length value → AreBWords value words → keeps_name f.name ≡ true
+-- the encoded words of a value that is kept under its name are malformed too
+pub still_malformed : (f : FieldParts) (value : List ℕ) (words : List (List ℕ)) → HasValue f.body value → IsUtf8 value → 0 < length value → AreWordsOf value words → keeps_name f.name ≡ true
     → IsMalformed (made_of f (word_pieces 32 words))
 still_malformed f value words has u some are keeps meaning means =
     let said = words_say value words u some are in

@@ -6,7 +6,7 @@ use Rattle.std.specs.List.{list_all, list_any, flat_map}
 use Rattle.std.specs.Str.{IsUtf8}
 use Rattle.std.proofs.lemmas.Str.{IsUtf8-append}
 use Rattle.mail_wire.specs.Octets.{is_ascii}
-use Rattle.encoded_words.specs.Pieces.{AreBWords}
+use Rattle.encoded_words.specs.WrittenWords.{AreWordsOf}
 use Rattle.field_downgrade.specs.declared.segments.Side.{Side}
 use Rattle.field_downgrade.specs.declared.segments.Side.TheVariants.{Edge, Encoded, Plain}
 use Rattle.field_downgrade.specs.Words.{Word, AreWords, AreUtf8, TellsEncoded, is_high_word, last_run, plain_text}
@@ -63,22 +63,22 @@ pub WritesSegment-from : (before core copied : List Word) (left right text old m
     → text ≡ (left ++ plain_text core) ++ right → AddsWordLines text white old mid → new ≡ mid ++ made_body (copied_pieces next copied) → WritesSegment before core copied old new
 WritesSegment-from before core copied left right text old mid new white next cuts_left cuts_right text_is adds new_is =
     let whole : text ≡ left ++ (plain_text core ++ right) = text_is ∙ append_assoc left (plain_text core) right in
-    let b_words : List (List ℕ) = adds.words in
+    let made_words : List (List ℕ) = adds.words in
     record {
-      pieces = word_pieces white b_words ++ copied_pieces next copied;
+      pieces = word_pieces white made_words ++ copied_pieces next copied;
       gives = record {
         left = left;
         right = right;
         white = white;
         next = next;
-        b_words = b_words;
+        made_words = made_words;
         cuts_left = cuts_left;
         cuts_right = cuts_right;
-        are_b_words = subst (λ t. AreBWords t b_words) whole adds.are_words;
+        are_made_words = subst (λ t. AreWordsOf t made_words) whole adds.are_words;
         pieces_are = refl;
       };
-      added = new_is ∙ rw (adds.added, made_body-append (word_pieces white b_words) (copied_pieces next copied))
-          (append_assoc old (made_body (word_pieces white b_words)) (made_body (copied_pieces next copied)));
+      added = new_is ∙ rw (adds.added, made_body-append (word_pieces white made_words) (copied_pieces next copied))
+          (append_assoc old (made_body (word_pieces white made_words)) (made_body (copied_pieces next copied)));
     }
 
 -- The lines so far: whatever segments the rest has, they complete those of the words.

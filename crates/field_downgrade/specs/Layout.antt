@@ -2,7 +2,7 @@
 use Rattle.std.specs.Prelude.{◌≡◌, ℕ, Bool, true, false, not, if◌then◌else◌, List, [], ◌∷◌, ◌++◌, map}
 use Rattle.std.specs.List.{list_all, list_any, flat_map}
 use Rattle.mail_wire.specs.Characters.{space}
-use Rattle.encoded_words.specs.Pieces.{AreBWords}
+use Rattle.encoded_words.specs.WrittenWords.{AreWordsOf}
 use Rattle.encoded_words.specs.Folding.{Piece, made_body, word_pieces}
 use Rattle.utf8_fields.specs.Parts.{FieldParts}
 use Rattle.field_downgrade.specs.declared.segments.Side.{Side}
@@ -32,7 +32,7 @@ last_side [] = Edge
 last_side (w ∷ []) = side_of w
 last_side (w ∷ v ∷ ws) = last_side (v ∷ ws)
 
--- The part of the run before a core that goes into the core's text, and the white octet before the first B word:
+-- The part of the run before a core that goes into the core's text, and the white octet before the first encoded word:
 -- beside another word the octet farthest from the core is left out, and chosen.
 abbrev pub CutsLeft : Side → List ℕ → List ℕ → ℕ → Type 0
 CutsLeft Edge run part white = (part ≡ []) × (white ≡ space)
@@ -97,11 +97,11 @@ pub record GivesPieces (side : Side) (run : List ℕ) (s : Segment) (pieces : Li
   pub right : List ℕ
   pub white : ℕ
   pub next : ℕ
-  pub b_words : List (List ℕ)
+  pub made_words : List (List ℕ)
   pub cuts_left : CutsLeft side run left white
   pub cuts_right : CutsRight (first_side s.copied) (last_run s.core) right next
-  pub are_b_words : AreBWords (left ++ (plain_text s.core ++ right)) b_words
-  pub pieces_are : pieces ≡ word_pieces white b_words ++ copied_pieces next s.copied
+  pub are_made_words : AreWordsOf (left ++ (plain_text s.core ++ right)) made_words
+  pub pieces_are : pieces ≡ word_pieces white made_words ++ copied_pieces next s.copied
 
 -- what segments give, one after the other
 abbrev pub GiveAll : Side → List ℕ → List Segment → List Piece → Type 0

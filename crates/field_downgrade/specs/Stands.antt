@@ -8,7 +8,7 @@ use Rattle.mail_wire.specs.Octets.{is_ascii, same_name}
 use Rattle.mail_wire.specs.Message.{IsNul}
 use Rattle.encoded_words.specs.Words.{UnitValue, Text}
 use Rattle.encoded_words.specs.Units.{HasUnits}
-use Rattle.encoded_words.specs.Pieces.{AreBWords}
+use Rattle.encoded_words.specs.WrittenWords.{AreWordsOf}
 use Rattle.encoded_words.specs.Folding.{Piece, made_body, word_pieces}
 use Rattle.field_tokens.specs.Comments.{CommentValue}
 use Rattle.address_grammar.specs.declared.Address.{Address}
@@ -141,9 +141,9 @@ pub data HasHighLayout (open_global : Bool) (f g : FieldParts) : Type 0 where
   -- another field is made of its pieces
   OfPieces : (value : List ℕ) (pieces : List (List ℕ)) → HasValue f.body value → PiecesAs (kind_named f.name) open_global f.name value pieces → g ≡ made_of f (spaced pieces) → HasHighLayout open_global f g
   -- one that can't be is kept under another name
-  Encapsulated : (value : List ℕ) (words : List (List ℕ)) → IsKeptAside f → HasValue f.body value → AreBWords value words → g ≡ downgraded_of f (word_pieces space words) → HasHighLayout open_global f g
+  Encapsulated : (value : List ℕ) (words : List (List ℕ)) → IsKeptAside f → HasValue f.body value → AreWordsOf value words → g ≡ downgraded_of f (word_pieces space words) → HasHighLayout open_global f g
   -- one that tells how a body is read keeps its name
-  KeptMalformed : (value : List ℕ) (words : List (List ℕ)) → IsMalformed f → keeps_name f.name ≡ true → HasValue f.body value → AreBWords value words → g ≡ made_of f (word_pieces space words)
+  KeptMalformed : (value : List ℕ) (words : List (List ℕ)) → IsMalformed f → keeps_name f.name ≡ true → HasValue f.body value → AreWordsOf value words → g ≡ made_of f (word_pieces space words)
       → HasHighLayout open_global f g
 
 -- The field with this body.

@@ -23,7 +23,7 @@ pub enum Side {
     Plain,
 }
 
-// The white octet before a core's first B word, and the part of the run before the core that goes into its text.
+// The white octet before a core's first encoded word, and the part of the run before the core that goes into its text.
 fn cut_left(side: Side, run: &[u8]) -> (u8, &[u8])
     requires { NeedsRun side run.now }
     ensures { CutsLeft side run.now result.1.now result.0 }
@@ -59,7 +59,7 @@ fn has_no_line_end(octets: &[u8]) -> bool
     octets.iter().all(|octet| !is_line_end(*octet))
 }
 
-// Whether a core is the text of its B words.
+// Whether a core is the text of its encoded words.
 fn is_whole_text(left: &[u8], core: &[u8], right: &[u8]) -> bool
     ensures { IsTrue result → (left.now ++ unfolded core.now) ++ right.now ≡ core.now }
 {
@@ -76,7 +76,7 @@ fn room_for(alloc: Global, count: usize) -> Result<Octets, Memory>
     Ok(Octets::from_vec(Vec::with_capacity(alloc, count)?))
 }
 
-// Puts the lines of a core's B words last. Its text has these parts of the runs beside it.
+// Puts the lines of a core's encoded words last. Its text has these parts of the runs beside it.
 fn push_joined(
     alloc: Global,
     made: &mut Octets,

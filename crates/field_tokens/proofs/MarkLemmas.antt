@@ -1,7 +1,7 @@
 -- Tokens by their marks.
-use Rattle.std.proofs.Common.{◌≡◌, ℕ, zero, suc, ◌+◌, ◌-◌, ◌<◌, ◌≤◌, List, [], ◌∷◌, ◌++◌, length, min, take, drop, get_or, refl, sym, ap, ◌∙◌, subst, arith, Bool, ◌==◌, ◌↔◌, IsTrue}
+use Rattle.std.proofs.Common.{◌≡◌, ℕ, zero, suc, ◌+◌, ◌-◌, ◌<◌, ◌≤◌, List, [], ◌∷◌, ◌++◌, length, min, take, drop, refl, sym, ap, ◌∙◌, subst, arith, Bool, ◌==◌, ◌↔◌, IsTrue}
 use Rattle.std.proofs.lemmas.Bool.Decides.{nat_tests}
-use Rattle.std.proofs.lemmas.List.{length-append, take_at, drop_at, take_more, take_all, take_min, drop_min}
+use Rattle.std.proofs.lemmas.List.{length-append, take_at, drop_at, take_min}
 use Rattle.field_tokens.specs.declared.Style.{Style}
 use Rattle.field_tokens.specs.declared.TokenKind.{TokenKind}
 use Rattle.field_tokens.specs.declared.lexemes.Mark.{Mark}
@@ -35,30 +35,9 @@ lexemes_in-take zero text ms = refl
 lexemes_in-take (suc n) text [] = refl
 lexemes_in-take (suc n) text (m ∷ ms) = ap (λ r. record { kind = marked_kind m; octets = take (marked_len m) text } ∷ r) (lexemes_in-take n (drop (marked_len m) text) ms)
 
-lexemes_in-drop : (n : ℕ) (text : List ℕ) (ms : List Mark) → lexemes_in (after_marks text (take n ms)) (drop n ms) ≡ drop n (lexemes_in text ms)
-lexemes_in-drop zero text ms = refl
-lexemes_in-drop (suc n) text [] = refl
-lexemes_in-drop (suc n) text (m ∷ ms) = lexemes_in-drop n (drop (marked_len m) text) ms
-
 -- the first so many marks are of the first tokens
 pub front_marks : (n k : ℕ) (text : List ℕ) (ms front : List Mark) → k ≡ min n (length ms) → front ≡ take k ms → lexemes_in text front ≡ take n (lexemes_in text ms)
 front_marks n k text ms front k_is e = ap (lexemes_in text) (e ∙ ap (λ j. take j ms) k_is ∙ take_min n ms) ∙ lexemes_in-take n text ms
-
--- and those behind them of those behind
-pub later_marks : (n k : ℕ) (text : List ℕ) (ms front following : List Mark) (rest : List ℕ) (i : ℕ) → length front ≤ i → k ≡ min n (length ms) → front ≡ take k ms → following ≡ drop k ms
-    → rest ≡ after_marks text (take i front) → lexemes_in rest following ≡ drop n (lexemes_in text ms)
-later_marks n k text ms front following rest i all k_is e f r =
-    let text_is : rest ≡ after_marks text (take n ms) = r ∙ ap (after_marks text) (take_all i front all ∙ e ∙ ap (λ j. take j ms) k_is ∙ take_min n ms) in
-    let marks_are : following ≡ drop n ms = f ∙ ap (λ j. drop j ms) k_is ∙ drop_min n ms in
-    rw (text_is, marks_are) (lexemes_in-drop n text ms)
-
--- one mark more
-pub after_marks-turn : (text : List ℕ) (ms : List Mark) (i : ℕ) (d : Mark) (rest after : List ℕ) (len k : ℕ) → i < length ms → len ≡ marked_len (get_or ms i d) → rest ≡ after_marks text (take i ms)
-    → k ≡ min len (length rest) → after ≡ drop k rest → after ≡ after_marks text (take (i + 1) ms)
-after_marks-turn text ms i d rest after len k h len_is e k_is cut =
-    let m : Mark = get_or ms i d in
-    let left : after ≡ drop (marked_len m) rest = cut ∙ ap (λ j. drop j rest) k_is ∙ drop_min len rest ∙ ap (λ j. drop j rest) len_is in
-    left ∙ ap (drop (marked_len m)) e ∙ sym (ap (after_marks text) (take_more ms i d h) ∙ after_marks-append text (take i ms) (m ∷ []))
 
 -- the marks of the tokens before rest
 pub record ReadsMarks (style : Style) (text : List ℕ) (marks : List Mark) (rest : List ℕ) : Type 0 where

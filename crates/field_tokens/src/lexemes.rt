@@ -1,5 +1,5 @@
 //! The tokens of a text by their octets, each as a number beside the text.
-ghost use Rattle.std.specs.Prelude.{◌≡◌, ◌<◌, ◌↔◌, ◌∷◌, [], List, length, take, drop, IfOk, IfSome, IfNone, IsTrue};
+ghost use Rattle.std.specs.Prelude.{◌≡◌, ◌<◌, ◌↔◌, ◌∷◌, [], List, length, take, IfOk, IfSome, IfNone, IsTrue};
 ghost use Rattle.field_tokens.specs.Tokens.{TokenValue, HasTokenValues};
 ghost use Rattle.field_tokens.specs.Lexemes.{value_of, values_of, kind_number, kind_numbered, marked_kind, marked_len, lexemes_in};
 
@@ -30,6 +30,9 @@ pub struct Lexemes<'a, 'b> {
 
 /// The tokens of a mark have fewer octets than this.
 const LENGTHS: usize = 1 << 29;
+
+/// The most octets of a text whose marks get room without being counted.
+const SHORT: usize = 128;
 
 fn number_of(kind: TokenKind) -> u32
     ensures number { result ≡ kind_number kind }
@@ -101,6 +104,16 @@ fn count_tokens(style: Style, text: &[u8]) -> Option<usize>
     Some(count)
 }
 
+// How many marks of a text room is made for. A short text has no more tokens than octets; those of a longer one are counted.
+fn room_of(style: Style, text: &[u8]) -> Option<usize>
+    ensures { IfNone result ((tokens : List TokenValue) → ¬ HasTokenValues style text.now tokens) }
+{
+    if text.len() <= SHORT {
+        return Some(text.len());
+    }
+    count_tokens(style, text)
+}
+
 /// The marks of a text's tokens, and nothing exactly where it has none. The time is linear in its length, whatever it
 /// holds.
 pub fn read_marks(alloc: Global, style: Style, text: &[u8]) -> Result<Option<Vec<Mark>>, Memory>
@@ -110,10 +123,10 @@ pub fn read_marks(alloc: Global, style: Style, text: &[u8]) -> Result<Option<Vec
     if !is_line(text) {
         return Ok(None);
     }
-    let Some(count) = count_tokens(style, text) else {
+    let Some(room) = room_of(style, text) else {
         return Ok(None);
     };
-    let mut marks = Vec::with_capacity(alloc, count)?;
+    let mut marks = Vec::with_capacity(alloc, room)?;
     let mut rest = text;
     while !rest.is_empty() {
         let Some((kind, after)) = first_token(style, rest) else {
@@ -158,26 +171,14 @@ impl<'a, 'b> Lexemes<'a, 'b> {
         Some((Lexeme { kind, octets }, Lexemes { text, marks }))
     }
 
-    /// The first so many tokens, and those behind them. Where there are fewer, these are all, and none stands behind.
-    pub fn split_at(self, count: usize) -> (Lexemes<'a, 'b>, Lexemes<'a, 'b>)
-        ensures front { values_of result.0 ≡ take count (values_of self.entry) }
-        ensures following { values_of result.1 ≡ drop count (values_of self.entry) }
+    /// The first so many tokens. Where there are fewer, these are all.
+    pub fn front(self, count: usize) -> Lexemes<'a, 'b>
+        ensures { values_of result ≡ take count (values_of self.entry) }
     {
-        let (front, following) = self.marks.split_at(count.min(self.marks.len()));
-        let mut rest = self.text;
-        for mark in front {
-            let (_, after) = rest.split_at(mark.len().min(rest.len()));
-            rest = after;
+        let (marks, _) = self.marks.split_at(count.min(self.marks.len()));
+        Lexemes {
+            text: self.text,
+            marks,
         }
-        (
-            Lexemes {
-                text: self.text,
-                marks: front,
-            },
-            Lexemes {
-                text: rest,
-                marks: following,
-            },
-        )
     }
 }

@@ -46,6 +46,10 @@ fn opens_literal(style: Style, octet: u8) -> bool
 pub fn is_atom_octet(style: Style, octet: u8) -> bool
     ensures { result ≡ is_atom_octet_of style octet }
 {
+    // most octets are small letters, or of characters beyond ASCII
+    if octet > b']' {
+        return octet != 127;
+    }
     !is_white(octet) && !is_special(style, octet) && !is_mark(style, octet) && !is_control(octet)
 }
 
@@ -76,6 +80,10 @@ pub fn first_token(style: Style, text: &[u8]) -> Option<(TokenKind, &[u8])>
     ensures none { IfNone result ((kind : TokenKind) (rest : List ℕ) → ¬ BeginsToken style kind text.now rest) }
 {
     let octet = text[0];
+    if is_atom_octet(style, octet) {
+        let (_, rest) = split_atom(style, text);
+        return Some((TokenKind::Atom, rest));
+    }
     if is_white(octet) {
         let (_, rest) = split_white(text);
         return Some((TokenKind::Gap, rest));
@@ -101,10 +109,6 @@ pub fn first_token(style: Style, text: &[u8]) -> Option<(TokenKind, &[u8])>
     if is_special(style, octet) {
         return Some((TokenKind::Special, &text[1..]));
     }
-    if is_atom_octet(style, octet) {
-        let (_, rest) = split_atom(style, text);
-        return Some((TokenKind::Atom, rest));
-    }
     None
 }
 
@@ -112,8 +116,7 @@ pub fn first_token(style: Style, text: &[u8]) -> Option<(TokenKind, &[u8])>
 fn are_line_octets(text: &[u8]) -> bool
     ensures { result ≡ list_all is_line_octet text.now }
 {
-    text.iter()
-        .all(|octet| !matches!(*octet, 0 | b'\r' | b'\n'))
+    text.iter().all(|octet| *octet > b'\r' || !matches!(*octet, 0 | b'\r' | b'\n'))
 }
 
 // Whether the octets are UTF-8 without NUL, CR and LF.

@@ -7,7 +7,8 @@ use Rattle.field_tokens.proofs.CommentValues.{CommentsSay-some}
 use Rattle.address_grammar.specs.AddressLists.{MailboxValue, IsMailbox, IsOneMailbox, AreMembers, One, Group, IsGroup, SaysPlace}
 use Rattle.address_grammar.proofs.ListLemmas.{members_lack, group_name}
 use Rattle.address_lists.proofs.SoundPhrases.{text_comments}
-use Rattle.address_lists.proofs.DecideAddresses.{Found, decide_addresses}
+use Rattle.address_grammar.proofs.DecidePaths.{Found}
+use Rattle.address_lists.proofs.DecideAddresses.{decide_addresses}
 use Rattle.imap_views.specs.Strings.{nil}
 use Rattle.imap_views.specs.Addresses.{plain_text, address_form, IsMailboxForm, AreMemberForms, group_start, group_end, IsGroupForm, IsPlaceForm, HasForms, list_form, IsListForm, IsAddressesForm}
 use Rattle.imap_views.proofs.AddressForms.{mailbox_name, group_of}

@@ -10,9 +10,9 @@ use Rattle.field_tokens.proofs.TokenLists.{AreTokens-once}
 use Rattle.param_grammar.specs.declared.ParamKind.{ParamKind}
 use Rattle.param_grammar.specs.declared.ParamKind.TheVariants.{Content, Disposition}
 use Rattle.param_grammar.specs.declared.Piece.{Piece}
-use Rattle.param_2231.proofs.DecideParams.{decide_params}
+use Rattle.param_grammar.proofs.DecideParams.{decide_params}
 use Rattle.param_2231.proofs.GlobalLemmas.{kind_is}
-use Rattle.param_2231.proofs.SaidTrees.{SaysParams-trees, HasParams-says}
+use Rattle.param_grammar.proofs.SaidTrees.{SaysParams-trees, HasParams-says}
 use Rattle.imap_views.specs.Strings.{nil}
 use Rattle.imap_views.specs.Parts.{HasPieces, IsNoField, pairs_of, TypeValue, usual_type, plain_text_type, IsTypeBy, disposition_form, IsDispositionBy, IsSoleAtom, IsEncodingBy, PartValue, IsByFirst, SaysPart}
 use Rattle.imap_views.proofs.OnePart.{same_one}

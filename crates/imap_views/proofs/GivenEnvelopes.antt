@@ -5,7 +5,7 @@ use Rattle.std.specs.List.{flat_map}
 use Rattle.mail_wire.specs.Lines.{crlf}
 use Rattle.utf8_fields.specs.Block.{raw_of, name_of}
 use Rattle.utf8_fields.proofs.DecidingBlocks.{Decided, decide_block}
-use Rattle.address_lists.proofs.DecideAddresses.{Found}
+use Rattle.address_grammar.proofs.DecidePaths.{Found}
 use Rattle.imap_views.specs.Strings.{nstring, in_parentheses, spaced}
 use Rattle.imap_views.specs.Fields.{HasSomeBlock}
 use Rattle.imap_views.specs.Envelopes.{IsStringOf, AreAddressesOf, IsAddressesFormOr, AreAddressesOr, IsEnvelope, HasEnvelope}

@@ -5,7 +5,7 @@ use Rattle.mime_tree.specs.Outlines.{Outline, outlines_of}
 use Rattle.mime_tree.specs.Tree.{HasTree}
 use Rattle.mime_tree.proofs.DecidingTrees.{decide_tree}
 use Rattle.mime_tree.proofs.OneTree.{one_tree}
-use Rattle.address_lists.proofs.DecideAddresses.{Found}
+use Rattle.address_grammar.proofs.DecidePaths.{Found}
 use Rattle.imap_views.specs.Views.{View, envelope, fields, structure, IsStructureOf, IsView, GivesViews, GivesOutlines}
 use Rattle.imap_views.proofs.GivenEnvelopes.{Given, given_of, given_envelope, given_chosen}
 use Rattle.imap_views.proofs.OneStructure.{structure_once}

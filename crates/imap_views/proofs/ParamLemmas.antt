@@ -14,7 +14,7 @@ use Rattle.param_grammar.specs.Bodies.{HasBody, IsBody}
 use Rattle.param_grammar.specs.Joining.{ParamValue, HasSaidBody, params_of}
 use Rattle.param_grammar.specs.Placed.{HasBodyAt}
 use Rattle.param_grammar.proofs.BodyLemmas.{IsBody-once}
-use Rattle.param_2231.proofs.SaidTrees.{HasBodyAt-says, SaysParams-trees}
+use Rattle.param_grammar.proofs.SaidTrees.{HasBodyAt-says, SaysParams-trees}
 use Rattle.mime_tree.proofs.WordLemmas.{is_word, one_word}
 use Rattle.imap_views.specs.Parts.{HasPieces, IsNoField, IsSoleAtom}
 

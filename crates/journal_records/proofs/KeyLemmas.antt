@@ -14,7 +14,7 @@ use Rattle.ace_domains.specs.Domains.{normal_form, compared_form}
 use Rattle.ace_domains.proofs.FormLemmas.{form_ascii}
 use Rattle.address_grammar.specs.declared.Address.{Address}
 use Rattle.address_grammar.specs.Paths.{ComesInPath}
-use Rattle.address_lists.proofs.PathPiecesLemmas.{path_parts}
+use Rattle.address_grammar.proofs.PathParts.{path_parts}
 use Rattle.journal_records.specs.Addresses.{IsDomainText, is_same_mailbox, mailbox_key}
 
 -- ---- the mark is in no text

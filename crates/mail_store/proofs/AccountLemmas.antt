@@ -6,7 +6,7 @@ use Rattle.address_grammar.specs.declared.Address.{Address}
 use Rattle.address_grammar.specs.Addresses.{address_text}
 use Rattle.address_grammar.specs.Paths.{ComesInPath, ReadsPaths}
 use Rattle.address_grammar.proofs.WritingLemmas.{path_again}
-use Rattle.address_lists.proofs.PathPiecesLemmas.{paths_read}
+use Rattle.address_grammar.proofs.DecidePaths.{paths_read}
 use Rattle.mail_store.specs.declared.changing.StoreFault.{StoreFault}
 use Rattle.mail_store.specs.declared.changing.StoreFault.TheVariants as faults
 use Rattle.kept_mail.specs.declared.kept.Account.{Account}

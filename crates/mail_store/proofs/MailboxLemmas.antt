@@ -9,7 +9,7 @@ use Rattle.std.specs.Str.{bytes_eq}
 use Rattle.ace_domains.specs.Domains.{compared_form}
 use Rattle.address_grammar.specs.declared.Address.{Address}
 use Rattle.address_grammar.specs.Paths.{ComesInPath, HasPath, IsReading, ReadsPaths, in_angles}
-use Rattle.address_lists.proofs.PathPiecesLemmas.{paths_read}
+use Rattle.address_grammar.proofs.DecidePaths.{paths_read}
 use Rattle.address_grammar.proofs.PathLemmas.{HasPath-once}
 use Rattle.journal_records.specs.Addresses.{IsTextOfAddress, IsDomainText, is_same_domain, is_same_mailbox, address_of, WithPaths, mailbox_key}
 use Rattle.journal_records.proofs.KeyLemmas.{domain_text_utf8, key_decides}

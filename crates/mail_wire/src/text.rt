@@ -17,7 +17,8 @@ use std::marker::Model;
 pub fn is_utf8(octets: &[u8]) -> bool
     ensures { IsTrue result ↔ IsUtf8 octets.now }
 {
-    simdutf8::basic::from_utf8(octets).is_ok()
+    // most texts are ASCII, and that is found sooner
+    is_ascii(octets) || simdutf8::is_utf8(octets)
 }
 
 /// Space or horizontal tab.
@@ -38,7 +39,12 @@ pub fn is_white_text(text: &[u8]) -> bool
 pub fn is_ascii(octets: &[u8]) -> bool
     ensures { result ≡ list_all is_ascii octets.now }
 {
-    octets.iter().all(|octet| *octet < 128)
+    // the highest octet tells, and is found without a branch, so that many are looked at together
+    let mut highest: u8 = 0;
+    for octet in octets {
+        highest = highest.max(*octet);
+    }
+    highest < 128
 }
 
 /// Whether two names are the same, whatever the case of ASCII letters.

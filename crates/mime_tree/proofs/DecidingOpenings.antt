@@ -18,7 +18,7 @@ use Rattle.field_tokens.specs.Squeezed.{words_of}
 use Rattle.field_tokens.proofs.DecideTokens.{decide_tokens}
 use Rattle.field_tokens.proofs.TokenLists.{AreTokens-once}
 use Rattle.param_grammar.specs.declared.ParamKind.TheVariants.{Content}
-use Rattle.param_2231.proofs.DecideParams.{decide_params}
+use Rattle.param_grammar.proofs.DecideParams.{decide_params}
 use Rattle.mime_tree.specs.declared.openings.Opening.{Opening}
 use Rattle.mime_tree.specs.declared.openings.Opening.TheVariants.{Nothing}
 use Rattle.mime_tree.specs.Openings.{opening_said, OpensByText, opening_by_default, OpensByType, is_identity_name, KeepsOctets, IsIdentity, IsValueWhere, IsFirstValue, OpensByFields, Opens, AreFieldsWithin}

@@ -6,7 +6,7 @@ use Rattle.mail_wire.specs.Folds.{unfolded}
 use Rattle.utf8_fields.proofs.OneField.{HasParts-once}
 use Rattle.utf8_fields.proofs.OneValue.{IsTrimmed-once}
 use Rattle.param_grammar.specs.declared.ParamKind.TheVariants.{Content}
-use Rattle.param_2231.proofs.ParamsOnce.{SaysParams-once}
+use Rattle.param_grammar.proofs.SaidParams.{SaysParams-once}
 use Rattle.mime_tree.specs.declared.openings.Opening.{Opening}
 use Rattle.mime_tree.specs.declared.openings.Opening.TheVariants.{Nothing}
 use Rattle.mime_tree.specs.Openings.{IsFirstValue, IsValueWhere, IsIdentity, OpensByText, OpensByType, OpensByFields, Opens}

@@ -20,7 +20,7 @@ use Rattle.param_grammar.specs.Joining.{ParamValue, HasSaidBody, IsRole, goes_on
 use Rattle.param_grammar.specs.Placed.{HasPlaced, HasBodyAt}
 use Rattle.param_grammar.specs.Places.{IsPlaced, no_piece, piece_in}
 use Rattle.param_grammar.proofs.PlaceLemmas.{ArePlaced-at, ArePlaced-length}
-use Rattle.param_2231.proofs.SaidTrees.{HasBodyAt-says}
+use Rattle.param_grammar.proofs.SaidTrees.{HasBodyAt-says}
 use Rattle.mime_tree.specs.declared.openings.Opening.{Opening}
 use Rattle.mime_tree.specs.declared.openings.Opening.TheVariants.{Nothing, Message}
 use Rattle.mime_tree.specs.Openings.{is_message_type, is_multipart_type, is_digest_type, boundary_in, usable_of, divided, opening_said, OpensByText, IsFirstValue, AreFieldsWithin}

@@ -21,7 +21,7 @@ use Rattle.param_grammar.specs.declared.ParamKind.TheVariants.{Content}
 use Rattle.param_grammar.specs.Bodies.{is_mark_at, sections_of, solid, is_main}
 use Rattle.param_grammar.specs.Joining.{ParamValue, SaysParams}
 use Rattle.field_tokens.specs.Comments.{CommentValue}
-use Rattle.param_2231.proofs.DecideParams.{decide_params}
+use Rattle.param_grammar.proofs.DecideParams.{decide_params}
 use Rattle.mime_tree.specs.declared.openings.Opening.TheVariants.{Nothing}
 use Rattle.mime_tree.specs.Openings.{opening_said, OpensByText}
 use Rattle.mime_tree.specs.private.Types.{begins_other}

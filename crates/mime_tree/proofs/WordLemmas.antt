@@ -15,7 +15,7 @@ use Rattle.field_tokens.proofs.TokenLists.{AreTokens-once}
 use Rattle.field_tokens.proofs.Parts.{octets_of-tokens}
 use Rattle.field_tokens.proofs.SqueezedLemmas.{no_token}
 use Rattle.field_tokens.proofs.SqueezedValues.{value_at}
-use Rattle.param_2231.proofs.ChangedTokens.{octets_between}
+use Rattle.param_grammar.proofs.SaidTrees.{octets_between}
 use Rattle.mime_tree.specs.Openings.{is_identity_name, KeepsOctets}
 
 abbrev pub is_word : Token → Bool

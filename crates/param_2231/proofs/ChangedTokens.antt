@@ -1,7 +1,7 @@
 -- The octets of one atom of a text are changed to as many others: all tokens keep their places.
-use Rattle.std.proofs.Common.{◌≡◌, ℕ, ◌+◌, ◌<◌, true, false, List, [], ◌∷◌, ◌++◌, length, take, drop, refl, sym, ap, ◌∙◌, subst, arith}
+use Rattle.std.proofs.Common.{◌≡◌, ℕ, ◌+◌, ◌<◌, true, false, List, [], ◌∷◌, ◌++◌, length, refl, sym, ap, ◌∙◌, subst, arith}
 use Rattle.std.proofs.lemmas.Bool.{both_ways, and_parts}
-use Rattle.std.proofs.lemmas.List.{append_assoc, length-append, take_at, drop_at}
+use Rattle.std.proofs.lemmas.List.{append_assoc, length-append}
 use Rattle.std.specs.List.{AllByRecursion, list_all}
 use Rattle.mail_wire.specs.Octets.{is_white}
 use Rattle.mail_wire.specs.Spans.{Stops}
@@ -13,6 +13,7 @@ use Rattle.field_tokens.specs.TokenOctets.{is_atom_octet}
 use Rattle.field_tokens.specs.Tokens.{IsToken, TokenValue, AreTokens, tokens_from, octets_at}
 use Rattle.field_tokens.specs.Squeezed.{octets_of}
 use Rattle.field_tokens.proofs.TokenLists.{token_at}
+use Rattle.param_grammar.proofs.SaidTrees.{octets_between}
 
 -- what follows a gap or an atom may follow it too
 pub record EndsAlike (style : Style) (x y : List ℕ) : Type 0 where
@@ -75,10 +76,6 @@ IsSameAt text changed token = octets_at text token.span ≡ octets_at changed to
 
 abbrev pub AreSameAt : List ℕ → List ℕ → List Token → Type 0
 AreSameAt text changed tokens = AllByRecursion (IsSameAt text changed) tokens
-
-pub octets_between : (front octets rest text : List ℕ) (at : ℕ) → text ≡ front ++ (octets ++ rest) → at ≡ length front → take (length octets) (drop at text) ≡ octets
-octets_between front octets rest text at e place =
-    ap (take (length octets)) (ap (drop at) e ∙ drop_at front (octets ++ rest) at (sym place)) ∙ take_at octets rest (length octets) refl
 
 -- the same tokens behind fronts of one length have the same octets
 pub same_places : (a b x y text changed : List ℕ) (ts : List TokenValue) (at : ℕ) → text ≡ a ++ (octets_of ts ++ x) → changed ≡ b ++ (octets_of ts ++ y) → at ≡ length a → at ≡ length b

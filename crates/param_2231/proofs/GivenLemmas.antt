@@ -14,7 +14,7 @@ use Rattle.field_tokens.specs.Lexemes.{lexemes_in}
 use Rattle.field_tokens.specs.Tokens.{TokenValue, HasTokens, HasTokenValues}
 use Rattle.field_tokens.specs.Squeezed.{comments_of}
 use Rattle.field_tokens.specs.Comments.{CommentsPieces, AreWritableComments}
-use Rattle.field_tokens.proofs.TokenLists.{AreTokens-once, HasTokens-once}
+use Rattle.field_tokens.proofs.TokenLists.{AreTokens-once}
 use Rattle.field_tokens.proofs.TokenLines.{comments_are_writable}
 use Rattle.param_grammar.specs.declared.ParamKind.{ParamKind}
 use Rattle.param_grammar.specs.declared.Piece.{Piece}
@@ -23,7 +23,6 @@ use Rattle.param_grammar.specs.declared.role.Placed.{Placed}
 use Rattle.param_grammar.specs.declared.role.Role.{Role}
 use Rattle.param_grammar.specs.declared.role.Role.TheVariants.{GoesOn, Begins}
 use Rattle.param_grammar.specs.declared.tokens.Tokens.{Tokens}
-use Rattle.param_grammar.specs.Bodies.{IsBody}
 use Rattle.param_grammar.specs.Joining.{ParamValue, params_of, goes_on, unit_at, is_ascii_parameter, is_doubled, IsRole, HasSaidBody}
 use Rattle.param_grammar.specs.Placed.{HasPlaced}
 use Rattle.param_grammar.specs.Places.{IsPlaced, no_piece, piece_in}
@@ -178,6 +177,3 @@ tokens_told text marks now tokens has told same = subst (HasTokens Mime text) (s
 
 pub no_tokens : (kind : ParamKind) (text : List ℕ) → ((tokens : List Token) → HasTokens Mime text tokens → ⊥) → (main : List ℕ) (params : List ParamValue) → HasSaidBody kind text main params → ⊥
 no_tokens kind text none main params b = none b.tokens b.has_tokens
-
-pub by_tokens : (kind : ParamKind) (text main : List ℕ) (params : List ParamValue) (tokens : List Token) → HasTokens Mime text tokens → (b : HasSaidBody kind text main params) → IsBody kind text tokens main b.pieces
-by_tokens kind text main params tokens has b = subst (λ ts. IsBody kind text ts main b.pieces) (HasTokens-once Mime text b.tokens tokens b.has_tokens has) b.is_body

@@ -27,7 +27,8 @@ use Rattle.param_grammar.specs.Bodies.{solid, is_mark_at, IsBody}
 use Rattle.param_grammar.specs.Joining.{ParamValue, HasSaidBody, SaysParams}
 use Rattle.param_2231.specs.GlobalTypes.{HasSubtype, NamesGlobal, with_rfc822}
 use Rattle.param_grammar.proofs.BodyLemmas.{IsBody-once}
-use Rattle.param_2231.proofs.ChangedTokens.{atom_of, Changed, atom_changed, AreSameAt, octets_between, same_places, tokens_from-start, same_tokens}
+use Rattle.param_2231.proofs.ChangedTokens.{atom_of, Changed, atom_changed, AreSameAt, same_places, tokens_from-start, same_tokens}
+use Rattle.param_grammar.proofs.SaidTrees.{octets_between}
 use Rattle.param_2231.proofs.SameOctets.{first_part}
 use Rattle.param_2231.proofs.GlobalPlaces.{solid-words, find_word, main_size, body_subtype, global_body, body_changed}
 

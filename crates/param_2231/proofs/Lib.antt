@@ -14,11 +14,8 @@ pub mod ParamsOnce
 pub mod ParamsSome
 pub mod GivenLemmas
 pub mod WrittenBody
-pub mod DecidePieces
-pub mod DecideParams
 pub mod ChangedTokens
 pub mod SameOctets
 pub mod GlobalPlaces
 pub mod GlobalLemmas
-pub mod SaidTrees
 pub mod WrittenParamLemmas

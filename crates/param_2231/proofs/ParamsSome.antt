@@ -5,14 +5,14 @@ use Rattle.std.proofs.lemmas.Str.{IsUtf8-from_is_utf8, IsUtf8-from_ascii}
 use Rattle.std.specs.List.{list_all, flat_map}
 use Rattle.std.specs.Str.{IsUtf8, is_utf8, bytes_eq, str_to_ascii_lowercase}
 use Rattle.std.specs.Prelude.{codes, length}
-use Rattle.encoded_words.proofs.BWords.{ascii_literal}
+use Rattle.encoded_words.proofs.WrittenWords.{ascii_literal}
 use Rattle.field_tokens.specs.declared.Style.TheVariants.{Mime}
 use Rattle.field_tokens.specs.Squeezed.{comments_of, run_octets}
 use Rattle.field_tokens.specs.Comments.{CommentValue, AreWritableComments}
 use Rattle.field_tokens.specs.Tokens.{HasTokens}
 use Rattle.field_tokens.specs.declared.Token.{Token}
 use Rattle.field_tokens.proofs.TokenLines.{comments_are_writable}
-use Rattle.field_tokens.proofs.CommentValues.{CommentsSay-some, CommentsPieces-some}
+use Rattle.field_tokens.proofs.CommentValues.{CommentsPieces-some}
 use Rattle.param_grammar.specs.declared.ParamKind.{ParamKind}
 use Rattle.param_grammar.specs.declared.Piece.{Piece}
 use Rattle.param_grammar.specs.Extended.{is_nothing, is_text_of, unit_of}
@@ -20,6 +20,7 @@ use Rattle.param_grammar.specs.Bodies.{solid}
 use Rattle.param_grammar.specs.Joining.{ParamValue, parts_named, numbered, first_parts, joined_unit, unit_at, goes_on, is_ascii_parameter, is_doubled, HasSaidBody, SaysParams}
 use Rattle.param_2231.specs.Layout.{PiecesGive, with_semicolons, written_main, ParamsPieces}
 use Rattle.param_2231.specs.private.Parts.{IsWritableUnit}
+use Rattle.param_grammar.proofs.SaidParams.{SaysSome, HasSaidBody-says}
 use Rattle.param_2231.proofs.ParamWriting.{GivesWhere-some}
 
 -- ---- what is said as text is UTF-8
@@ -103,14 +104,6 @@ pub ParamsPieces-some : (kind : ParamKind) (open_global : Bool) (text main : Lis
 ParamsPieces-some kind open_global text main params comments says = HasSaidBody-pieces kind open_global text main params says.body
 
 -- ---- what is said
-
-abbrev pub SaysSome : ParamKind → List ℕ → Type 0
-SaysSome kind text = (main : List ℕ) × (params : List ParamValue) × (comments : List CommentValue) × SaysParams kind text main params comments
-
-pub HasSaidBody-says : (kind : ParamKind) (text main : List ℕ) (params : List ParamValue) → HasSaidBody kind text main params → SaysSome kind text
-HasSaidBody-says kind text main params body =
-    let comments = CommentsSay-some (comments_of body.has_tokens.values) (text_comments text body.tokens body.has_tokens) in
-    (main, params, comments.0, record { body = body; comments_say = comments.1 })
 
 pub ParamsPieces-says : (kind : ParamKind) (open_global : Bool) (text : List ℕ) (pieces : List (List ℕ)) → ParamsPieces kind open_global text pieces → SaysSome kind text
 ParamsPieces-says kind open_global text pieces p = HasSaidBody-says kind text p.main p.params p.body

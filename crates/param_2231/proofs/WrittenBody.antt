@@ -20,7 +20,7 @@ use Rattle.param_grammar.proofs.BodyLemmas.{IsBody-once}
 use Rattle.param_2231.specs.Layout.{PiecesGive, with_semicolons, written_main, ParamsPieces}
 use Rattle.param_2231.specs.private.Given.{SaysPlaced}
 use Rattle.param_2231.specs.private.Lines.{lines_after, AddsAfter}
-use Rattle.param_2231.proofs.GivenLemmas.{by_tokens}
+use Rattle.param_grammar.proofs.SaidParams.{by_tokens}
 
 -- ---- where there is none
 

@@ -25,7 +25,7 @@ use Rattle.param_grammar.specs.Bodies.{is_main, is_ascii_atom, is_mark_at}
 use Rattle.encoded_words.specs.private.Values.{value_of}
 use Rattle.field_tokens.specs.Trees.{Tree}
 use Rattle.param_grammar.specs.declared.Param.{Param}
-use Rattle.param_2231.proofs.SaidTrees.{HasParams-says}
+use Rattle.param_grammar.proofs.SaidTrees.{HasParams-says}
 use Rattle.param_grammar.specs.Joining.{ParamValue, HasParams, param_value, unit_at, goes_on, params_after, params_of, AreParams, is_doubled, HasSaidBody, SaysParams}
 use Rattle.param_2231.specs.Layout.{charset_of, octets_in, with_semicolons, ParamPieces}
 use Rattle.param_2231.specs.private.Parts.{IsWritableUnit}

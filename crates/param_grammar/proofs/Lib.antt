@@ -15,3 +15,7 @@ pub mod PlaceLemmas
 pub mod OrderLemmas
 pub mod PlacedFacts
 pub mod PlacedUnits
+pub mod SaidParams
+pub mod SaidTrees
+pub mod DecidePieces
+pub mod DecideParams

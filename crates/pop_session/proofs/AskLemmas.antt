@@ -1,6 +1,6 @@
 -- Messages that are asked for, one after another.
-use Rattle.std.proofs.Common.{◌≡◌, ℕ, zero, suc, ◌+◌, ◌<◌, ◌≤◌, List, [], ◌∷◌, ◌++◌, length, take, get_or, true, false, Option, None, Some, Result, refl, ap, subst, ◌∙◌, append-nil, arith, codes}
-use Rattle.std.specs.Prelude.{slice_get}
+use Rattle.std.proofs.Common.{◌≡◌, ℕ, zero, suc, ◌+◌, ◌<◌, ◌≤◌, List, [], ◌∷◌, ◌++◌, length, take, get_or, true, false, Option, None, Some, Result, Ok, Err, refl, ap, subst, ◌∙◌, append-nil, arith, codes}
+use Rattle.std.specs.Prelude.{slice_get, IfOk, OnErr}
 use Rattle.std.specs.List.{AllByRecursion, flat_map}
 use Rattle.std.proofs.lemmas.List.{take_all}
 use Rattle.std.proofs.lemmas.Option.{slice_get_within}
@@ -19,10 +19,10 @@ use Rattle.surrogate_cache.specs.Served.{Mode, legacy, enabled, is_enabled, IsSe
 use Rattle.surrogate_cache.proofs.ServedLemmas.{IsServed-by}
 use Rattle.session_core.specs.Around.{Around}
 use Rattle.session_core.specs.Doing.{Asks, AsksAndReplies, Replies, wanting}
-use Rattle.session_core.specs.Keeps.{Keeps}
+use Rattle.session_core.specs.Keeps.{Keeps, fault_of}
 use Rattle.session_core.specs.Oracles.{Oracles, AreOracles}
-use Rattle.session_core.proofs.AskingLemmas.{Asks-then, AsksAndReplies-of, AsksAndReplies-replies}
-use Rattle.session_core.proofs.KeepsLemmas.{Keeps-memory}
+use Rattle.session_core.proofs.AskingLemmas.{Asks-nil, Asks-then, AsksAndReplies-broken, AsksAndReplies-of, AsksAndReplies-replies}
+use Rattle.session_core.proofs.KeepsLemmas.{Keeps-memory, Keeps-then}
 use Rattle.pop_session.specs.declared.states.MaildropMessage.{MaildropMessage}
 use Rattle.pop_session.specs.Machine.{asked_for, asked_for_left, left_of, listed_octets, retr_reply, size_of, top_length, top_reply}
 use Rattle.pop_session.specs.Replies.{ended_lines, reply_octets}
@@ -106,6 +106,23 @@ top_shown oracles are mode a b c met one octets shown len lines asks served is s
 -- the text that was made of what was asked for is given
 pub asks_told : (a b c : Around) (met : Option Fault) (asked : List Asked) (given octets : List ℕ) → Asks a b None asked → given ≡ octets → Replies b c met given → AsksAndReplies a c met asked octets
 asks_told a b c met asked given octets asks is replies = AsksAndReplies-of a b c met asked octets asks (subst (λ (l : List ℕ). Replies b c met l) is replies)
+
+-- no message was asked for
+pub asks_nothing : {T : Type 0} (a : Around) (made : Result T Memory) → Asks a a (wanting made) []
+asks_nothing a (Ok text) = Asks-nil a
+asks_nothing a (Err memory) = record { wire = refl; store = refl; keeper = refl; fetched = λ whole. cc }
+
+-- a text is given, if it was made
+pub text_told : {T : Type 0} (said : T → List ℕ) (a b c : Around) (made : Result T Memory) (result : Result (Unit {0}) Fault) (asked : List Asked) (octets : List ℕ) → Asks a b (wanting made) asked
+    → IfOk made (λ text. said text ≡ octets) → IfOk made (λ text. Replies b c (fault_of result) (said text)) → OnErr made ((result ≡ Err fault.Memory) × (c ≡ b))
+    → AsksAndReplies a c (fault_of result) asked octets
+text_told said a b c (Ok text) result asked octets asks is told none = asks_told a b c (fault_of result) asked (said text) octets asks is told
+text_told said a b c (Err memory) result asked octets asks is told none = rw (none.0, none.1) (AsksAndReplies-broken a b fault.Memory asked asked octets (λ bad. cc) asks)
+
+pub text_keeps : {T : Type 0} (a b c : Around) (made : Result T Memory) (result : Result (Unit {0}) Fault) → Keeps a b (wanting made) → Keeps b c (fault_of result)
+    → OnErr made ((result ≡ Err fault.Memory) × (c ≡ b)) → Keeps a c (fault_of result)
+text_keeps a b c (Ok text) result before keeps none = Keeps-then a b c (fault_of result) before keeps
+text_keeps a b c (Err memory) result before keeps none = rw (none.0, none.1) before
 
 -- ---- want of memory
 

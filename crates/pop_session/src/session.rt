@@ -1,9 +1,9 @@
 //! The rows of a session, and serving it.
-ghost use Rattle.std.specs.Prelude.{◌≡◌, [], Some, IfOk, ◌⊎◌, map, false, refl};
+ghost use Rattle.std.specs.Prelude.{◌≡◌, [], Some, Err, IfOk, OnErr, ◌⊎◌, map, false, refl, string_bytes};
 ghost use Rattle.std.specs.Option.{option_copied};
 ghost use Rattle.mail_wire.specs.Numbers.{number_of};
 ghost use Rattle.session_core.specs.Desks.{IsOpen};
-ghost use Rattle.session_core.specs.Doing.{AsksAndReplies};
+ghost use Rattle.session_core.specs.Doing.{AsksAndReplies, Replies};
 ghost use Rattle.session_core.specs.Keeps.{Keeps, fault_of};
 ghost use Rattle.session_core.specs.Oracles.{WithOracles};
 ghost use Rattle.session_core.specs.Served.{met_of};
@@ -94,6 +94,19 @@ fn authorize<V: Kind, W: Wire, J: Keeper, C: Clock>(
     Ok(answer.next)
 }
 
+// Gives a text as a reply. Where there was no memory to make it, nothing is given.
+fn give_text<W: Wire, J: Keeper, C: Clock>(
+    made: Result<String, Memory>,
+    outside: &mut Outside<W, J, C>,
+) -> Result<(), Fault>
+    ensures told { IfOk made (λ text. Replies outside.old outside.new (fault_of result) (string_bytes text)) }
+    ensures none { OnErr made ((result ≡ Err Fault.Memory) × (outside.new ≡ outside.old)) }
+    ensures keeps { Keeps outside.old outside.new (fault_of result) }
+{
+    let text = made?;
+    outside.give(text.as_bytes())
+}
+
 // The replies of TRANSACTION that ask for one message.
 fn give_of_message<V: Kind, W: Wire, J: Keeper, C: Clock>(
     keyword: Keyword,
@@ -116,14 +129,8 @@ fn give_of_message<V: Kind, W: Wire, J: Keeper, C: Clock>(
     };
     match keyword {
         Keyword::Retr => retr::<V, W, J, C>(&one, outside),
-        Keyword::Uidl => {
-            let text = uidl_one(outside.alloc(), number, &one)?;
-            outside.give(text.as_bytes())
-        }
-        _ => {
-            let text = list_one::<V, W, J, C>(number, &one, outside)?;
-            outside.give(text.as_bytes())
-        }
+        Keyword::Uidl => give_text(uidl_one(outside.alloc(), number, &one), outside),
+        _ => give_text(list_one::<V, W, J, C>(number, &one, outside), outside),
     }
 }
 
@@ -166,18 +173,9 @@ fn give_reply<V: Kind, W: Wire, J: Keeper, C: Clock>(
         (Keyword::User | Keyword::Pass | Keyword::Utf8, _) => outside.give(OUT_OF_ORDER),
         (Keyword::Capa, None) => outside.give(CAPABILITIES),
         (Keyword::Noop, None) => outside.give(DONE),
-        (Keyword::Stat, None) => {
-            let text = stat::<V, W, J, C>(maildrop, outside)?;
-            outside.give(text.as_bytes())
-        }
-        (Keyword::List, None) => {
-            let text = list::<V, W, J, C>(maildrop, outside)?;
-            outside.give(text.as_bytes())
-        }
-        (Keyword::Uidl, None) => {
-            let text = uidl(outside.alloc(), maildrop)?;
-            outside.give(text.as_bytes())
-        }
+        (Keyword::Stat, None) => give_text(stat::<V, W, J, C>(maildrop, outside), outside),
+        (Keyword::List, None) => give_text(list::<V, W, J, C>(maildrop, outside), outside),
+        (Keyword::Uidl, None) => give_text(uidl(outside.alloc(), maildrop), outside),
         (Keyword::List | Keyword::Uidl | Keyword::Retr, Some(text)) => {
             give_of_message::<V, W, J, C>(command.keyword, text, maildrop, outside)
         }

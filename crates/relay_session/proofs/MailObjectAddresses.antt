@@ -7,7 +7,7 @@ use Rattle.std.proofs.lemmas.Slice.Zip.{all_zipped_more}
 use Rattle.std.proofs.lemmas.Str.{is_utf8-from_IsUtf8}
 use Rattle.address_grammar.specs.declared.Address.{Address}
 use Rattle.address_grammar.specs.Paths.{ComesInPath}
-use Rattle.address_lists.proofs.PathPiecesLemmas.{path_utf8}
+use Rattle.address_grammar.proofs.PathParts.{path_utf8}
 use Rattle.mime_tree.specs.declared.entity.Entity.{Entity as MimeEntity}
 use Rattle.mime_tree.specs.Tree.{HasTree}
 use Rattle.kept_mail.specs.declared.kept.Entry.{Entry}

@@ -6,7 +6,7 @@ use Rattle.mime_tree.specs.Tree.{HasTree}
 use Rattle.mime_tree.proofs.DecidingTrees.{decide_tree}
 use Rattle.journal_records.specs.Stored.{IsStored}
 use Rattle.surrogate_cache.proofs.ServedLemmas.{surrogates_given}
-use Rattle.address_lists.proofs.PathPiecesLemmas.{paths_read}
+use Rattle.address_grammar.proofs.DecidePaths.{paths_read}
 use Rattle.imap_grammar.proofs.DecidingDue.{commands_read}
 use Rattle.imap_mailboxes.proofs.ReadMailboxes.{mailboxes_read}
 use Rattle.imap_views.proofs.GivenViews.{outlines_given, views_given}

@@ -6,7 +6,7 @@ use Rattle.address_grammar.specs.declared.Address.{Address}
 use Rattle.address_grammar.specs.Addresses.{address_text}
 use Rattle.address_grammar.specs.Paths.{in_angles}
 use Rattle.address_grammar.proofs.PathLemmas.{HasPath-once}
-use Rattle.address_lists.proofs.PathPiecesLemmas.{path_parts}
+use Rattle.address_grammar.proofs.PathParts.{path_parts}
 use Rattle.journal_records.specs.Addresses.{IsTextOfAddress}
 use Rattle.journal_records.specs.declared.limits.TheConstants.{TEXT_MAX}
 use Rattle.setup_command.specs.WordForms.{IsAccountText, IsAccountCommand}

@@ -196,37 +196,22 @@ range_where_pushed octets pieces size span has room = elim (cases_Bool (nat_lt 0
       rw (none, same) (record { has = subst (λ ps. HoldsPieces octets ps size) (sym (append-nil pieces)) has; seen_is = ap (pieces_of octets) (append-nil pieces) ∙ sym (append-nil (pieces_of octets pieces)) })
 ]
 
--- where octets were put last that no piece has yet
-pub octets_pushed : (octets more : List ℕ) (pieces : List Piece) (size : ℕ) → HoldsPieces octets pieces size → length (octets ++ more) < 2 ^ 63 → IsPushed (octets ++ more) pieces size (pieces_of octets pieces)
-octets_pushed octets more pieces size has few =
-    let seen = pieces_longer octets more 0 pieces size has.placed in
-    let new = ap new_size seen in
-    let ranges = ap range_size seen in
-    record {
-      has = record {
-        placed = are_longer octets more 0 pieces size has.placed;
-        new = omega (arith, has.new, length-append octets more);
-        octets_few = few;
-        ranges_few = omega (arith, has.ranges_few);
-      };
-      seen_is = seen;
-    }
-
+-- new octets are a piece
 pub new_pushed : (octets more : List ℕ) (pieces : List Piece) (size : ℕ) → HoldsPieces octets pieces size → length (octets ++ more) < 2 ^ 63
     → IsPushed (octets ++ more) (pieces ++ record { offset = size; is_new = true; range = record { at = length octets; len = length more } } ∷ []) (size + length more) (pieces_of octets pieces ++ New more ∷ [])
 new_pushed octets more pieces size has few =
     let piece : Piece = record { offset = size; is_new = true; range = record { at = length octets; len = length more } } in
-    let longer = octets_pushed octets more pieces size has few in
+    let longer = pieces_longer octets more 0 pieces size has.placed in
     let whole = length-append octets more in
     let seen : pieces_of (octets ++ more) (pieces ++ piece ∷ []) ≡ pieces_of octets pieces ++ New more ∷ [] =
-    map_push (piece_of (octets ++ more)) pieces piece ∙ ap (λ front. front ++ New (slice_range (octets ++ more) (length octets) (length octets + length more)) ∷ []) longer.seen_is
+    map_push (piece_of (octets ++ more)) pieces piece ∙ ap (λ front. front ++ New (slice_range (octets ++ more) (length octets) (length octets + length more)) ∷ []) longer
     ∙ ap (λ text. pieces_of octets pieces ++ New text ∷ []) (new_piece octets more) in
     let new : new_size (pieces_of (octets ++ more) (pieces ++ piece ∷ [])) ≡ length more + new_size (pieces_of octets pieces) = omega (arith, ap new_size seen, new_size-push (pieces_of octets pieces) (New more)) in
     let ranges : range_size (pieces_of (octets ++ more) (pieces ++ piece ∷ [])) ≡ range_size (pieces_of octets pieces) = omega (arith, ap range_size seen, range_size-push (pieces_of octets pieces) (New more)) in
     record {
       has = record {
-        placed = pieces_push (octets ++ more) 0 pieces size piece longer.has.placed (record { offset = refl; fits = λ is. omega (arith, whole) });
-        new = omega (arith, has.new);
+        placed = pieces_push (octets ++ more) 0 pieces size piece (are_longer octets more 0 pieces size has.placed) (record { offset = refl; fits = λ is. omega (arith, whole) });
+        new = omega (arith, has.new, whole);
         octets_few = few;
         ranges_few = omega (arith, has.ranges_few);
       };
@@ -267,11 +252,9 @@ pub new_counted : (octets more : List ℕ) (pieces : List Piece) (size : ℕ) �
 new_counted octets more pieces size has few =
     omega (arith, few, length-append octets more, has.new, has.ranges_few, pieces_size octets 0 pieces size has.placed, size_parts (pieces_of octets pieces))
 
--- a field that was made behind the octets, and a range before it: what is held at each step
+-- a field that was made behind the octets, and a range before it: where it ends
 pub record ServedSteps (octets field made : List ℕ) (pieces : List Piece) (size at count : ℕ) (kept : Span) : Type 0 where
   pub room : size + kept.len < 2 ^ 64
-  pub first : HoldsPieces made pieces size
-  pub second : HoldsPieces made (pieces ++ range_at size kept) (size + kept.len)
   pub more : (size + kept.len) + (count - at) < 2 ^ 64
   pub third : IsPushed made ((pieces ++ range_at size kept) ++ piece_at (size + kept.len) true (record { at = at; len = count - at }) ∷ []) (size + kept.len + (count - at))
       ((pieces_of octets pieces ++ range_where kept) ++ New field ∷ [])
@@ -285,8 +268,6 @@ served_steps octets field made pieces size at count kept has room made_is count_
     let counted = new_counted octets field (pieces ++ range_at size kept) (size + kept.len) ranged.has all in
     record {
       room = range_counted octets pieces size kept.len has room;
-      first = subst (λ xs. HoldsPieces xs pieces size) (sym made_is) (octets_pushed octets field pieces size has all).has;
-      second = subst (λ xs. HoldsPieces xs (pieces ++ range_at size kept) (size + kept.len)) (sym made_is) (octets_pushed octets field (pieces ++ range_at size kept) (size + kept.len) ranged.has all).has;
       more = omega (arith, counted, len);
       third = subst (λ xs. IsPushed xs ((pieces ++ range_at size kept) ++ piece_at (size + kept.len) true (record { at = at; len = count - at }) ∷ []) (size + kept.len + (count - at))
           ((pieces_of octets pieces ++ range_where kept) ++ New field ∷ [])) (sym made_is) (served_pushed_with octets field pieces size at (count - at) kept has room all at_is len);

@@ -8,7 +8,7 @@ use Rattle.field_tokens.specs.Comments.{CommentValue}
 use Rattle.param_grammar.specs.declared.ParamKind.TheVariants.{Content}
 use Rattle.param_grammar.specs.Joining.{ParamValue, SaysParams}
 use Rattle.param_2231.specs.ParamsReadBack.{served_main}
-use Rattle.param_2231.proofs.ParamsOnce.{SaysParams-once}
+use Rattle.param_grammar.proofs.SaidParams.{SaysParams-once}
 use Rattle.field_downgrade.specs.declared.kind.Kind.{Kind}
 use Rattle.field_downgrade.specs.declared.kind.Kind.TheVariants.{Params, Plain}
 use Rattle.field_downgrade.specs.Kinds.{kind_named}

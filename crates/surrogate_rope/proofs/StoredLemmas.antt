@@ -1,5 +1,5 @@
 -- Stored forms: how many octets they have, and what stands where in them.
-use Rattle.std.proofs.Common.{◌≡◌, ℕ, zero, suc, map, ◌+◌, ◌*◌, ◌^◌, ◌<◌, ◌≤◌, List, [], ◌∷◌, ◌++◌, length, take, drop, get_or, refl, sym, ap, ◌∙◌, arith, append_assoc, append-nil, length-append, length-drop, true, false, None}
+use Rattle.std.proofs.Common.{◌≡◌, ℕ, zero, suc, map, ◌+◌, ◌*◌, ◌^◌, ◌<◌, ◌≤◌, List, [], ◌∷◌, ◌++◌, length, take, drop, replicate, get_or, refl, sym, ap, ◌∙◌, arith, append_assoc, append-nil, length-append, length-drop, true, false, None}
 use Rattle.std.specs.Prelude.{slice_range}
 use Rattle.std.specs.Int.{w64, from_be_bytes}
 use Rattle.std.specs.List.{AllByRecursion, flat_map}
@@ -10,6 +10,7 @@ use Rattle.mime_tree.specs.declared.entity.Shape.TheVariants.{Leaf, Multipart, M
 use Rattle.mime_tree.specs.Outlines.{Outline, seen_outline}
 use Rattle.mime_tree.specs.declared.outlines.Outline.{Outline as OutlineOf}
 use Rattle.mime_tree.proofs.NewEntities.{slice_length}
+use Rattle.mail_wire.specs.declared.values.Span.{Span}
 use Rattle.surrogate_rope.specs.declared.pieces.Piece.{Piece}
 use Rattle.surrogate_rope.specs.private.Pieces.{piece_of}
 use Rattle.surrogate_rope.specs.Ropes.{RopeValue, RopePiece, Range, New, new_size}
@@ -137,11 +138,11 @@ piece_stored old middle new pieces piece so_far one = record {
 }
 
 -- all parts are put one behind another
-pub all_stored : (rope : RopeValue) (n m : ℕ) (one two three four made : List ℕ) → n ≡ length rope.pieces → m ≡ length rope.entities → one ≡ [] ++ number n → two ≡ one ++ number m → three ≡ two ++ number rope.rewritten
+pub all_stored : (rope : RopeValue) (n m : ℕ) (three four made : List ℕ) → n ≡ length rope.pieces → m ≡ length rope.entities → three ≡ [] ++ (number n ++ (number m ++ number rope.rewritten))
     → StoresPieces three four rope.pieces → StoresEntities four made rope.entities → HasFewPieces rope.pieces rope.rewritten → n < 2 ^ 64 → m < 2 ^ 64 → rope.rewritten < 2 ^ 64 → IsStoredRope made rope
-all_stored rope n m one two three four made n_is m_is one_is two_is three_is pieces entities few n_fits m_fits rewritten_fits =
+all_stored rope n m three four made n_is m_is three_is pieces entities few n_fits m_fits rewritten_fits =
     let front : three ≡ (([] ++ number (length rope.pieces)) ++ number (length rope.entities)) ++ number rope.rewritten =
-    three_is ∙ ap (λ text. text ++ number rope.rewritten) (two_is ∙ ap (λ text. text ++ number m) (one_is ∙ ap (λ k. [] ++ number k) n_is) ∙ ap (λ k. ([] ++ number (length rope.pieces)) ++ number k) m_is) in
+    three_is ∙ ap (λ k. number k ++ (number m ++ number rope.rewritten)) n_is ∙ ap (λ k. number (length rope.pieces) ++ (number k ++ number rope.rewritten)) m_is in
     let whole : four ≡ ((([] ++ number (length rope.pieces)) ++ number (length rope.entities)) ++ number rope.rewritten) ++ flat_map stored_piece rope.pieces =
     pieces.form ∙ ap (λ text. text ++ flat_map stored_piece rope.pieces) front in
     record {
@@ -155,41 +156,30 @@ all_stored rope n m one two three four made n_is m_is one_is two_is three_is pie
 
 -- ---- one piece, one entity
 
-pub new_stored : (octets : List ℕ) (piece : Piece) (old a b new : List ℕ) → a ≡ old ++ 1 ∷ [] → b ≡ a ++ number piece.range.len → new ≡ b ++ slice_range octets piece.range.at (piece.range.at + piece.range.len)
+pub counts_formed : (n m k : ℕ) (one two form : List ℕ) → one ≡ take 0 (replicate 24 0) ++ (number n ++ drop 8 (replicate 24 0)) → two ≡ take 8 one ++ (number m ++ drop 16 one)
+    → form ≡ take 16 two ++ (number k ++ drop 24 two) → form ≡ number n ++ (number m ++ number k)
+counts_formed n m k one two form one_is two_is form_is = rw (form_is, two_is, one_is) refl
+
+pub range_formed : (range : Span) (one form : List ℕ) → one ≡ take 1 (replicate 17 0) ++ (number range.at ++ drop 9 (replicate 17 0)) → form ≡ take 9 one ++ (number range.len ++ drop 17 one)
+    → form ≡ stored_piece (Range range)
+range_formed range one form one_is form_is = rw (form_is, one_is) refl
+
+pub entity_formed : (entity : Outline) (shape : ℕ) (a b c d form : List ℕ) → shape ≡ shape_octet entity.shape → a ≡ take 0 (replicate 41 shape) ++ (number (parent_number entity.parent) ++ drop 8 (replicate 41 shape))
+    → b ≡ take 8 a ++ (number entity.depth ++ drop 16 a) → c ≡ take 16 b ++ (number entity.at ++ drop 24 b) → d ≡ take 24 c ++ (number entity.body ++ drop 32 c)
+    → form ≡ take 32 d ++ (number entity.end ++ drop 40 d) → form ≡ stored_entity entity
+entity_formed entity shape a b c d form shape_is a_is b_is c_is d_is form_is = rw (form_is, d_is, c_is, b_is, a_is, shape_is) refl
+
+pub new_stored : (octets : List ℕ) (piece : Piece) (old a new : List ℕ) → a ≡ old ++ 1 ∷ number piece.range.len → new ≡ a ++ slice_range octets piece.range.at (piece.range.at + piece.range.len)
     → piece.range.at + piece.range.len ≤ length octets → piece.is_new ≡ true → piece.range.len < 2 ^ 64 → StoresPiece old new (piece_of octets piece)
-new_stored octets piece old a b new a_is b_is new_is fits is_new small =
+new_stored octets piece old a new a_is new_is fits is_new small =
     let text : List ℕ = slice_range octets piece.range.at (piece.range.at + piece.range.len) in
     let size : length text ≡ piece.range.len = omega (arith, slice_length octets piece.range.at (piece.range.at + piece.range.len) (omega arith) fits) in
     let form : new ≡ old ++ (1 ∷ (number (length text) ++ text)) =
-    new_is ∙ ap (λ front. front ++ text) (b_is ∙ ap (λ front. front ++ number piece.range.len) a_is) ∙ append_assoc (old ++ 1 ∷ []) (number piece.range.len) text ∙ append_assoc old (1 ∷ []) (number piece.range.len ++ text)
-    ∙ ap (λ n. old ++ (1 ∷ (number n ++ text))) (sym size) in
+    new_is ∙ ap (λ front. front ++ text) a_is ∙ append_assoc old (1 ∷ number piece.range.len) text ∙ ap (λ n. old ++ (1 ∷ (number n ++ text))) (sym size) in
     rw is_new (record { form = form; small = omega (arith, size, small) })
 
-pub range_stored : (octets : List ℕ) (piece : Piece) (old a b new : List ℕ) → a ≡ old ++ 0 ∷ [] → b ≡ a ++ number piece.range.at → new ≡ b ++ number piece.range.len → piece.is_new ≡ false → piece.range.at < 2 ^ 64
-    → piece.range.len < 2 ^ 64 → StoresPiece old new (piece_of octets piece)
-range_stored octets piece old a b new a_is b_is new_is is_old at_small len_small =
-    let form : new ≡ old ++ (0 ∷ (number piece.range.at ++ number piece.range.len)) =
-    new_is ∙ ap (λ front. front ++ number piece.range.len) (b_is ∙ ap (λ front. front ++ number piece.range.at) a_is) ∙ append_assoc (old ++ 0 ∷ []) (number piece.range.at) (number piece.range.len)
-    ∙ append_assoc old (0 ∷ []) (number piece.range.at ++ number piece.range.len) in
-    rw is_old (record { form = form; small = (at_small, len_small) })
-
-pub entity_put : (entity : Outline) (old a b c d e new : List ℕ) → a ≡ old ++ number (parent_number entity.parent) → b ≡ a ++ number entity.depth → c ≡ b ++ number entity.at → d ≡ c ++ number entity.body
-    → e ≡ d ++ number entity.end → new ≡ e ++ shape_octet entity.shape ∷ [] → IsEntitySmall entity → StoresEntity old new entity
-entity_put entity old a b c d e new a_is b_is c_is d_is e_is new_is small =
-    let p = number (parent_number entity.parent) in
-    let q = number entity.depth in
-    let r = number entity.at in
-    let s = number entity.body in
-    let t = number entity.end in
-    let last : List ℕ = shape_octet entity.shape ∷ [] in
-    let whole : new ≡ ((((old ++ p) ++ q) ++ r) ++ s) ++ (t ++ last) =
-    new_is ∙ ap (λ front. front ++ last) (e_is ∙ ap (λ front. front ++ t) (d_is ∙ ap (λ front. front ++ s) (c_is ∙ ap (λ front. front ++ r) (b_is ∙ ap (λ front. front ++ q) a_is))))
-    ∙ append_assoc ((((old ++ p) ++ q) ++ r) ++ s) t last in
-    record {
-      form = whole ∙ append_assoc (((old ++ p) ++ q) ++ r) s (t ++ last) ∙ append_assoc ((old ++ p) ++ q) r (s ++ (t ++ last)) ∙ append_assoc (old ++ p) q (r ++ (s ++ (t ++ last)))
-          ∙ append_assoc old p (q ++ (r ++ (s ++ (t ++ last))));
-      small = small;
-    }
+pub range_stored : (octets : List ℕ) (piece : Piece) (old new : List ℕ) → new ≡ old ++ stored_piece (Range piece.range) → piece.is_new ≡ false → IsPieceSmall (Range piece.range) → StoresPiece old new (piece_of octets piece)
+range_stored octets piece old new new_is is_old small = rw is_old (record { form = new_is; small = small })
 
 -- what is read where there is none
 abbrev pub no_outline : OutlineOf

@@ -1,5 +1,5 @@
 //! The pieces of a surrogate: ranges of its message, and new octets.
-ghost use Rattle.std.specs.Prelude.{◌≡◌, ◌+◌, ◌-◌, ◌^◌, ◌<◌, ◌≤◌, ◌++◌, ◌∷◌, [], length, take, drop, min, slice_index_or, IfOk, OnOk, OnErr};
+ghost use Rattle.std.specs.Prelude.{◌≡◌, ◌+◌, ◌-◌, ◌^◌, ◌<◌, ◌≤◌, ◌++◌, ◌∷◌, [], length, take, drop, min, slice_index_or, vec_len, vec_capacity, IfOk, OnOk};
 ghost use Rattle.utf8_fields.specs.Parts.{IsField};
 ghost use Rattle.surrogate_rope.specs.Ropes.{RopePiece, AreWithin, piece_octets, joined_pieces, size_of, range_size, new_size};
 ghost use Rattle.surrogate_rope.specs.private.Pieces.{IsInPiece, piece_at, range_at, range_where, AddsServed};
@@ -41,35 +41,36 @@ impl Model for Pieces {
     ghost invariant = { λ a. HoldsPieces a.octets a.pieces.items a.size };
 }
 
-// Puts a piece last behind those that have so many octets, and answers how many all have.
-fn add_piece(
-    pieces: &mut Vec<Piece>,
-    size: usize,
-    is_new: bool,
-    range: Span,
-) -> Result<usize, Memory>
-    requires { size + range.len < 2 ^ 64 }
-    ensures added { OnOk result (pieces.new.items ≡ pieces.old.items ++ piece_at size is_new range ∷ []) }
-    ensures size { IfOk result (λ all. all ≡ size + range.len) }
-    ensures err { OnErr result (pieces.new.items ≡ pieces.old.items) }
+// Puts a piece last behind those that have so many octets, and answers how many all have. There is room for it.
+fn add_piece(pieces: &mut Vec<Piece>, size: usize, is_new: bool, range: Span) -> usize
+    requires size { size + range.len < 2 ^ 64 }
+    requires room { vec_len pieces.old < vec_capacity pieces.old }
+    ensures added { pieces.new.items ≡ pieces.old.items ++ piece_at size is_new range ∷ [] }
+    ensures size { result ≡ size + range.len }
+    ensures len { vec_len pieces.new ≡ vec_len pieces.old + 1 }
+    ensures room { vec_capacity pieces.old ≤ vec_capacity pieces.new }
 {
-    pieces.push(Piece {
+    let Ok(()) = pieces.push(Piece {
         offset: size,
         is_new,
         range,
-    })?;
-    Ok(size + range.len)
+    }) else {
+        unreachable!();
+    };
+    size + range.len
 }
 
 // The same of a range of the message, if it has octets.
-fn add_range(pieces: &mut Vec<Piece>, size: usize, range: Span) -> Result<usize, Memory>
-    requires { size + range.len < 2 ^ 64 }
-    ensures added { OnOk result (pieces.new.items ≡ pieces.old.items ++ range_at size range) }
-    ensures size { IfOk result (λ all. all ≡ size + range.len) }
-    ensures err { OnErr result (pieces.new.items ≡ pieces.old.items) }
+fn add_range(pieces: &mut Vec<Piece>, size: usize, range: Span) -> usize
+    requires size { size + range.len < 2 ^ 64 }
+    requires room { vec_len pieces.old < vec_capacity pieces.old }
+    ensures added { pieces.new.items ≡ pieces.old.items ++ range_at size range }
+    ensures size { result ≡ size + range.len }
+    ensures len { vec_len pieces.new ≤ vec_len pieces.old + 1 }
+    ensures room { vec_capacity pieces.old ≤ vec_capacity pieces.new }
 {
     if range.len == 0 {
-        return Ok(size);
+        return size;
     }
     add_piece(pieces, size, false, range)
 }
@@ -95,7 +96,7 @@ impl Pieces {
 
     /// How many new octets are kept.
     pub fn kept(&self) -> usize
-        ensures { new_size self.now ≤ result }
+        ensures { result ≡ new_size self.now }
     {
         self.octets.len()
     }
@@ -126,18 +127,14 @@ impl Pieces {
         ensures pieces { OnOk result (self.new ≡ self.old ++ RopePiece.New octets.now ∷ []) }
         ensures few { OnOk result (new_size self.new < 2 ^ 63) }
     {
+        self.pieces.reserve(1)?;
         self.octets.push_slice(octets)?;
         let end = count_of(self.octets.as_slice());
         let range = Span {
             at: end - octets.len(),
             len: octets.len(),
         };
-        self.pieces.push(Piece {
-            offset: self.size,
-            is_new: true,
-            range,
-        })?;
-        self.size += range.len;
+        self.size = add_piece(&mut self.pieces, self.size, true, range);
         Ok(())
     }
 
@@ -155,6 +152,8 @@ impl Pieces {
         ensures pieces { IfOk result (λ is_new. AddsServed open_global raw.now kept is_new self.old self.new) }
         ensures few { OnOk result (new_size self.new < 2 ^ 63) }
     {
+        // that of the field, and of the range before it
+        self.pieces.reserve(2)?;
         let at = self.octets.len();
         let Ok(is_new) = push_downgraded(alloc, raw, open_global, &mut self.octets) else {
             // What was put there isn't known, so there are no pieces then.
@@ -167,8 +166,8 @@ impl Pieces {
             return Ok(false);
         }
         let len = count_of(self.octets.as_slice()) - at;
-        self.size = add_range(&mut self.pieces, self.size, kept)?;
-        self.size = add_piece(&mut self.pieces, self.size, true, Span { at, len })?;
+        self.size = add_range(&mut self.pieces, self.size, kept);
+        self.size = add_piece(&mut self.pieces, self.size, true, Span { at, len });
         Ok(true)
     }
 

@@ -14,19 +14,52 @@ use mail_wire::{Memory, Octets, Span};
 use mime_tree::{Outline, Shape};
 use std::alloc::Global;
 
-// How many octets the counts have, a piece at most but for new octets, and an entity.
+// How many octets the counts have, a range of the message, a new piece without its octets, and an entity.
 const COUNTS: usize = 24;
 
-const PIECE: usize = 17;
+const RANGE: usize = 17;
+
+const NEW: usize = 9;
 
 const ENTITY: usize = 41;
 
-// Puts a number last.
-fn store_number(stored: &mut Octets, n: usize) -> Result<(), Memory>
-    ensures form { OnOk result (stored.new ≡ stored.old ++ number n) }
+// Writes a number at a place of a form.
+fn write_number(form: &mut [u8], at: usize, n: usize)
+    requires { at + 8 ≤ length form.old }
+    ensures form { form.new ≡ take at form.old ++ (number n ++ drop (at + 8) form.old) }
     ensures small { n < 2 ^ 64 }
 {
-    stored.push_slice(&(n as u64).to_be_bytes())
+    form[at..at + 8].copy_from_slice(&(n as u64).to_be_bytes());
+}
+
+fn counts_form(pieces: usize, entities: usize, rewritten: usize) -> [u8; COUNTS]
+    ensures form { result ≡ number pieces ++ (number entities ++ number rewritten) }
+    ensures small { (pieces < 2 ^ 64) × (entities < 2 ^ 64) × (rewritten < 2 ^ 64) }
+{
+    let mut form = [0; COUNTS];
+    write_number(&mut form, 0, pieces);
+    write_number(&mut form, 8, entities);
+    write_number(&mut form, 16, rewritten);
+    form
+}
+
+fn range_form(range: Span) -> [u8; RANGE]
+    ensures form { result ≡ stored_piece (RopePiece.Range range) }
+    ensures small { IsPieceSmall (RopePiece.Range range) }
+{
+    let mut form = [0; RANGE];
+    write_number(&mut form, 1, range.at);
+    write_number(&mut form, 9, range.len);
+    form
+}
+
+fn new_form(len: usize) -> [u8; NEW]
+    ensures form { result ≡ 1 ∷ number len }
+    ensures small { len < 2 ^ 64 }
+{
+    let mut form = [1; NEW];
+    write_number(&mut form, 1, len);
+    form
 }
 
 /// Puts the stored form of a piece last. The octets are those of all new pieces.
@@ -36,13 +69,10 @@ pub fn store_piece(stored: &mut Octets, octets: &[u8], piece: &Piece) -> Result<
 {
     let range = piece.range;
     if piece.is_new {
-        stored.push(1)?;
-        store_number(stored, range.len)?;
+        stored.push_slice(&new_form(range.len))?;
         stored.push_slice(&octets[range.at..range.at + range.len])
     } else {
-        stored.push(0)?;
-        store_number(stored, range.at)?;
-        store_number(stored, range.len)
+        stored.push_slice(&range_form(range))
     }
 }
 
@@ -67,17 +97,27 @@ fn number_of(parent: Option<usize>) -> usize
     }
 }
 
+fn entity_form(entity: &Outline) -> [u8; ENTITY]
+    requires { HasSmallParent (seen_outline entity.now) }
+    ensures form { result ≡ stored_entity (seen_outline entity.now) }
+    ensures small { IsEntitySmall (seen_outline entity.now) }
+{
+    // the shape stands behind the numbers
+    let mut form = [octet_of(entity.shape); ENTITY];
+    write_number(&mut form, 0, number_of(entity.parent));
+    write_number(&mut form, 8, entity.depth as usize);
+    write_number(&mut form, 16, entity.at);
+    write_number(&mut form, 24, entity.body);
+    write_number(&mut form, 32, entity.end);
+    form
+}
+
 // Puts the stored form of an entity last.
 fn store_entity(stored: &mut Octets, entity: &Outline) -> Result<(), Memory>
     requires { HasSmallParent (seen_outline entity.now) }
     ensures { OnOk result (StoresEntity stored.old stored.new (seen_outline entity.now)) }
 {
-    store_number(stored, number_of(entity.parent))?;
-    store_number(stored, entity.depth as usize)?;
-    store_number(stored, entity.at)?;
-    store_number(stored, entity.body)?;
-    store_number(stored, entity.end)?;
-    stored.push(octet_of(entity.shape))
+    stored.push_slice(&entity_form(entity))
 }
 
 // The number that is stored at this place.
@@ -200,7 +240,7 @@ fn load_entities(
 impl Rope {
     // How many octets the stored form has at most, or the greatest number. It only says what room is made first.
     fn stored_room(&self) -> usize {
-        let pieces = self.pieces.len().saturating_mul(PIECE);
+        let pieces = self.pieces.len().saturating_mul(RANGE);
         let entities = self.outlines.len().saturating_mul(ENTITY);
         pieces
             .saturating_add(entities)
@@ -214,9 +254,8 @@ impl Rope {
         ensures few { IfOk result (λ made. length made ≤ stored_most self.now) }
     {
         let mut stored = room_for(alloc, self.stored_room())?;
-        store_number(&mut stored, self.pieces.len())?;
-        store_number(&mut stored, self.outlines.len())?;
-        store_number(&mut stored, self.rewritten)?;
+        let counts = counts_form(self.pieces.len(), self.outlines.len(), self.rewritten);
+        stored.push_slice(&counts)?;
         self.pieces.store(&mut stored)?;
         store_entities(&mut stored, &self.outlines)?;
         Ok(stored)

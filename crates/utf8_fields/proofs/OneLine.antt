@@ -52,9 +52,12 @@ line_unfolded (x ∷ rest) lines =
     let h = rw (take-length (x ∷ rest), drop-length (x ∷ rest)) at (lines (omega arith)) in
     one_line (x ∷ rest) (h ∙ ap (λ more. (x ∷ rest) ∷ more) (lines_of-nil [] refl))
 
-pub line_value : {E : Type 0} (body text : List ℕ) (n : ℕ) (made : Result (List ℕ) E) → n ≡ length body
-    → (0 < length body → lines_of body ≡ take n body ∷ lines_of (drop n body)) → IsTrimmed is_white body text → IfOk made (λ value. value ≡ text) → IfOk made (HasValue body)
-line_value body text n (Ok value) whole lines trimmed same =
+pub line_value : (body text : List ℕ) (n : ℕ) → n ≡ length body → (0 < length body → lines_of body ≡ take n body ∷ lines_of (drop n body)) → IsTrimmed is_white body text → HasValue body text
+line_value body text n whole lines trimmed =
     let first = subst (λ k. 0 < length body → lines_of body ≡ take k body ∷ lines_of (drop k body)) whole lines in
-    subst (IsTrimmed is_white (unfolded body)) (sym same) (subst (λ s. IsTrimmed is_white s text) (sym (line_unfolded body first)) trimmed)
-line_value body text n (Err fault) whole lines trimmed same = tt
+    subst (λ s. IsTrimmed is_white s text) (sym (line_unfolded body first)) trimmed
+
+-- a copy of the value is the value
+pub copied_value : {E : Type 0} (body text : List ℕ) (made : Result (List ℕ) E) → HasValue body text → IfOk made (λ value. value ≡ text) → IfOk made (HasValue body)
+copied_value body text (Ok value) has same = subst (HasValue body) (sym same) has
+copied_value body text (Err fault) has same = tt

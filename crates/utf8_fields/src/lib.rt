@@ -10,4 +10,4 @@ mod values;
 pub use block::{Block, Field, FieldFault, Fields};
 pub use parts::{Parts, split_ending, split_field};
 pub use reading::{read_block, read_block_at, write_block};
-pub use values::{trim, value_of};
+pub use values::{line_value, trim, value_of};

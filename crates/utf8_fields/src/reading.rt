@@ -14,7 +14,7 @@ ghost use Rattle.utf8_fields.specs.private.Steps.{BeginsColon, IsBadLine, AreFur
 
 use crate::block::{Block, Field, FieldFault, Fields};
 use crate::parts::split_name;
-use mail_wire::{Memory, Octets, Span, first_faulty, is_white, line_len, split_white};
+use mail_wire::{Memory, Octets, Span, first_faulty, is_utf8, is_white, line_len, split_white};
 use std::alloc::Global;
 
 // Whether a colon comes first.
@@ -70,7 +70,7 @@ fn check_line(line: &[u8], at: usize) -> Result<(), FieldFault>
         return Err(FieldFault::NotField { at });
     }
     // most lines pass, and this test is much faster than the one that tells a place
-    if simdutf8::is_utf8(line) {
+    if is_utf8(line) {
         return Ok(());
     }
     match simdutf8::compat::from_utf8(line) {

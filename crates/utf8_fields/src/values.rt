@@ -1,5 +1,5 @@
 //! The value of a field's body.
-ghost use Rattle.std.specs.Prelude.{IfOk};
+ghost use Rattle.std.specs.Prelude.{IfOk, IfSome};
 ghost use Rattle.mail_wire.specs.Octets.{is_white};
 ghost use Rattle.mail_wire.specs.Spans.{IsTrimmed};
 ghost use Rattle.utf8_fields.specs.Parts.{HasValue};
@@ -30,13 +30,25 @@ pub fn trim(octets: &[u8]) -> &[u8]
     trim_end(rest)
 }
 
+/// The value of a body that is one line, in its place, and nothing where it may be of more.
+pub fn line_value(body: &[u8]) -> Option<&[u8]>
+    ensures { IfSome result (λ value. HasValue body.now value.now) }
+{
+    // no fold stands in one line
+    if line_len(body) == body.len() {
+        Some(trim(body))
+    } else {
+        None
+    }
+}
+
 /// The value of a body.
 pub fn value_of(alloc: Global, body: &[u8]) -> Result<Octets, Memory>
     ensures { IfOk result (HasValue body.now) }
 {
-    // most bodies are one line, and no fold stands in it
-    if line_len(body) == body.len() {
-        return Octets::from_slice(alloc, trim(body));
+    // most bodies are one line
+    if let Some(value) = line_value(body) {
+        return Octets::from_slice(alloc, value);
     }
     let unfolded = unfold(alloc, body)?;
     Octets::from_slice(alloc, trim(unfolded.as_slice()))

@@ -7,7 +7,7 @@ use Rattle.address_grammar.specs.Addresses.{local_text, address_text}
 use Rattle.address_grammar.specs.Paths.{ComesInPath, HasPath, in_angles}
 use Rattle.address_grammar.proofs.WritingLemmas.{path_again}
 use Rattle.utf8_reports.specs.private.Reading.{SpellsAddress}
-use Rattle.address_lists.proofs.PathPiecesLemmas.{path_parts}
+use Rattle.address_grammar.proofs.PathParts.{path_parts}
 use Rattle.address_lists.proofs.WritableTokens.{local_utf8}
 
 at_sign : IsUtf8 (64 ∷ [])

@@ -11,7 +11,7 @@ use Rattle.mail_wire.specs.Folds.{unfolded}
 use Rattle.mail_wire.specs.Spans.{Stops}
 use Rattle.mail_wire.proofs.AllLemmas.{pass-weaker, pass-append}
 use Rattle.mail_wire.proofs.Folded.{IsFolded-plain}
-use Rattle.encoded_words.proofs.BWords.{ascii_literal}
+use Rattle.encoded_words.proofs.WrittenWords.{ascii_literal}
 use Rattle.encoded_words.specs.Words.{Text}
 use Rattle.field_tokens.specs.declared.Style.TheVariants.{Mime}
 use Rattle.field_tokens.specs.declared.Token.{Token}

@@ -35,7 +35,7 @@ ODD_DOMAINS = [
 ]
 ADDRESS_SOUP = [*"@@@<>:;,.\"", "a@b", "a@é", "é@b", "<a@é>", "é:", "x:", ":;", ";", ", ", "<@x:", "<@é,@y:", "a", "é", "[é]", '""', '"."', "(x)"]
 COMMAS = [",", ", ", " ,", ",\r\n\t"]
-B_WORDS = re.compile(r"((?:=\?UTF-8\?B\?[^?]*\?=[ \t]*)+):;")
+WORDS = re.compile(r"((?:=\?UTF-8\?[BQ]\?[^?]*\?=[ \t]*)+):;")
 
 
 def local(rng):
@@ -163,7 +163,7 @@ def with_a_labels(address):
 def found_by_python(value):
     """The same of the surrogate, which may have ASCII groups without members among its groups."""
     served = [(decoded(of_whom), address) for of_whom, address in by_python(value)]
-    return served, [decoded(words.strip(" \t")) for words in B_WORDS.findall(value)]
+    return served, [decoded(words.strip(" \t")) for words in WORDS.findall(value)]
 
 
 def decoded(text):

@@ -1,12 +1,12 @@
 """The field that is made of one with non-ASCII octets. Nothing here was taken from the program.
 
 A made field is its name, a colon, and pieces, each on a line of its own behind one white octet, a space unless said
-otherwise. To write units means: each text as B encoded words, each opaque unit as the word that it came from.
+otherwise. To write units means: each text as its encoded words, each opaque unit as the word that it came from.
 
 - Unstructured fields. A stretch is a longest list of neighbouring words that aren't encoded words. In one with non-ASCII
   words the core goes from the first of them to the last. Its text is its words, the white between them, and a part of the
   white at each side: beside an encoded word all of it, beside another word all but the octet farthest from the core, and
-  at an end of the value nothing. It becomes B words. What stands between is one piece, copied with its folds. Before a
+  at an end of the value nothing. It becomes encoded words. What stands between is one piece, copied with its folds. Before a
   core, and before a copied piece that follows one, stands the octet of the white there that was left out, or a space.
 - Keywords are phrases divided by commas, each with comments around it. The pieces of a phrase are followed by the other
   comments of its place, and a piece `,` stands between two places.
@@ -15,7 +15,7 @@ otherwise. To write units means: each text as B encoded words, each opaque unit 
 - Date, Resent-Date, MIME-Version and Content-Transfer-Encoding are ASCII but for comments: one piece has the tokens with one
   space where a gap or comment stood, and the comments follow. Content-Transfer-Encoding is a single atom.
 - Identifiers, paths and recipients that can't be served, fields whose name begins with `-`, and values that aren't in their
-  grammar are kept aside: the made field has `Downgraded-` before the name, and the whole value as B words. Content-Type and
+  grammar are kept aside: the made field has `Downgraded-` before the name, and the whole value as encoded words. Content-Type and
   Content-Transfer-Encoding keep their names; their values are still in no grammar then."""
 
 from oracle import addresses, parameters, pieces, received, recipients, return_path, tokens, units
@@ -59,7 +59,7 @@ def made_field(name, body):
         made = None
     if made is not None:
         return name, spaced(made)
-    return kept_name(name), spaced(units.b_words(value))
+    return kept_name(name), spaced(units.words_of(value))
 
 
 def kept_name(name):
@@ -97,7 +97,7 @@ def unstructured_pieces(body):
         before, left = side_of(body, words, first - 1, slice(0, 1), slice(1, None))
         white, right = side_of(body, words, last, slice(-1, None), slice(0, -1))
         between = body[words[first].start() : words[last].end()].replace(b"\r\n", b"")
-        core = units.b_words(left + between + right)
+        core = units.words_of(left + between + right)
         made += [before + core[0], *spaced(core[1:])]
         copied_from = last + 1
     if copied_from < len(words):

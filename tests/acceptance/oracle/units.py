@@ -7,6 +7,7 @@ UTF-8, or ASCII, gives text; every other one is an opaque unit of its own. Text 
 
 import base64
 import re
+import string
 from typing import NamedTuple
 
 NAME = rb"[!#$%&'+\-0-9A-Z^_`a-z{|}~]+"
@@ -119,16 +120,22 @@ def trimmed_run(text):
 
 
 def pieces(units):
-    """Each text as B words, and each opaque unit as the word that it came from."""
-    return [piece for unit in units for piece in (b_words(unit) if isinstance(unit, bytes) else [unit.source])]
+    """Each text as its words, and each opaque unit as the word that it came from."""
+    return [piece for unit in units for piece in (words_of(unit) if isinstance(unit, bytes) else [unit.source])]
 
 
-def b_words(text):
-    """Encoded words of the most whole characters that fit 45 octets each."""
+# what a Q text has for each octet: letters, digits and `!*+-/` stand for themselves
+SAFE = (string.ascii_letters + string.digits + "!*+-/").encode()
+IN_Q_TEXT = [b"_" if it == 32 else bytes([it]) if it in SAFE else b"=%02X" % it for it in range(256)]
+
+
+def words_of(text):
+    """Encoded words of the most whole characters that fit 45 octets each: Q words, or B words where these are shorter."""
     chunks = [b""]
     for character in text.decode("utf-8"):
         octets = character.encode("utf-8")
         if len(chunks[-1]) + len(octets) > 45:
             chunks.append(b"")
         chunks[-1] += octets
-    return [b"=?UTF-8?B?" + base64.b64encode(chunk) + b"?=" for chunk in chunks]
+    both = [(b"=?UTF-8?Q?" + b"".join(map(IN_Q_TEXT.__getitem__, chunk)) + b"?=", b"=?UTF-8?B?" + base64.b64encode(chunk) + b"?=") for chunk in chunks if chunk]
+    return [min(pair, key=len) for pair in both]

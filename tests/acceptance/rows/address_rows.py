@@ -19,7 +19,7 @@ def mailboxes():
             ["To:", f" a.b@{A_LABEL}.x", " (1)", " (2)", " (3)", " (", f" {U}", " )", " (4)", " (5)"]),
         ("comments around a phrase of ASCII", "To: (1) a (2) b (3) <c@é> (4)", ["To:", " (1) a (2) b", f" <c@{A_LABEL}>", " (3)", " (4)"]),
         ("comments around another phrase", "To: (1) é (2) b (3) <c@d> (4)",
-            ["To:", " =?UTF-8?B?w6kgYg==?=", " (1)", " (2)", " <c@d>", " (3)", " (4)"]),
+            ["To:", " =?UTF-8?Q?=C3=A9_b?=", " (1)", " (2)", " <c@d>", " (3)", " (4)"]),
         ("the smallest one with comments around a word", "To: (x) é (y) é <a@b>", ["To:", " =?UTF-8?B?w6kgw6k=?=", " (x)", " (y)", " <a@b>"]),
         ("a phrase without units", 'To: (é) "" <a@b>', ["To:", ' ""', " (", f" {E}", " )", " <a@b>"]),
         ("an encoded word beside an angle", "To: =?UTF-8?Q?=C3=BC?=<a@é>", ["To:", " =?UTF-8?Q?=C3=BC?=", f" <a@{A_LABEL}>"]),
@@ -61,17 +61,17 @@ def groups():
         ("a group with a domain", "Cc: Team: a@bücher.example;", ["Cc:", " Team", " :", " a@xn--bcher-kva.example", " ;"]),
         ("members of a group", "Cc: Team (1): (2) a@b (3) , é <c@d>; (ü)",
             ["Cc:", " Team", " (1)", " :", " (2) a@b (3),", f" {E}", " <c@d>", " ;", " (", f" {U}", " )"]),
-        ("comments around a group's name", "To: (x) Team é (y): ;", ["To:", " =?UTF-8?B?VGVhbSDDqQ==?=", " (x)", " (y)", " :", " ;"]),
+        ("comments around a group's name", "To: (x) Team é (y): ;", ["To:", " =?UTF-8?Q?Team_=C3=A9?=", " (x)", " (y)", " :", " ;"]),
         ("the smallest group whose name has no units", 'To: (é)"":;', ["To:", ' ""', " (", f" {E}", " )", " :", " ;"]),
         ("the smallest group without members", "To: é: (x) ;", ["To:", f" {E}", " :", " (x)", " ;"]),
         ("a comment behind a group", "To: é: (x) ; (y), a@b", ["To:", f" {E}", " :", " (x)", " ;", " (y),", " a@b"]),
         ("a member that can't be served", "To: x: josé@example.com, b@example.com;",
-            ["To:", " =?UTF-8?B?eCBqb3PDqUBleGFtcGxlLmNvbSwgYkBleGFtcGxlLmNvbQ==?=", " :;"]),
+            ["To:", " =?UTF-8?Q?x_jos=C3=A9=40example=2Ecom=2C_b=40example=2Ecom?=", " :;"]),
         ("members beside such a one", 'To: x (1): é@y (2), Ann <a@b>, "c" @ É, ü <d@e>; (3)',
             ["To:", " =?UTF-8?B?eCDDqUB5LCBBbm4gPGFAYj4sIGNAw4ksIMO8IDxkQGU+?=", " :;", " (1)", " (2)", " (3)"]),
         ("angles without a phrase aren't told", "To: x: <é@y>;", ["To:", " =?UTF-8?B?eCDDqUB5?=", " :;"]),
         ("encoded words of another charset in a group", "To: =?x?Q?a?=: =?x?Q?b?= <é@c>;",
-            ["To:", " =?x?Q?a?=", " =?UTF-8?B?IA==?=", " =?x?Q?b?=", " =?UTF-8?B?IDzDqUBjPg==?=", " :;"]),
+            ["To:", " =?x?Q?a?=", " =?UTF-8?Q?_?=", " =?x?Q?b?=", " =?UTF-8?B?IDzDqUBjPg==?=", " :;"]),
     ]
 
 
@@ -91,28 +91,28 @@ def lists():
 
 
 def malformed():
-    """Name, value, and its octets in base64."""
+    """Name, value, and its word."""
     return [
-        ("a phrase alone", "é", "w6k="),
-        ("a word behind an address", "a@é b", "YUDDqSBi"),
-        ("an empty place in a group", "g: a@é,, b@c;", "ZzogYUDDqSwsIGJAYzs="),
-        ("a comma last in a group", "é: a@b, ;", "w6k6IGFAYiwgOw=="),
-        ("a semicolon without a group", "a@é;", "YUDDqTs="),
-        ("a group in a group", "é: x: a@b;;", "w6k6IHg6IGFAYjs7"),
-        ("a group that isn't closed", "é:", "w6k6"),
-        ("a group without a name", ": a@é;", "OiBhQMOpOw=="),
-        ("an empty place in a route", "<@é,,@y:a@b>", "PEDDqSwsQHk6YUBiPg=="),
-        ("two dots", "é..a@b", "w6kuLmFAYg=="),
-        ("no local part", "@é", "QMOp"),
-        ("no domain", "<é@>", "PMOpQD4="),
-        ("two domains", "é@b@c", "w6lAYkBj"),
-        ("two quoted texts", '"x""y"é@z', "IngiInkiw6lAeg=="),
-        ("a word behind angles", "é <a@é> é", "w6kgPGFAw6k+IMOp"),
-        ("an address for a phrase", "a@b <é@x>", "YUBiIDzDqUB4Pg=="),
+        ("a phrase alone", "é", "=?UTF-8?B?w6k=?="),
+        ("a word behind an address", "a@é b", "=?UTF-8?B?YUDDqSBi?="),
+        ("an empty place in a group", "g: a@é,, b@c;", "=?UTF-8?B?ZzogYUDDqSwsIGJAYzs=?="),
+        ("a comma last in a group", "é: a@b, ;", "=?UTF-8?B?w6k6IGFAYiwgOw==?="),
+        ("a semicolon without a group", "a@é;", "=?UTF-8?B?YUDDqTs=?="),
+        ("a group in a group", "é: x: a@b;;", "=?UTF-8?B?w6k6IHg6IGFAYjs7?="),
+        ("a group that isn't closed", "é:", "=?UTF-8?B?w6k6?="),
+        ("a group without a name", ": a@é;", "=?UTF-8?B?OiBhQMOpOw==?="),
+        ("an empty place in a route", "<@é,,@y:a@b>", "=?UTF-8?B?PEDDqSwsQHk6YUBiPg==?="),
+        ("two dots", "é..a@b", "=?UTF-8?B?w6kuLmFAYg==?="),
+        ("no local part", "@é", "=?UTF-8?B?QMOp?="),
+        ("no domain", "<é@>", "=?UTF-8?B?PMOpQD4=?="),
+        ("two domains", "é@b@c", "=?UTF-8?B?w6lAYkBj?="),
+        ("two quoted texts", '"x""y"é@z', "=?UTF-8?B?IngiInkiw6lAeg==?="),
+        ("a word behind angles", "é <a@é> é", "=?UTF-8?B?w6kgPGFAw6k+IMOp?="),
+        ("an address for a phrase", "a@b <é@x>", "=?UTF-8?B?YUBiIDzDqUB4Pg==?="),
     ]
 
 
 def fields():
     yield from [*mailboxes(), *without_service(), *groups(), *lists()]
-    for name, value, coded in malformed():
-        yield name, f"rePly-To \t:{value}", ["Downgraded-rePly-To:", f" =?UTF-8?B?{coded}?="]
+    for name, value, word in malformed():
+        yield name, f"rePly-To \t:{value}", ["Downgraded-rePly-To:", f" {word}"]

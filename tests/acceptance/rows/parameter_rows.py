@@ -64,30 +64,30 @@ def joined():
 
 
 def malformed():
-    """Name, value, and its octets in base64."""
+    """Name, value, and its word."""
     return [
-        ("no main part", "; é", "OyDDqQ=="),
-        ("a main part that isn't ASCII", "é", "w6k="),
-        ("a main part of a type", "a/b;x=é", "YS9iO3g9w6k="),
-        ("a parameter without a name", "a; x=é; =b", "YTsgeD3DqTsgPWI="),
-        ("a missing piece", "a;x*0=é;x*2=b", "YTt4KjA9w6k7eCoyPWI="),
-        ("a doubled piece", "a;x*0=é;x*0=b", "YTt4KjA9w6k7eCowPWI="),
-        ("two words as a value", "attachment; filename=é b", "YXR0YWNobWVudDsgZmlsZW5hbWU9w6kgYg=="),
-        ("a quoted text behind a word", 'a;x=é "b"', "YTt4PcOpICJiIg=="),
-        ("a word that touches a quoted text", 'a; x="é"b', "YTsgeD0iw6kiYg=="),
-        ("an extended value without a charset", "a; x*=é", "YTsgeCo9w6k="),
-        ("an extended value without a text", "a;x*=utf-8'é", "YTt4Kj11dGYtOCfDqQ=="),
-        ("a charset with a dot", "a;x*=u.8''a;y=é", "YTt4Kj11LjgnJ2E7eT3DqQ=="),
-        ("a percent sign with one digit", "a;x*=''%1;y=é", "YTt4Kj0nJyUxO3k9w6k="),
-        ("a name of a star", "a;*=é", "YTsqPcOp"),
-        ("a number with a zero before it", "a;x*00=é", "YTt4KjAwPcOp"),
-        ("a number with a zero before it, extended", "a;x*01*=é", "YTt4KjAxKj3DqQ=="),
-        ("a name that isn't ASCII", "a; é=b", "YTsgw6k9Yg=="),
+        ("no main part", "; é", "=?UTF-8?B?OyDDqQ==?="),
+        ("a main part that isn't ASCII", "é", "=?UTF-8?B?w6k=?="),
+        ("a main part of a type", "a/b;x=é", "=?UTF-8?B?YS9iO3g9w6k=?="),
+        ("a parameter without a name", "a; x=é; =b", "=?UTF-8?B?YTsgeD3DqTsgPWI=?="),
+        ("a missing piece", "a;x*0=é;x*2=b", "=?UTF-8?B?YTt4KjA9w6k7eCoyPWI=?="),
+        ("a doubled piece", "a;x*0=é;x*0=b", "=?UTF-8?B?YTt4KjA9w6k7eCowPWI=?="),
+        ("two words as a value", "attachment; filename=é b", "=?UTF-8?Q?attachment=3B_filename=3D=C3=A9_b?="),
+        ("a quoted text behind a word", 'a;x=é "b"', "=?UTF-8?B?YTt4PcOpICJiIg==?="),
+        ("a word that touches a quoted text", 'a; x="é"b', "=?UTF-8?B?YTsgeD0iw6kiYg==?="),
+        ("an extended value without a charset", "a; x*=é", "=?UTF-8?B?YTsgeCo9w6k=?="),
+        ("an extended value without a text", "a;x*=utf-8'é", "=?UTF-8?B?YTt4Kj11dGYtOCfDqQ==?="),
+        ("a charset with a dot", "a;x*=u.8''a;y=é", "=?UTF-8?B?YTt4Kj11LjgnJ2E7eT3DqQ==?="),
+        ("a percent sign with one digit", "a;x*=''%1;y=é", "=?UTF-8?B?YTt4Kj0nJyUxO3k9w6k=?="),
+        ("a name of a star", "a;*=é", "=?UTF-8?B?YTsqPcOp?="),
+        ("a number with a zero before it", "a;x*00=é", "=?UTF-8?B?YTt4KjAwPcOp?="),
+        ("a number with a zero before it, extended", "a;x*01*=é", "=?UTF-8?B?YTt4KjAxKj3DqQ==?="),
+        ("a name that isn't ASCII", "a; é=b", "=?UTF-8?B?YTsgw6k9Yg==?="),
     ]
 
 
 def fields():
     for name, field, pieces in [*written(), *joined()]:
         yield name, field, [field.split(":")[0] + ":", *(" " + piece for piece in pieces)]
-    for name, value, coded in malformed():
-        yield name, f"content-Disposition: {value}", ["Downgraded-content-Disposition:", f" =?UTF-8?B?{coded}?="]
+    for name, value, word in malformed():
+        yield name, f"content-Disposition: {value}", ["Downgraded-content-Disposition:", f" {word}"]

@@ -23,18 +23,18 @@ DOWNGRADE, CHECK = [b"downgrade"], [b"check"]
 
 def fields(folder):
     """Messages of two fields, the second of every kind."""
-    for number, vector in enumerate(lines_of(os.path.join(folder, "fields.jsonl"))):
+    for number, vector in enumerate(lines_of(os.path.join(folder, "fields-q.jsonl"))):
         before, made_before = GLOBAL if vector["global"] else CLOSED
         raw, made = vector["raw"].encode(), vector["made"].encode()
-        yield f"fields.jsonl, line {number + 1}", DOWNGRADE, before + raw + b"\r\n", (0, made_before + made + b"\r\n")
+        yield f"fields-q.jsonl, line {number + 1}", DOWNGRADE, before + raw + b"\r\n", (0, made_before + made + b"\r\n")
 
 
 def messages(folder):
     """Whole messages, by both commands."""
-    for number, vector in enumerate(lines_of(os.path.join(folder, "messages.jsonl"))):
+    for number, vector in enumerate(lines_of(os.path.join(folder, "messages-q.jsonl"))):
         octets, answers = bytes.fromhex(vector["message"]), (bytes.fromhex(vector["downgrade"]), vector["check"].encode())
         for words, answer in zip((DOWNGRADE, CHECK), answers):
-            yield f"messages.jsonl, line {number + 1}, {words[0].decode()}", words, octets, (vector["status"], answer)
+            yield f"messages-q.jsonl, line {number + 1}, {words[0].decode()}", words, octets, (vector["status"], answer)
 
 
 def by_oracle(words, octets):
@@ -53,7 +53,7 @@ def check(program, tally, folder):
         faults = differs("answer, as the oracle has it", answer, told) if told else []
         return told is not None, faults + differs("answer", answer, wanted)
 
-    for name, cases in (("fields.jsonl", list(fields(folder))), ("messages.jsonl", list(messages(folder)))):
+    for name, cases in (("fields-q.jsonl", list(fields(folder))), ("messages-q.jsonl", list(messages(folder)))):
         answers = in_lanes(one, cases)
         for case, (_, faults) in zip(cases, answers):
             tally.note(case[0], [*faults, f"message: {case[2]!r}"] if faults else [])

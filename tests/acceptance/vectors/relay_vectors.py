@@ -2,7 +2,8 @@
 
 A server over loopback sends these octets, as they are cut, and reads to the end; where the case has none, nobody listens. A case fixes the
 clock, which the program can't do: the dates of its reports are replaced by the clock's (moments.py). Some cases fix a smaller limit of a
-message than the program has: there a report is dropped that is kept here, and what is told of reports isn't compared."""
+message than the program has: there a report is dropped that is kept here, and what is told of reports isn't compared.
+One of the files is older than Q words: a case with a message whose surrogate has such words is left out of it."""
 
 import os
 import re
@@ -14,10 +15,12 @@ from support.harness import SECONDS, differs, in_lanes
 from support.moments import Moments
 from support.next_server import relay_to
 from support.talk import cut, place_journal, read_journal
+from vectors.older_words import has_older_words
 from vectors.pop_vectors import cases_of
 from vectors.smtp_vectors import MESSAGE_MAX
 
-FILE = "relay.txt"
+FILES = ["relay.txt", "relay-q.txt"]
+SINCE_Q_WORDS = "relay-q.txt"
 REPORTS = re.compile(rb", reported [0-9]+")
 
 
@@ -69,9 +72,16 @@ def one_case(program, case):
 
 
 def check(program, tally, folder):
-    path = os.path.join(folder, FILE)
-    cases = list(cases_of(path)) if os.path.exists(path) else []
+    for name in FILES:
+        check_file(program, tally, folder, name)
+
+
+def check_file(program, tally, folder, name):
+    path = os.path.join(folder, name)
+    every = list(cases_of(path)) if os.path.exists(path) else []
+    cases = [case for case in every if name == SINCE_Q_WORDS or not has_older_words(case)]
     for case, faults in zip(cases, in_lanes(lambda case: one_case(program, case), cases)):
-        tally.note(f"{FILE}, vector {case['case']}", faults)
+        tally.note(f"{name}, vector {case['case']}", faults)
     limited = sum(int(case["message_max"]) != MESSAGE_MAX for case in cases)
-    print(f"vectors of relay: {len(cases)} were run; {limited} have a limit of their own, and what they tell of reports wasn't compared")
+    print(f"vectors of relay: {len(cases)} of {len(every)} of {name} were run, the others are older than Q words")
+    print(f"vectors of relay: {limited} of these have a limit of their own, and what they tell of reports wasn't compared")

@@ -3,17 +3,67 @@ use encoded_words::{
     Unit, push_line, push_words, read_unstructured, read_word, write_units, write_words,
 };
 use mail_wire::Octets;
+use std::alloc::Global;
 use std::test::Fail;
+
+// Whether a text is written as these words.
+fn are_words(alloc: Global, text: &str, wanted: &[&str]) -> Result<bool, Fail> {
+    let mut words = Vec::new(alloc);
+    write_words(alloc, text.as_bytes(), &mut words).map_err(|_| "memory")?;
+    let mut made = Octets::new(alloc);
+    for word in &words {
+        push_line(&mut made, word.as_slice()).map_err(|_| "memory")?;
+    }
+    let mut lines = Octets::new(alloc);
+    for word in wanted {
+        push_line(&mut lines, word.as_bytes()).map_err(|_| "memory")?;
+    }
+    Ok(made.as_slice() == lines.as_slice())
+}
 
 #[test]
 fn words_hold_as_many_characters_as_fit(rt: HostRuntime) -> Result<(), Fail> {
-    let mut pieces = Vec::new(rt.alloc());
-    write_words(rt.alloc(), "café".as_bytes(), &mut pieces).map_err(|_| "memory")?;
-    write_words(rt.alloc(), "ああああああああああああああああ".as_bytes(), &mut pieces).map_err(|_| "memory")?;
-    assert_eq!(rt; pieces.len(), 3);
-    assert_eq!(rt; pieces[0].as_slice(), b"=?UTF-8?B?Y2Fmw6k=?=".as_slice());
-    assert_eq!(rt; pieces[1].len(), 72);
-    assert_eq!(rt; pieces[2].as_slice(), b"=?UTF-8?B?44GC?=".as_slice());
+    assert!(rt; are_words(rt.alloc(), "", &[])?);
+    let fifteen = "=?UTF-8?B?44GC44GC44GC44GC44GC44GC44GC44GC44GC44GC44GC44GC44GC44GC44GC?=";
+    assert!(rt;
+        are_words(
+            rt.alloc(),
+            "ああああああああああああああああ",
+            &[fifteen, "=?UTF-8?B?44GC?="]
+        )?
+    );
+    Ok(())
+}
+
+#[test]
+fn words_are_the_shorter_of_both(rt: HostRuntime) -> Result<(), Fail> {
+    for (text, word) in [
+        ("café", "=?UTF-8?B?Y2Fmw6k=?="),
+        ("Zoë", "=?UTF-8?Q?Zo=C3=AB?="),
+        (" é ", "=?UTF-8?Q?_=C3=A9_?="),
+        ("_", "=?UTF-8?Q?=5F?="),
+        ("a?=.", "=?UTF-8?B?YT89Lg==?="),
+        ("azAZ09!*+-/ ", "=?UTF-8?Q?azAZ09!*+-/_?="),
+        (
+            "naïve reading of café",
+            "=?UTF-8?Q?na=C3=AFve_reading_of_caf=C3=A9?=",
+        ),
+        (
+            "x josé@example.com, b@example.com",
+            "=?UTF-8?Q?x_jos=C3=A9=40example=2Ecom=2C_b=40example=2Ecom?=",
+        ),
+    ] {
+        assert!(rt; are_words(rt.alloc(), text, &[word])?, "{text}");
+    }
+    Ok(())
+}
+
+// A text's first word may be a Q word and its second a B word.
+#[test]
+fn each_word_is_chosen_by_itself(rt: HostRuntime) -> Result<(), Fail> {
+    let text = "a letter from Zoë to all who read plain mail ああ";
+    let first = "=?UTF-8?Q?a_letter_from_Zo=C3=AB_to_all_who_read_plain_mail?=";
+    assert!(rt; are_words(rt.alloc(), text, &[first, "=?UTF-8?B?IOOBguOBgg==?="])?);
     Ok(())
 }
 

@@ -6,7 +6,7 @@ use Rattle.field_downgrade.specs.declared.segments.Side.TheVariants.{Edge, Encod
 use Rattle.field_downgrade.specs.Words.{Word, AreWords, AreUtf8, HasWords, is_high_word, last_run}
 use Rattle.field_downgrade.specs.Layout.{IsCopied, begins_high, ends_high, last_side, GivesPieces, HavePieces, made_of, spaced}
 use Rattle.encoded_words.specs.Folding.{Piece, made_body, word_pieces, AddsLines}
-use Rattle.encoded_words.specs.Pieces.{AreBWords}
+use Rattle.encoded_words.specs.WrittenWords.{AreWordsOf}
 use Rattle.utf8_fields.specs.Parts.{FieldParts, field_octets}
 use Rattle.field_downgrade.specs.declared.kind.Kind.{Kind}
 use Rattle.field_downgrade.specs.declared.kind.Kind.TheVariants.{Unstructured}
@@ -100,10 +100,10 @@ pub data MakesField (open_global : Bool) (f : FieldParts) (made : List ℕ) : Ty
 abbrev pub HasNoPieces : Kind → Bool → List ℕ → List ℕ → Type 0
 HasNoPieces kind open_global name value = (pieces : List (List ℕ)) → ¬ PiecesAs kind open_global name value pieces
 
--- a field of these parts with the B words of the value was added
+-- a field of these parts with the encoded words of the value was added
 pub record AddsWordField (made_parts : List Piece → FieldParts) (value old new : List ℕ) : Type 0 where
   pub words : List (List ℕ)
-  pub are_words : AreBWords value words
+  pub are_words : AreWordsOf value words
   pub added : new ≡ old ++ field_octets (made_parts (word_pieces 32 words))
 
 -- a field with these parts of another name

@@ -12,6 +12,10 @@ fn rows_of_one_core(rt: HostRuntime) -> Result<(), Fail> {
             "Subject:\r\n =?UTF-8?B?Y2Fmw6k=?=\r\n bar\r\n",
         ),
         ("Subject:é", "Subject:\r\n =?UTF-8?B?w6k=?="),
+        (
+            "Subject: naïve reading of café\r\n",
+            "Subject:\r\n =?UTF-8?Q?na=C3=AFve_reading_of_caf=C3=A9?=\r\n",
+        ),
         ("Subject: é\r\n \r\n", "Subject:\r\n =?UTF-8?B?w6k=?=\r\n"),
         (
             "Subject:a\té\r\n",
@@ -32,11 +36,11 @@ fn rows_of_runs_and_folds(rt: HostRuntime) -> Result<(), Fail> {
     let rows = [
         (
             "Subject: abc  é  def\r\n",
-            "Subject:\r\n abc\r\n =?UTF-8?B?IMOpIA==?=\r\n def\r\n",
+            "Subject:\r\n abc\r\n =?UTF-8?Q?_=C3=A9_?=\r\n def\r\n",
         ),
         (
             "Subject: abc \r\n é  def\r\n",
-            "Subject:\r\n abc\r\n =?UTF-8?B?IMOpIA==?=\r\n def\r\n",
+            "Subject:\r\n abc\r\n =?UTF-8?Q?_=C3=A9_?=\r\n def\r\n",
         ),
         (
             "Subject: a é =?ISO-8859-1?Q?x?= b ü c\r\n",

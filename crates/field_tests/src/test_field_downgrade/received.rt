@@ -58,7 +58,7 @@ fn a_word_that_starts_no_clause_is_malformed(rt: HostRuntime) -> Result<(), Fail
     let rows = [
         (
             "Received: a by é\r\n",
-            "Downgraded-Received:\r\n =?UTF-8?B?YSBieSDDqQ==?=\r\n",
+            "Downgraded-Received:\r\n =?UTF-8?Q?a_by_=C3=A9?=\r\n",
         ),
         (
             "Received: \"by\" é\r\n",

@@ -40,7 +40,7 @@ fn other_types_have_no_pieces(rt: HostRuntime) -> Result<(), Fail> {
         ),
         (
             "Original-Recipient: utf-8 é\r\n",
-            "Downgraded-Original-Recipient:\r\n =?UTF-8?B?dXRmLTggw6k=?=\r\n",
+            "Downgraded-Original-Recipient:\r\n =?UTF-8?Q?utf-8_=C3=A9?=\r\n",
         ),
     ];
     let wrong = first_wrong(&rt, false, &rows);

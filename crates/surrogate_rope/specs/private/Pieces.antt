@@ -24,7 +24,7 @@ StandInPlace octets at (piece ∷ pieces) to = IsPieceAt octets at piece × Stan
 -- These are the pieces, and their size. No list of octets has more than fit into a memory.
 pub record HoldsPieces (octets : List ℕ) (pieces : List Piece) (size : ℕ) : Type 0 where
   pub placed : StandInPlace octets 0 pieces size
-  pub new : new_size (pieces_of octets pieces) ≤ length octets
+  pub new : new_size (pieces_of octets pieces) ≡ length octets
   pub octets_few : length octets < 2 ^ 63
   pub ranges_few : range_size (pieces_of octets pieces) < 2 ^ 63
 

@@ -2,4 +2,4 @@ use Rattle.address_grammar.proofs.LexemeLemmas.{front_taken}
 use Rattle.address_grammar.proofs.lexemes.front_before.Goals as goal
 
 pub returns : goal.returns
-returns c = λ front e. rw (c.split_at.ensures.front, c.saturating_sub.ensures, c.len.ensures, c.len-2.ensures) (front_taken _ front _ e)
+returns c = λ front e. rw (c.front.ensures, c.saturating_sub.ensures, c.len.ensures, c.len-2.ensures) (front_taken _ front _ e)

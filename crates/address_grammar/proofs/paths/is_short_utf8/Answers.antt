@@ -1,6 +1,6 @@
 use Rattle.std.proofs.Common.{sym, ◌∙◌, rules}
 use Rattle.std.proofs.lemmas.Str.{IsUtf8-from_ascii}
-use Rattle.encoded_words.proofs.BWords.{ascii_literal}
+use Rattle.encoded_words.proofs.WrittenWords.{ascii_literal}
 use Rattle.address_grammar.proofs.paths.is_short_utf8.Goals as goal
 
 pub returns-then-is_ascii : goal.returns-then-is_ascii

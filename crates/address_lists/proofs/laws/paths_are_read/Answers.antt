@@ -1,4 +1,4 @@
-use Rattle.address_lists.proofs.PathPiecesLemmas.{paths_read}
+use Rattle.address_grammar.proofs.DecidePaths.{paths_read}
 use Rattle.address_lists.proofs.laws.paths_are_read.Goals as goal
 
 pub returns : goal.returns

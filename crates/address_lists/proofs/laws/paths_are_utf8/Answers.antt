@@ -1,4 +1,4 @@
-use Rattle.address_lists.proofs.PathPiecesLemmas.{path_parts}
+use Rattle.address_grammar.proofs.PathParts.{path_parts}
 use Rattle.address_lists.proofs.laws.paths_are_utf8.Goals as goal
 
 pub returns-clause-local : goal.returns-clause-local

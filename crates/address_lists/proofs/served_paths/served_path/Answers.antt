@@ -1,7 +1,8 @@
 use Rattle.std.proofs.Common.{Some, None, Err, ap}
 use Rattle.std.proofs.lemmas.Result.{IfOk-weaker}
 use Rattle.address_grammar.specs.Paths.{HasPath}
-use Rattle.address_lists.proofs.PathPiecesLemmas.{path_utf8, path_not_served, null_not_served}
+use Rattle.address_grammar.proofs.PathParts.{path_utf8}
+use Rattle.address_lists.proofs.PathPiecesLemmas.{path_not_served, null_not_served}
 use Rattle.address_lists.proofs.served_paths.served_path.Goals as goal
 
 pub served-requires : goal.served-requires

@@ -1,5 +1,5 @@
 use Rattle.std.proofs.Common.{sym, subst, IsUtf8}
-use Rattle.address_lists.proofs.PathPiecesLemmas.{path_parts}
+use Rattle.address_grammar.proofs.PathParts.{path_parts}
 use Rattle.journal_records.proofs.addresses.mailbox_key.Goals as goal
 
 pub unreachable-requires : goal.unreachable-requires

@@ -1,5 +1,5 @@
 use Rattle.param_grammar.specs.declared.ParamKind.TheVariants.{Content}
-use Rattle.param_2231.proofs.SaidTrees.{HasBodyAt-says}
+use Rattle.param_grammar.proofs.SaidTrees.{HasBodyAt-says}
 use Rattle.param_2231.proofs.global_types.read_type.Goals as goal
 
 pub returns-in-Ok-clause-found : goal.returns-in-Ok-clause-found

@@ -1,4 +1,5 @@
-use Rattle.param_2231.proofs.ParamsOnce.{SaysParams-once, ParamsPieces-once}
+use Rattle.param_grammar.proofs.SaidParams.{SaysParams-once}
+use Rattle.param_2231.proofs.ParamsOnce.{ParamsPieces-once}
 use Rattle.param_2231.proofs.laws.params_are_said_once.Goals as goal
 
 pub returns-clause-main : goal.returns-clause-main

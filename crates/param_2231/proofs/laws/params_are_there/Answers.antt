@@ -1,5 +1,5 @@
 use Rattle.param_2231.proofs.ParamsSome.{ParamsPieces-some, ParamsPieces-says}
-use Rattle.param_2231.proofs.DecideParams.{decide_params}
+use Rattle.param_grammar.proofs.DecideParams.{decide_params}
 use Rattle.param_2231.proofs.laws.params_are_there.Goals as goal
 
 pub returns-clause-decided : goal.returns-clause-decided

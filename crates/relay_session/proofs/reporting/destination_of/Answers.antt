@@ -1,5 +1,5 @@
 use Rattle.std.proofs.Common.{sym, subst, IsUtf8}
-use Rattle.address_lists.proofs.PathPiecesLemmas.{path_utf8}
+use Rattle.address_grammar.proofs.PathParts.{path_utf8}
 use Rattle.relay_session.proofs.reporting.destination_of.Goals as goal
 
 pub unreachable-requires : goal.unreachable-requires

@@ -1,6 +1,6 @@
 use Rattle.std.proofs.Common.{ℕ}
 use Rattle.address_grammar.specs.Addresses.{address_text}
-use Rattle.address_lists.proofs.PathPiecesLemmas.{paths_read}
+use Rattle.address_grammar.proofs.DecidePaths.{paths_read}
 use Rattle.mail_store.specs.Changing.{account_refusal}
 use Rattle.kept_mail.specs.Kept.{Kept}
 use Rattle.journal_records.specs.declared.records.Record.TheVariants as records

@@ -1,4 +1,4 @@
-use Rattle.address_lists.proofs.PathPiecesLemmas.{path_utf8}
+use Rattle.address_grammar.proofs.PathParts.{path_utf8}
 use Rattle.utf8_reports.proofs.destinations.served_text.Goals as goal
 
 pub served-requires : goal.served-requires

@@ -1,7 +1,7 @@
 use Rattle.std.proofs.Common.{◌≡◌, ℕ, List, Some, Err, sym, ap, subst, ◌∙◌, IsUtf8}
 use Rattle.std.specs.Prelude.{is_some}
 use Rattle.std.proofs.lemmas.Result.{err_from_is_err_and}
-use Rattle.address_lists.proofs.PathPiecesLemmas.{path_parts}
+use Rattle.address_grammar.proofs.PathParts.{path_parts}
 use Rattle.mail_store.specs.declared.changing.StoreFault.TheVariants as faults
 use Rattle.mail_store.specs.Changing.{account_refusal, IsRefusedAs}
 use Rattle.mail_store.specs.private.Accounts.{room_refusal}

@@ -13,9 +13,8 @@ use Rattle.param_grammar.specs.declared.ParamKind.{ParamKind}
 use Rattle.param_grammar.specs.declared.Piece.{Piece}
 use Rattle.param_grammar.specs.Joining.{is_part_of, parts_named, numbered, AreNumbered, ParamValue, params_of, AreParams, SaysParams}
 use Rattle.param_grammar.proofs.BodyLemmas.{IsBody-once}
-use Rattle.param_2231.proofs.DecidePieces.{Found, decide_body}
-use Rattle.param_2231.proofs.GivenLemmas.{by_tokens}
-use Rattle.param_2231.proofs.ParamsSome.{SaysSome, HasSaidBody-says}
+use Rattle.param_grammar.proofs.DecidePieces.{Found, decide_body}
+use Rattle.param_grammar.proofs.SaidParams.{by_tokens, SaysSome, HasSaidBody-says}
 
 -- ---- the numbers of one name
 

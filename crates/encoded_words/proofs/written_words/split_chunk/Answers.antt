@@ -1,5 +1,5 @@
 use Rattle.encoded_words.proofs.Chunks.{IsChunk-take}
-use Rattle.encoded_words.proofs.b_words.split_chunk.Goals as goal
+use Rattle.encoded_words.proofs.written_words.split_chunk.Goals as goal
 
 pub returns-clause-chunk : goal.returns-clause-chunk
 returns-clause-chunk c =

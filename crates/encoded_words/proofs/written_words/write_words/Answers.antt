@@ -1,8 +1,8 @@
 use Rattle.std.proofs.Common.{◌≡◌, length, arith}
 use Rattle.std.proofs.lemmas.Bool.Decides.{nat_tests}
-use Rattle.encoded_words.proofs.Chunks.{AddsBWords-turn, chunk_shortens}
+use Rattle.encoded_words.proofs.Chunks.{AddsWords-turn, chunk_shortens}
 use Rattle.encoded_words.proofs.WrittenUnits.{ReadBack-added}
-use Rattle.encoded_words.proofs.b_words.write_words.Goals as goal
+use Rattle.encoded_words.proofs.written_words.write_words.Goals as goal
 
 pub loop-rest-smaller : goal.loop-rest-smaller
 loop-rest-smaller c = chunk_shortens _ _ _ c.split_chunk.ensures.whole c.split_chunk.ensures.chunk
@@ -10,8 +10,8 @@ loop-rest-smaller c = chunk_shortens _ _ _ c.split_chunk.ensures.whole c.split_c
 pub loop-rest-preserved : goal.loop-rest-preserved
 loop-rest-preserved c = (
   c.split_chunk.ensures.utf8,
-  AddsBWords-turn c.args.text.now _ c.split_chunk.result.0.now _ _ _ _ _ c.split_chunk.ensures.whole c.split_chunk.ensures.chunk
-      (rw (c.from_vec-word.ensures, c.in_ok-with_capacity.ensures.items) at c.in_ok-push_b_word.ensures)
+  AddsWords-turn c.args.text.now _ c.split_chunk.result.0.now _ _ _ _ _ c.split_chunk.ensures.whole c.split_chunk.ensures.chunk
+      (rw (c.from_vec-word.ensures, c.in_ok-with_capacity.ensures.items) at c.in_ok-push_word.ensures)
       c.in_ok-push.ensures.items c.loop-rest.invariant.1,
 )
 

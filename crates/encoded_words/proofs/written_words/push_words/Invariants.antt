@@ -2,7 +2,7 @@ use Rattle.std.proofs.Common.{length}
 use denote.Text.{Utf8}
 use denote.Shadow.{shadow}
 use Rattle.encoded_words.proofs.Chunks.{AddsFirstLines}
-use Rattle.encoded_words.proofs.b_words.push_words.Given as goal
+use Rattle.encoded_words.proofs.written_words.push_words.Given as goal
 
 -- each `&str` that the loop changes is text, and the lines so far are those of the text before rest
 abbrev pub invariant-loop-rest : goal.invariant-loop-rest

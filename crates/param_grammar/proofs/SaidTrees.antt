@@ -1,7 +1,7 @@
 -- Comments that say something have trees.
 use Rattle.std.proofs.Common.{◌≡◌, ℕ, ◌+◌, true, inl, inr, List, [], ◌∷◌, ◌++◌, length, take, drop, filter, Option, Some, None, refl, sym, ap, ◌∙◌, subst, arith}
 use Rattle.std.proofs.lemmas.Bool.{cases_Bool}
-use Rattle.std.proofs.lemmas.List.{append_assoc, append-nil, length-append}
+use Rattle.std.proofs.lemmas.List.{append_assoc, append-nil, length-append, take_at, drop_at}
 use Rattle.mail_wire.specs.declared.values.Span.{Span}
 use Rattle.encoded_words.specs.CommentUnits.{TextItem}
 use Rattle.encoded_words.specs.Words.{UnitValue}
@@ -11,14 +11,16 @@ use Rattle.field_tokens.specs.Squeezed.{octets_of, is_comment, comments_of}
 use Rattle.field_tokens.specs.Trees.{Body, Last, Before, body_octets, spelling, Tree, End, NestedThen, GivesRun, run_then, HasItems}
 use Rattle.field_tokens.specs.Comments.{CommentValue, CommentsSay, TextSays, BodySays}
 use Rattle.field_tokens.proofs.Parts.{octets_of-tokens}
-use Rattle.field_tokens.proofs.TokenLines.{comments_are_writable}
-use Rattle.field_tokens.proofs.CommentValues.{CommentsSay-some}
 use Rattle.param_grammar.specs.declared.Body.{Body as BodyOf}
 use Rattle.param_grammar.specs.declared.ParamKind.{ParamKind}
 use Rattle.param_grammar.specs.Bodies.{HaveComments}
-use Rattle.param_grammar.specs.Joining.{ParamValue, params_of, HasSaidBody, HasParams, SaysParams}
+use Rattle.param_grammar.specs.Joining.{ParamValue, params_of, HasParams, SaysParams}
 use Rattle.param_grammar.specs.Placed.{HasBodyAt}
-use Rattle.param_2231.proofs.ChangedTokens.{octets_between}
+use Rattle.param_grammar.proofs.SaidParams.{said_comments}
+
+pub octets_between : (front octets rest text : List ℕ) (at : ℕ) → text ≡ front ++ (octets ++ rest) → at ≡ length front → take (length octets) (drop at text) ≡ octets
+octets_between front octets rest text at e place =
+    ap (take (length octets)) (ap (drop at) e ∙ drop_at front (octets ++ rest) at (sym place)) ∙ take_at octets rest (length octets) refl
 
 said_run : (at : ℕ) (text : List TextItem) (units : Option (List UnitValue)) → TextSays text units → (run : Option Span) × GivesRun at text run
 said_run at text None says = (None, says)
@@ -86,13 +88,6 @@ SaysParams-trees kind text main params said says =
         are_params = says.body.are_params;
       },
     )
-
--- the comments of a text with parameters say something
-said_comments : (kind : ParamKind) (text main : List ℕ) (params : List ParamValue) → HasSaidBody kind text main params → (said : List CommentValue) × SaysParams kind text main params said
-said_comments kind text main params body =
-    let tokens = body.has_tokens in
-    let said = CommentsSay-some (comments_of tokens.values) (comments_are_writable Mime tokens.values text tokens.are_tokens tokens.is_line) in
-    (said.0, record { body = body; comments_say = said.1 })
 
 pub HasParams-says : (kind : ParamKind) (text main : List ℕ) (params : List ParamValue) (trees : List Tree) → HasParams kind text main params trees
     → (said : List CommentValue) × SaysParams kind text main params said
