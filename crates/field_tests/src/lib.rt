@@ -8,6 +8,8 @@ mod test_address_grammar;
 #[cfg(test)]
 mod test_address_lists;
 #[cfg(test)]
+mod test_dsn_terms;
+#[cfg(test)]
 mod test_encapsulated_fields;
 #[cfg(test)]
 mod test_field_downgrade;
