@@ -5,7 +5,7 @@ use Rattle.field_tokens.specs.Tokens.{TokenValue}
 use Rattle.address_grammar.specs.private.Lexemes.{is_blank_token, are_blank, is_special_of, are_dotted, BeginsSo, BeginsOther}
 use Rattle.field_tokens.specs.Squeezed.{words_of}
 
--- what may follow behind a word
+-- what may follow after a word
 abbrev pub dotted_after : (TokenValue → Bool) → List TokenValue → Bool
 dotted_after p [] = true
 dotted_after p (dot ∷ words) = is_special_of 46 dot && are_dotted p words

@@ -39,7 +39,7 @@ mark_shorter mark all rest following t b e = omega (arith, ap length b.whole, le
 pub mark_missing : (mark : ℕ) (all rest : List TokenValue) → BeforeMark mark all rest → rest ≡ [] → lacks_special mark all ≡ true
 mark_missing mark all rest b e = ap (lacks_special mark) (b.whole ∙ ap (λ r. b.front ++ r) e ∙ append-nil b.front) ∙ b.lacks
 
--- fewer tokens stand behind the first one
+-- fewer tokens stand after the first one
 pub less_after : (rest following : List TokenValue) (t : TokenValue) → rest ≡ t ∷ following → length following < length rest
 less_after rest following t e = omega (arith, ap length e)
 

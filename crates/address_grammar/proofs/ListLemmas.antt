@@ -19,7 +19,7 @@ use Rattle.address_grammar.proofs.DividedLemmas.{Walked, SaysOnce, divided_once}
 
 -- ---- walks
 
--- nothing is awaited behind tokens without a comma, an opening bracket and a colon
+-- nothing is awaited after tokens without a comma, an opening bracket and a colon
 pub walk_plain : (ts : List TokenValue) → lacks_special 44 ts ≡ true → lacks_special 60 ts ≡ true → lacks_special 58 ts ≡ true → walk None ts ≡ Some None
 walk_plain [] a b c = refl
 walk_plain (t ∷ ts) a b c =
@@ -182,7 +182,7 @@ members_once ts ms ns (inl p) (inr q) = absurd (members_not_blank ts ns q p.0)
 members_once ts ms ns (inr p) (inl q) = absurd (members_not_blank ts ms p q.0)
 members_once ts ms ns (inr p) (inr q) = divided_once IsOneMailbox one_walked one_once ts ms ns p q
 
--- the parts of a group behind its name
+-- the parts of a group after its name
 pub record SameGroup (us vs : List UnitValue) (ms ns : List MailboxValue) : Type 0 where
   pub name : us ≡ vs
   pub members : ms ≡ ns

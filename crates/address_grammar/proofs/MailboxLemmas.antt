@@ -117,7 +117,7 @@ route_more ts hop rest s h r = by r.hops r.divided r.each
     by [] d e = absurd d
     by (n ∷ hops) d e = record { hops = hop ∷ n ∷ hops; divided = (s.at, rest, s.whole, s.is_at, d); each = (h, e) }
 
--- what stands behind hops is a route exactly where all is
+-- what stands after hops is a route exactly where all is
 pub record SameRoute (ts rest : List TokenValue) : Type 0 where
   pub onward : IsRoute rest → IsRoute ts
   pub back : IsRoute ts → IsRoute rest

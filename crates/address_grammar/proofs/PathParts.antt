@@ -8,7 +8,7 @@ use Rattle.address_grammar.specs.Addresses.{IsAddress}
 use Rattle.address_grammar.specs.Paths.{HasPath}
 use Rattle.address_grammar.proofs.SoundLemmas.{IsSound, tokens_sound, sound_front, sound_rest, contents_utf8}
 
--- what stands before and behind a token
+-- what stands before and after a token
 sound_before : (ts a b : List TokenValue) (t : TokenValue) → ts ≡ a ++ t ∷ b → AllByRecursion IsSound ts → AllByRecursion IsSound a
 sound_before ts a b t whole sound = sound_front a (t ∷ b) (subst (AllByRecursion IsSound) whole sound)
 

@@ -36,7 +36,7 @@ ends_here None t e = elim (cases_Bool (is_special_of 44 t)) [
   ]
 ]
 
--- what is awaited behind the tokens that were looked at
+-- what is awaited after the tokens that were looked at
 pub record WalksTo (all : List TokenValue) (awaited : Option ℕ) (rest : List TokenValue) : Type 0 where
   pub front : List TokenValue
   pub whole : all ≡ front ++ rest

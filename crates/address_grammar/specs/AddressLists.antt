@@ -63,7 +63,7 @@ pub record IsBare (tokens : List TokenValue) (m : MailboxValue) : Type 0 where
   pub display : m.display ≡ []
   pub angle : m.angle ≡ false
 
--- The tokens are an address, or one behind a source route (RFC 5322, 4.4).
+-- The tokens are an address, or one after a source route (RFC 5322, 4.4).
 abbrev pub IsRoutedOrNot : List TokenValue → Address → Type 0
 IsRoutedOrNot tokens address = IsAddress tokens address ⊎ IsRouted tokens address
 
@@ -86,7 +86,7 @@ IsMailbox tokens m = IsBare tokens m ⊎ IsNamed tokens m
 
 -- ---- parts divided by commas
 
--- what parts say, one behind another
+-- what parts say, one after another
 abbrev pub SayParts : {E : Type 0} → (List TokenValue → List E → Type 0) → List (List TokenValue) → List E → Type 0
 SayParts Says [] values = values ≡ []
 SayParts {E = E} Says (part ∷ parts) values = (first : List E) × (others : List E) × (values ≡ first ++ others) × Says part first × SayParts Says parts others
@@ -114,7 +114,7 @@ pub data ElementValue : Type 0 where
   One : MailboxValue → ElementValue
   Group : List UnitValue → List MailboxValue → ElementValue
 
--- a name, and members and `;` behind its colon
+-- a name, and members and `;` after its colon
 pub record IsGroupBy (before following : List TokenValue) (name : List UnitValue) (members : List MailboxValue) : Type 0 where
   pub inner : List TokenValue
   pub semicolon : TokenValue

@@ -6,7 +6,7 @@ use Rattle.address_grammar.specs.declared.Address.{Address}
 use Rattle.address_grammar.specs.private.Lexemes.{HasMailTokens, is_special_of, lacks_special, are_blank}
 use Rattle.address_grammar.specs.Addresses.{IsAddress}
 
--- tokens in angle brackets, what stands before them, and only gaps and comments behind them
+-- tokens in angle brackets, what stands before them, and only gaps and comments after them
 pub record IsAngled (tokens before inner : List TokenValue) : Type 0 where
   pub open_mark : TokenValue
   pub close_mark : TokenValue

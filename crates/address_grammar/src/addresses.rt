@@ -22,7 +22,7 @@ fn is_part(lexeme: Lexeme<'_>, allows_quoted: bool) -> bool
     }
 }
 
-// What stands behind the first word, where that may stand between dots.
+// What stands after the first word, where that may stand between dots.
 fn part_rest<'a, 'b>(lexemes: Lexemes<'a, 'b>, allows_quoted: bool) -> Option<Lexemes<'a, 'b>>
     ensures found { IfSome result (λ rest. BeginsSo (is_part_of allows_quoted) (values_of lexemes.entry) (values_of rest)) }
     ensures shorter { IfSome result (λ rest. length (values_of rest) < length (values_of lexemes.entry)) }
@@ -38,7 +38,7 @@ fn part_rest<'a, 'b>(lexemes: Lexemes<'a, 'b>, allows_quoted: bool) -> Option<Le
     }
 }
 
-// What stands behind the first word, where that is a dot.
+// What stands after the first word, where that is a dot.
 fn dot_rest<'a, 'b>(lexemes: Lexemes<'a, 'b>) -> Option<Lexemes<'a, 'b>>
     ensures found { IfSome result (λ rest. BeginsSo (is_mark_of 46) (values_of lexemes.entry) (values_of rest)) }
     ensures shorter { IfSome result (λ rest. length (values_of rest) < length (values_of lexemes.entry)) }

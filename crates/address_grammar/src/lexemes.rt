@@ -51,7 +51,7 @@ pub fn are_blank(lexemes: Lexemes<'_, '_>) -> bool
     true
 }
 
-/// The first token that is neither gap nor comment, and what stands behind it.
+/// The first token that is neither gap nor comment, and what stands after it.
 pub fn first_word<'a, 'b>(lexemes: Lexemes<'a, 'b>) -> Option<(Lexeme<'a>, Lexemes<'a, 'b>)>
     ensures found { IfSome result (λ x. words_of (values_of lexemes.entry) ≡ value_of x.0 ∷ words_of (values_of x.1)) }
     ensures shorter { IfSome result (λ x. length (values_of x.1) < length (values_of lexemes.entry)) }
@@ -74,7 +74,7 @@ pub fn front_before<'a, 'b>(lexemes: Lexemes<'a, 'b>, rest: Lexemes<'a, 'b>) -> 
     lexemes.front(lexemes.len().saturating_sub(rest.len()))
 }
 
-/// What stands before the first special of this octet, and what stands behind it.
+/// What stands before the first special of this octet, and what stands after it.
 pub fn split_at_mark<'a, 'b>(
     lexemes: Lexemes<'a, 'b>,
     mark: u8,
@@ -194,7 +194,7 @@ pub fn content(alloc: Global, lexeme: Lexeme<'_>) -> Result<Octets, Memory>
     Ok(made)
 }
 
-/// What tokens say, one behind another.
+/// What tokens say, one after another.
 pub fn contents(alloc: Global, lexemes: Lexemes<'_, '_>) -> Result<Octets, Memory>
     ensures { IfOk result (λ made. made ≡ contents_of (values_of lexemes.entry)) }
 {

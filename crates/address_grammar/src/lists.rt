@@ -59,7 +59,7 @@ fn read_members(alloc: Global, lexemes: Lexemes<'_, '_>) -> Result<Mailboxes, Ad
     Ok(Mailboxes::from_vec(members))
 }
 
-/// What stands before the first colon, and what stands behind it, where no angle bracket opens before it: a group's name,
+/// What stands before the first colon, and what stands after it, where no angle bracket opens before it: a group's name,
 /// and its members.
 pub fn split_name<'a, 'b>(lexemes: Lexemes<'a, 'b>) -> Option<(Lexemes<'a, 'b>, Lexemes<'a, 'b>)>
     ensures found { IfSome result (λ x. SplitsName (values_of lexemes.entry) (values_of x.0) (values_of x.1)) }
@@ -75,7 +75,7 @@ pub fn split_name<'a, 'b>(lexemes: Lexemes<'a, 'b>) -> Option<(Lexemes<'a, 'b>, 
     }
 }
 
-// The group of this name, of what stands behind its colon.
+// The group of this name, of what stands after its colon.
 fn read_group(
     alloc: Global,
     name: Lexemes<'_, '_>,

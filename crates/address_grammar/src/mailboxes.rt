@@ -39,7 +39,7 @@ fn is_route(lexemes: Lexemes<'_, '_>) -> bool
     is_hop(rest)
 }
 
-// An address, behind a route or by itself. The route is dropped.
+// An address, after a route or by itself. The route is dropped.
 fn read_routed(alloc: Global, lexemes: Lexemes<'_, '_>) -> Result<Address, AddressFault>
     ensures ok { IfOk result (IsRoutedOrNot (values_of lexemes.entry)) }
     ensures malformed { result ≡ Err AddressFault.Malformed → (address : Address) → ¬ IsRoutedOrNot (values_of lexemes.entry) address }

@@ -18,7 +18,7 @@ use field_tokens::{Lexemes, Style, is_atom_octet};
 use mail_wire::{Memory, Octets, is_ascii, is_utf8};
 use std::alloc::Global;
 
-/// What stands before and within angle brackets, the first of each kind, behind which nothing but gaps and comments stands.
+/// What stands before and within angle brackets, the first of each kind, after which nothing but gaps and comments stands.
 pub fn split_angled<'a, 'b>(lexemes: Lexemes<'a, 'b>) -> Option<(Lexemes<'a, 'b>, Lexemes<'a, 'b>)>
     ensures found { IfSome result (λ x. IsFirstAngled (values_of lexemes.entry) (values_of x.0) (values_of x.1)) }
     ensures none { IfNone result ((before inner : List TokenValue) → ¬ IsFirstAngled (values_of lexemes.entry) before inner) }
@@ -85,7 +85,7 @@ fn find_at_sign(octets: &[u8]) -> Option<usize>
     octets.iter().position(|octet| *octet == b'@')
 }
 
-// What stands before the first at sign, and what stands behind it.
+// What stands before the first at sign, and what stands after it.
 fn split_at_sign(octets: &[u8]) -> Option<(&[u8], &[u8])>
     ensures { IfSome result (λ x. octets.now ≡ x.0.now ++ 64 ∷ x.1.now) }
 {

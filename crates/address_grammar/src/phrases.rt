@@ -99,7 +99,7 @@ fn push_said(
     )
 }
 
-/// The reader of the units of a phrase: whether a separator stands behind the last word, or nothing was read, and whether
+/// The reader of the units of a phrase: whether a separator stands after the last word, or nothing was read, and whether
 /// that word was an encoded word.
 #[derive(Drop)]
 pub struct PhraseReader {
@@ -159,7 +159,7 @@ impl PhraseReader {
         Ok(())
     }
 
-    /// Takes the next token, behind which these stand, and gives the units that are done by it.
+    /// Takes the next token, after which these stand, and gives the units that are done by it.
     pub fn read(
         &mut self,
         alloc: Global,

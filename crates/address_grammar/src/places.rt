@@ -6,7 +6,7 @@ ghost use Rattle.address_grammar.specs.private.Walks.{awaited_after as awaited_a
 use crate::lexemes::{front_before, is_mark};
 use field_tokens::{Lexeme, Lexemes};
 
-// What is awaited behind a token: where nothing is, `>` behind `<` and `;` behind `:`. A comma that ends the place gives
+// What is awaited after a token: where nothing is, `>` after `<` and `;` after `:`. A comma that ends the place gives
 // nothing.
 fn awaited_after(awaited: Option<u8>, lexeme: Lexeme<'_>) -> Option<Option<u8>>
     ensures { result ≡ awaited_after_of awaited (value_of lexeme.entry) }
@@ -33,7 +33,7 @@ fn awaited_after(awaited: Option<u8>, lexeme: Lexeme<'_>) -> Option<Option<u8>>
     }
 }
 
-/// The first place of a list, and what stands behind the comma that ends it.
+/// The first place of a list, and what stands after the comma that ends it.
 pub fn split_place<'a, 'b>(lexemes: Lexemes<'a, 'b>) -> Option<(Lexemes<'a, 'b>, Lexemes<'a, 'b>)>
     ensures found { IfSome result (λ x. SplitsPlace (values_of lexemes.entry) (values_of x.0) (values_of x.1)) }
     ensures shorter { IfSome result (λ x. length (values_of x.1) < length (values_of lexemes.entry)) }

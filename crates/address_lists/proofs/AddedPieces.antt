@@ -1,4 +1,4 @@
--- Pieces that are put last, and a comma behind the last one.
+-- Pieces that are put last, and a comma after the last one.
 use Rattle.std.proofs.Common.{◌≡◌, ◌≢◌, ℕ, ◌+◌, ◌<◌, List, [], ◌∷◌, ◌++◌, length, map, get_or, take, drop, refl, sym, ap, ◌∙◌, subst}
 use Rattle.std.proofs.lemmas.List.{append_assoc, append-nil, map-append, take-append-drop, drop_more, take_more}
 use Rattle.std.specs.List.{AllByRecursion}
@@ -26,7 +26,7 @@ line_onward front more = ap (λ r. r ++ more) (append-nil (crlf ++ 32 ∷ front)
 pub line_grows : (front more old mid new : List ℕ) → mid ≡ old ++ lines_of (front ∷ []) → new ≡ mid ++ more → new ≡ old ++ lines_of ((front ++ more) ∷ [])
 line_grows front more old mid new e f = f ∙ ap (λ r. r ++ more) e ∙ append_assoc old (lines_of (front ∷ [])) more ∙ ap (λ r. old ++ r) (line_onward front more)
 
--- a comma behind the last piece
+-- a comma after the last piece
 comma_after : (ps : List (List ℕ)) → ps ≢ [] → lines_of ps ++ 44 ∷ [] ≡ lines_of (with_comma ps)
 comma_after [] some = absurd (some refl)
 comma_after (p ∷ []) some = line_onward p (44 ∷ [])
@@ -40,7 +40,7 @@ adds_comma {old = old} some turn a e = record {
       e ∙ ap (λ r. r ++ 44 ∷ []) a.added ∙ append_assoc old (lines_of a.pieces) (44 ∷ []) ∙ ap (λ r. old ++ r) (comma_after a.pieces (some a.pieces a.holds));
 }
 
--- what was put behind the old octets
+-- what was put after the old octets
 pub more_added : {P : List (List ℕ) → Type 0} → {old mid new : List ℕ} → AddsLines P old mid → new ≡ mid → (more : List ℕ) × (new ≡ old ++ more)
 more_added a e = (lines_of a.pieces, e ∙ a.added)
 

@@ -1,4 +1,4 @@
--- Gaps and comments before and behind an element.
+-- Gaps and comments before and after an element.
 use Rattle.std.proofs.Common.{◌≡◌, ℕ, Bool, true, false, not, inl, inr, List, [], ◌∷◌, ◌++◌, refl, sym, ap, ◌∙◌, subst}
 use Rattle.std.proofs.lemmas.Bool.{and_parts, and_from}
 use Rattle.std.proofs.lemmas.List.{append_assoc, append-nil}
@@ -83,7 +83,7 @@ first_before n t ts (k ∷ l) m r blank is e =
     let tail : ts ≡ l ++ m ∷ r = cc e in
     record { left = l; is_left = ap (λ x. x ∷ l) (sym head); whole = tail }
 
--- the last token stands behind the mark
+-- the last token stands after the mark
 record LastAfter (ts : List TokenValue) (t : TokenValue) (l r : List TokenValue) (m : TokenValue) : Type 0 where
   right : List TokenValue
   is_right : r ≡ right ++ t ∷ []
@@ -313,7 +313,7 @@ divided_put {E = E} Says p us rest c first others whole comma says d = by d.part
     by [] div say = absurd div
     by (n ∷ parts) div say = record { parts = p ∷ n ∷ parts; divided = (c, rest, whole, comma, div); say = (first, others, refl, says, say) }
 
--- and with gaps and comments behind the last one
+-- and with gaps and comments after the last one
 pub divided_before : {E : Type 0} (Says : List TokenValue → List E → Type 0) → ((ts b : List TokenValue) (es : List E) → are_blank b ≡ true → Says ts es → Says (ts ++ b) es)
     → (ts b : List TokenValue) (es : List E) → are_blank b ≡ true → AreDivided Says ts es → AreDivided Says (ts ++ b) es
 divided_before {E = E} Says more ts b es blank d = by d.parts ts es d.divided d.say

@@ -21,7 +21,7 @@ decide_more Says walked ts place rest s (inl first) (inl more) = inl (first.0 ++
 decide_more Says walked ts place rest s (inl first) (inr none) = inr (λ es d. let part = divided_first Says walked ts place rest es s d in none part.others part.divided)
 decide_more Says walked ts place rest s (inr none) more = inr (λ es d. let part = divided_first Says walked ts place rest es s d in none part.first part.says)
 
--- the tokens of a place come first, and nothing or something is awaited behind them
+-- the tokens of a place come first, and nothing or something is awaited after them
 abbrev DecidesFrom : {E : Type 0} → (List TokenValue → List E → Type 0) → List TokenValue → Type 0
 DecidesFrom Says ts = (front : List TokenValue) (awaited : Option ℕ) → walk None front ≡ Some awaited → Known (AreDivided Says) (front ++ ts)
 

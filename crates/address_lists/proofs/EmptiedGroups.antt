@@ -187,7 +187,7 @@ group_stands ts name ms sound has all =
 
 -- ---- the group
 
--- the pieces are a group of this name without members, and the comments behind it
+-- the pieces are a group of this name without members, and the comments after it
 pub record IsEmptiedAgain (us : List UnitValue) (values : List CommentValue) (pieces : List (List ℕ)) : Type 0 where
   pub tokens : List TokenValue
   pub is_group : IsGroup tokens us []

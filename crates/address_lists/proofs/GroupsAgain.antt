@@ -31,7 +31,7 @@ use Rattle.address_lists.proofs.AsciiElements.{ascii_member_again}
 
 -- ---- tokens around a mark
 
--- what stands before a mark in a text, and what stands behind it
+-- what stands before a mark in a text, and what stands after it
 pub record CutsText (n : ℕ) (ts before after : List TokenValue) : Type 0 where
   pub front : HasMailTokens (octets_of before) before
   pub rest : HasMailTokens (octets_of after) after
@@ -120,7 +120,7 @@ MembersPieces-read (p ∷ q ∷ parts) ts ms values pieces has d say plain comme
 
 -- ---- between the colon and the semicolon
 
--- what may stand behind others: nothing, or members or comments behind a space
+-- what may stand after others: nothing, or members or comments after a space
 record IsInnerAgain (ms : List MailboxValue) (values : List CommentValue) (pieces : List (List ℕ)) : Type 0 where
   made : List MailboxValue
   same : AllZip IsServedMailbox ms made
@@ -178,7 +178,7 @@ kept_pieces first inner comments c s =
 spaced_comments : (ts : List TokenValue) → comments_of (ts ++ space ∷ []) ≡ comments_of ts
 spaced_comments ts = comments_of-append ts (space ∷ []) ∙ append-nil (comments_of ts)
 
--- the comments of a name, of what stands between a colon and a semicolon, and of what stands behind it
+-- the comments of a name, of what stands between a colon and a semicolon, and of what stands after it
 kept_comments : (n i b : List TokenValue) → comments_of ((n ++ space ∷ []) ++ mark 58 ∷ ((i ++ space ∷ []) ++ mark 59 ∷ b)) ≡ comments_of n ++ (comments_of i ++ comments_of b)
 kept_comments n i b =
     mark_comments 58 (n ++ space ∷ []) ((i ++ space ∷ []) ++ mark 59 ∷ b) (mark 58) refl ∙ ap (λ r. r ++ comments_of ((i ++ space ∷ []) ++ mark 59 ∷ b)) (spaced_comments n)

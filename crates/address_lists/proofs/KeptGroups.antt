@@ -75,7 +75,7 @@ members_onward ts rest part after written first w s g (q ∷ parts) ms more d sa
     = record { parts = part ∷ q ∷ parts; divided = (s.comma, after, s.whole, s.is_comma, d); say = (g.member ∷ [], ms, refl, g.says, say) } in
     w.onward ((g.member ∷ []) ++ ms) whole (with_comma first ++ more) (first, more, g.gives, p, refl)
 
--- a member with a comma behind it
+-- a member with a comma after it
 abbrev GivesWithComma : List TokenValue → List (List ℕ) → Type 0
 GivesWithComma part pieces = (first : List (List ℕ)) × GivesMember part first × (pieces ≡ with_comma first)
 
@@ -150,7 +150,7 @@ group_with ts before following inner after served g s t =
       are_members = both.1;
     }
 
--- a mark and pieces behind it
+-- a mark and pieces after it
 abbrev MarkThen : ℕ → (List (List ℕ) → Type 0) → List (List ℕ) → Type 0
 MarkThen mark P pieces = (more : List (List ℕ)) × P more × (pieces ≡ (mark ∷ []) ∷ more)
 

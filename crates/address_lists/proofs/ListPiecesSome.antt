@@ -73,7 +73,7 @@ record CanWriteMailbox (m : MailboxValue) : Type 0 where
   display : AreWritable m.display
   address : IsUtf8 (address_text m.address)
 
--- what stands before, between and behind angle brackets
+-- what stands before, between and after angle brackets
 record ServesAngled (before inner after : List TokenValue) : Type 0 where
   front : CanServe before
   within : CanServe inner
@@ -123,7 +123,7 @@ group_writable name ms can all =
 
 -- ---- texts
 
--- what goes to the last token that is no gap, and the gaps behind it
+-- what goes to the last token that is no gap, and the gaps after it
 record EndsText (ts : List TokenValue) : Type 0 where
   others : List TokenValue
   last : TokenValue

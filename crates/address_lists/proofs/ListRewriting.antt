@@ -121,7 +121,7 @@ later (p ∷ n ∷ parts) ts es d say =
     ap (λ r. r || list_any (λ q. not (are_blank q)) (n ∷ parts)) one ∙ ap (λ r. list_any is_element_token p || r) more
     ∙ ap (λ r. list_any is_element_token p || (r || list_any is_element_token d.1)) (sym (comma_token d.0 d.3)) ∙ sym (list_any-append is_element_token p (d.0 ∷ d.1)) ∙ ap (list_any is_element_token) (sym d.2)
 
--- ---- whether an element stands behind
+-- ---- whether an element stands after
 
 pub any_turn : (all rest following : List TokenValue) (t : TokenValue) → list_any is_element_token all ≡ list_any is_element_token rest → rest ≡ t ∷ following → is_element_token t ≡ false
     → list_any is_element_token all ≡ list_any is_element_token following

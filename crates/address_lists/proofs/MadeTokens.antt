@@ -50,7 +50,7 @@ begins-append : (a b : List TokenValue) → 0 < length a → BeginsNoGap a → B
 begins-append [] b some begins = absurd (omega (arith, some))
 begins-append (t ∷ a) b some begins = begins
 
--- pieces behind others
+-- pieces after others
 pub made_two : (a b : List TokenValue) (ps qs : List (List ℕ)) → AreMade a ps → AreMade b qs → AreMade (a ++ space ∷ b) (ps ++ qs)
 made_two a b ps qs one two = record {
   are_tokens = rw (join_both ps qs one.some two.some) (AreTokens-space Mail a b (join_with_byte 32 ps) (join_with_byte 32 qs) one.are_tokens one.ends two.are_tokens two.begins);
@@ -102,7 +102,7 @@ made_comma ts ps made = record {
   each = comma_pieces ps made.each;
 }
 
--- pieces behind a comma
+-- pieces after a comma
 pub made_divided : (a b : List TokenValue) (ps qs : List (List ℕ)) → AreMade a ps → AreMade b qs → AreMade (a ++ comma ∷ space ∷ b) (with_comma ps ++ qs)
 made_divided a b ps qs one two = rw (append_assoc a (comma ∷ []) (space ∷ b)) at (made_two (a ++ comma ∷ []) b (with_comma ps) qs (made_comma a ps one) two)
 
@@ -257,7 +257,7 @@ comments_made cs values pieces some all say are = by written.made refl
           (CommentsPieces-line cs pieces (line_writable cs all) (line_plain cs all) are);
     }
 
--- what may stand behind others: nothing, or comments behind a space
+-- what may stand after others: nothing, or comments after a space
 pub record MadeAfter (values : List CommentValue) (pieces : List (List ℕ)) : Type 0 where
   pub tokens : List TokenValue
   pub blank : are_blank tokens ≡ true

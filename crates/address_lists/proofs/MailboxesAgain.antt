@@ -126,7 +126,7 @@ angled_served ts before inner m served has angled named e =
     let all : AllByRecursion IsSound (before ++ angled.open_mark ∷ (inner ++ angled.close_mark ∷ angled.after)) = rw (angled.whole) at (text_sound ts has) in
     routed_served inner m.address served (sound_front inner (angled.close_mark ∷ angled.after) (sound_rest before (angled.open_mark ∷ (inner ++ angled.close_mark ∷ angled.after)) all).1) named.address e
 
--- the brackets with this before them, and comments behind them
+-- the brackets with this before them, and comments after them
 brackets_mailbox : (before following : List TokenValue) (m : MailboxValue) (served : Address) (w : WritesAddress served) → SaysPhrase before m.phrase m.display → m.angle ≡ true → are_blank following ≡ true
     → IsMailbox (before ++ (bracketed w.tokens ++ following)) (with_address m served)
 brackets_mailbox before following m served w says angle blank = inr (record {

@@ -30,7 +30,7 @@ path_writes text ts a served has is e =
     let following = (sound_rest is.before (angled.open_mark ∷ (is.inner ++ angled.close_mark ∷ angled.after)) sound).1 in
     address_served is.inner a served (sound_front is.inner (angled.close_mark ∷ angled.after) following) is.holds e
 
--- brackets, and comments behind them
+-- brackets, and comments after them
 brackets_path : (served : Address) (w : WritesAddress served) (following : List TokenValue) → are_blank following ≡ true → IsPath (bracketed w.tokens ++ following) (Some served)
 brackets_path served w following blank = record {
   before = [];

@@ -57,7 +57,7 @@ no_phrase ts none (us ∷ vs ∷ more) is = is
 
 -- ---- the writer
 
--- the pieces of phrases, with a comma behind each phrase
+-- the pieces of phrases, with a comma after each phrase
 abbrev pub commas_after : List (List (List ℕ)) → List (List ℕ)
 commas_after places = flat_map (λ pieces. pieces ++ (44 ∷ []) ∷ []) places
 

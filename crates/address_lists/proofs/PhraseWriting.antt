@@ -31,7 +31,7 @@ pub record PassesGaps (all rest : List TokenValue) : Type 0 where
 pub gaps_start : (ts : List TokenValue) → PassesGaps ts ts
 gaps_start ts = record { lead = []; whole = refl; gaps = refl }
 
--- tokens with one behind them
+-- tokens with one after them
 one_after : (front rest following : List TokenValue) (t : TokenValue) → rest ≡ t ∷ following → front ++ rest ≡ (front ++ t ∷ []) ++ following
 one_after front rest following t e = ap (λ r. front ++ r) e ∙ sym (append_assoc front (t ∷ []) following)
 
@@ -64,7 +64,7 @@ ends_so p [] t h = h
 ends_so p (u ∷ []) t h = h
 ends_so p (u ∷ v ∷ ts) t h = ends_so p (v ∷ ts) t h
 
--- behind the last token that doesn't pass stand these, as far as they were looked at
+-- after the last token that doesn't pass stand these, as far as they were looked at
 pub record TrailSoFar (p : TokenValue → Bool) (all trail rest : List TokenValue) : Type 0 where
   pub front : List TokenValue
   pub whole : all ≡ front ++ trail
@@ -209,7 +209,7 @@ gaps_no_comments (t ∷ ts) h =
     let parts = and_parts (is_gap t.kind) (list_all (λ u. is_gap u.kind) ts) h in
     rw (gap_no_comment t.kind parts.0) (gaps_no_comments ts parts.1)
 
--- the comments of the core come first, and then those behind it
+-- the comments of the core come first, and then those after it
 pub core_comments : (tokens core trail : List TokenValue) → HasCore tokens core trail → comments_of tokens ≡ comments_of core ++ comments_of trail
 core_comments tokens core trail has =
     ap comments_of has.whole ∙ comments_of-append has.lead (core ++ trail) ∙ rw (gaps_no_comments has.lead has.gaps) (comments_of-append core trail)

@@ -49,7 +49,7 @@ pub CommentsSay-append : (cs ds : List (List ℕ)) (vs ws : List CommentValue) �
 CommentsSay-append [] ds vs ws a b = rw (a) b
 CommentsSay-append (c ∷ cs) ds vs ws a b = (a.0, a.1 ++ ws, ap (λ r. r ++ ws) a.2, a.3, CommentsSay-append cs ds a.1 ws a.4 b)
 
--- what comments in front say, and those behind them
+-- what comments in front say, and those after them
 pub record SayBoth (cs ds : List (List ℕ)) (values : List CommentValue) : Type 0 where
   pub first : List CommentValue
   pub more : List CommentValue
@@ -71,7 +71,7 @@ say_both (c ∷ cs) ds values say =
 
 -- ---- pieces that are joined
 
--- ---- comments behind
+-- ---- comments after
 
 joined_by_spaces-comments : (part : List TokenValue) (cs : List (List ℕ)) → joined_by_spaces (part ∷ comment_parts cs) ≡ part ++ spaced cs
 joined_by_spaces-comments part [] = sym (append-nil part)
@@ -317,7 +317,7 @@ lines_rest : (a b : List (List ℕ)) → AreLineComments (a ++ b) → AreLineCom
 lines_rest [] b all = all
 lines_rest (c ∷ a) b all = lines_rest a b all.1
 
--- the parts of what is known, over the core and what stands behind it
+-- the parts of what is known, over the core and what stands after it
 record IsWrittenPhrase (tokens core trail : List TokenValue) (us : List UnitValue) (values : List CommentValue) : Type 0 where
   in_text : HasMailTokens (octets_of tokens) tokens
   core_text : HasMailTokens (octets_of core) core

@@ -66,7 +66,7 @@ pub record ArePlacesAgain (es : List ElementValue) (values : List CommentValue) 
 one_place : (ts : List TokenValue) (es : List ElementValue) → SaysPlace ts es → AreDivided SaysPlace ts es
 one_place ts es says = record { parts = ts ∷ []; divided = refl; say = (es, [], sym (append-nil es), says, refl) }
 
--- an element, and comments behind it
+-- an element, and comments after it
 last_place : (e : ElementValue) (front following : List CommentValue) (first comments cs : List (List ℕ)) → IsElementAgain e front first → AreCommentsOfLine cs → CommentsSay cs following → CommentsPieces cs comments
     → ArePlacesAgain (e ∷ []) (front ++ following) (first ++ comments)
 last_place e front following first comments cs one all say are =
@@ -162,7 +162,7 @@ place_element : (ts : List TokenValue) (e : ElementValue) (values : List Comment
 place_element ts e values first has filled is say given =
     ElementPieces-read (list_all is_ascii (octets_of ts)) ts e values first refl (record { text = has; is_element = is; say = say }) (subst (λ b. PlaceOfListPieces b ts first) filled given)
 
--- a place that isn't blank, and only comments behind it
+-- a place that isn't blank, and only comments after it
 filled_last : (ts : List TokenValue) (es : List ElementValue) (front following : List CommentValue) (first comments cs : List (List ℕ)) → HasMailTokens (octets_of ts) ts → are_blank ts ≡ false → SaysPlace ts es
     → CommentsSay (comments_of ts) front → PlaceOfListPieces (are_blank ts) ts first → AreCommentsOfLine cs → CommentsSay cs following → CommentsPieces cs comments → ArePlacesAgain es (front ++ following) (first ++ comments)
 filled_last ts [] front following first comments cs has filled says say given all rest are = absurd (both_ways (are_blank ts) filled says)
@@ -170,7 +170,7 @@ filled_last ts (e ∷ []) front following first comments cs has filled says say 
     last_place e front following first comments cs (place_element ts e front first has filled says say given) all rest are
 filled_last ts (e ∷ f ∷ es) front following first comments cs has filled says say given all rest are = absurd says
 
--- and other places behind it
+-- and other places after it
 filled_next : (ts : List TokenValue) (es fs : List ElementValue) (front following : List CommentValue) (first others : List (List ℕ)) → HasMailTokens (octets_of ts) ts → are_blank ts ≡ false → SaysPlace ts es
     → CommentsSay (comments_of ts) front → PlaceOfListPieces (are_blank ts) ts first → ArePlacesAgain fs following others → ArePlacesAgain (es ++ fs) (front ++ following) (with_comma first ++ others)
 filled_next ts [] fs front following first others has filled says say given more = absurd (both_ways (are_blank ts) filled says)

@@ -53,7 +53,7 @@ pub angled_adds : (ts : List TokenValue) (m : MailboxValue) (served : Address) (
 angled_adds ts m served old mid new is unnamed s e a = adds_both
     (λ xs comments p q. MailboxPieces.Angled m served is.before is.inner comments is.angled is.named unnamed s q (ap (λ r. r ++ comments) p)) (adds_piece (in_angles (address_text served)) old mid e) a
 
--- the comments of tokens and of others behind them
+-- the comments of tokens and of others after them
 comments_both : (front following : List TokenValue) (old mid new : List ℕ) → AddsLines (CommentsPieces (comments_of front)) old mid → AddsLines (CommentsPieces (comments_of following)) mid new
     → AddsLines (CommentsPieces (comments_of (front ++ following))) old new
 comments_both front following old mid new a b = adds_both

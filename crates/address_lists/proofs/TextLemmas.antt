@@ -27,7 +27,7 @@ ascii_stop all rest following t so e other = sym (so ∙ first_ascii rest follow
 pub ascii_end : (all rest : List TokenValue) → list_all is_ascii (octets_of all) ≡ list_all is_ascii (octets_of rest) → rest ≡ [] → true ≡ list_all is_ascii (octets_of all)
 ascii_end all rest so e = sym (so ∙ ap (λ r. list_all is_ascii (octets_of r)) e)
 
--- ---- gaps behind
+-- ---- gaps after
 
 ends_gap : (ts : List TokenValue) → EndsNo (λ t. is_gap t.kind) ts → EndsNoGap ts
 ends_gap [] e = e

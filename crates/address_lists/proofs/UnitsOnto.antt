@@ -55,7 +55,7 @@ all_onto-merged : (us : List UnitValue) → all_onto us [] ≡ merged us
 all_onto-merged [] = refl
 all_onto-merged (u ∷ us) = ap (onto u) (all_onto-merged us) ∙ sym (merged-onto u us)
 
--- members with a comma behind each
+-- members with a comma after each
 abbrev pub units_before : List MailboxValue → List UnitValue
 units_before ms = flat_map (λ m. member_units m ++ Text (codes ", ") ∷ []) ms
 
@@ -118,7 +118,7 @@ out_append old mid new a b c xs ys s t = record {
   units = λ us. append_assoc s.written t.written (all_units_then new us) ∙ ap (λ r. s.written ++ r) (t.units us) ∙ s.units (all_onto ys us) ∙ ap (all_units_then old) (sym (all_onto-append xs ys us));
 }
 
--- text behind units
+-- text after units
 pub out_text : (old mid new : Merging) (a b : List ℕ) (xs ys : List UnitValue) → TakesOut old mid a b xs → TakesUnits mid new ys → TakesOut old new a b (xs ++ ys)
 out_text old mid new a b xs ys s t = out_append old mid new a b b xs ys s (out_of mid new b ys t)
 

@@ -45,7 +45,7 @@ rest_can a b can = record {
   says = all-back SaysUtf8 a b can.says;
 }
 
--- what stands before and behind a token
+-- what stands before and after a token
 pub before_can : (ts a b : List TokenValue) (t : TokenValue) → ts ≡ a ++ t ∷ b → CanBeWritten ts → CanBeWritten a
 before_can ts a b t whole can = front_can a (t ∷ b) (subst CanBeWritten whole can)
 

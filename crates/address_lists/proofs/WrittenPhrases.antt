@@ -53,7 +53,7 @@ not_in_all : (p : TokenValue → Bool) (b : List TokenValue) (t : TokenValue) (y
 not_in_all p [] t y other h = both_ways (p t) other (and_parts (p t) (list_all p y) h).0
 not_in_all p (u ∷ b) t y other h = not_in_all p b t y other (and_parts (p u) (list_all p ((b ++ t ∷ []) ++ y)) h).1
 
--- tokens are cut in one way behind the last one that doesn't pass
+-- tokens are cut in one way after the last one that doesn't pass
 pub trail_once : (p : TokenValue → Bool) (a b : List TokenValue) (s t : TokenValue) (x y : List TokenValue) → p s ≡ false → p t ≡ false → list_all p x ≡ true → list_all p y ≡ true
     → (a ++ s ∷ []) ++ x ≡ (b ++ t ∷ []) ++ y → SameEnds (a ++ s ∷ []) (b ++ t ∷ []) x y
 trail_once p [] [] s t x y ws wt bx by e =

@@ -91,13 +91,13 @@ abbrev pub MemberPieces : Bool → List TokenValue → List (List ℕ) → Type 
 MemberPieces true tokens pieces = (text : List TokenValue) × HasText tokens text × (pieces ≡ octets_of text ∷ [])
 MemberPieces false tokens pieces = MailboxPieces tokens pieces
 
--- a comma behind the last piece
+-- a comma after the last piece
 abbrev pub with_comma : List (List ℕ) → List (List ℕ)
 with_comma [] = []
 with_comma (p ∷ []) = (p ++ comma ∷ []) ∷ []
 with_comma (p ∷ q ∷ ps) = p ∷ with_comma (q ∷ ps)
 
--- The pieces of a group's members, a comma behind each but the last.
+-- The pieces of a group's members, a comma after each but the last.
 abbrev pub MembersPieces : List (List TokenValue) → List (List ℕ) → Type 0
 MembersPieces [] pieces = ⊥
 MembersPieces (p ∷ []) pieces = MemberPieces (list_all is_ascii (octets_of p)) p pieces
@@ -110,7 +110,7 @@ InnerPieces inner pieces = ((are_blank inner ≡ true) × CommentsPieces (commen
 
 -- the pieces of a group with an octet above 127
 pub data GroupPieces (tokens : List TokenValue) (pieces : List (List ℕ)) : Type 0 where
-  -- its name and the comments beside it, its members, and then the comments behind it
+  -- its name and the comments beside it, its members, and then the comments after it
   Kept : (name : List UnitValue) (members : List MailboxValue) (first inner comments : List (List ℕ)) → (g : IsGroup tokens name members) → list_all has_served_address members ≡ true
       → PlacePieces g.before first → InnerPieces g.group.inner inner → CommentsPieces (comments_of g.group.after) comments
       → pieces ≡ first ++ (colon ∷ []) ∷ (inner ++ (semicolon ∷ []) ∷ comments) → GroupPieces tokens pieces
@@ -130,11 +130,11 @@ abbrev pub PlaceOfListPieces : Bool → List TokenValue → List (List ℕ) → 
 PlaceOfListPieces true tokens pieces = CommentsPieces (comments_of tokens) pieces
 PlaceOfListPieces false tokens pieces = ElementPieces (list_all is_ascii (octets_of tokens)) tokens pieces
 
--- a comma is put behind an element that another follows
+-- a comma is put after an element that another follows
 abbrev pub comma_followed : List TokenValue → List (List TokenValue) → List (List ℕ) → List (List ℕ)
 comma_followed place places pieces = if not (are_blank place) && list_any (λ p. not (are_blank p)) places then with_comma pieces else pieces
 
--- The pieces of the places of a list, a comma behind each element that another follows.
+-- The pieces of the places of a list, a comma after each element that another follows.
 abbrev pub PlacesPieces : List (List TokenValue) → List (List ℕ) → Type 0
 PlacesPieces [] pieces = pieces ≡ []
 PlacesPieces (place ∷ places) pieces = (first more : List (List ℕ)) × PlaceOfListPieces (are_blank place) place first × PlacesPieces places more × (pieces ≡ comma_followed place places first ++ more)

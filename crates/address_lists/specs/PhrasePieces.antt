@@ -32,7 +32,7 @@ pub record HasCore (tokens core trail : List TokenValue) : Type 0 where
   pub blank : are_blank trail ≡ true
   pub whole : tokens ≡ lead ++ (core ++ trail)
 
--- the pieces of a phrase, and then those of the comments behind it
+-- the pieces of a phrase, and then those of the comments after it
 pub record PlacePieces (tokens : List TokenValue) (pieces : List (List ℕ)) : Type 0 where
   pub core : List TokenValue
   pub trail : List TokenValue

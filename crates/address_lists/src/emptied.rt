@@ -256,7 +256,7 @@ fn write_group_units(
     write_rest(alloc, units, made)
 }
 
-// Puts a group without members last, behind its name, and then all comments.
+// Puts a group without members last, after its name, and then all comments.
 fn write_no_members(
     alloc: Global,
     lexemes: Lexemes<'_, '_>,

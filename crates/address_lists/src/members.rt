@@ -75,7 +75,7 @@ fn are_served_members(alloc: Global, lexemes: Lexemes<'_, '_>) -> Result<bool, A
     are_served(alloc, lexemes)
 }
 
-/// Whether the addresses of the group of this name can be served, of what stands behind its colon.
+/// Whether the addresses of the group of this name can be served, of what stands after its colon.
 pub fn is_served_group(
     alloc: Global,
     name: Lexemes<'_, '_>,

@@ -103,7 +103,7 @@ fn has_element(lexemes: Lexemes<'_, '_>) -> bool
     false
 }
 
-// Whether an element stands in a place, and another one behind it. The time over a whole list is linear: no token is looked
+// Whether an element stands in a place, and another one after it. The time over a whole list is linear: no token is looked
 // at for two elements.
 fn is_followed(place: Lexemes<'_, '_>, following: Lexemes<'_, '_>) -> bool
     ensures { result ≡ (not (are_blank_of (values_of place.entry)) && list_any is_element_token (values_of following.entry)) }
@@ -111,7 +111,7 @@ fn is_followed(place: Lexemes<'_, '_>, following: Lexemes<'_, '_>) -> bool
     !are_blank(place) && has_element(following)
 }
 
-// Puts the pieces of a place last that a comma ends, and puts a comma behind an element that another follows.
+// Puts the pieces of a place last that a comma ends, and puts a comma after an element that another follows.
 fn write_followed(
     alloc: Global,
     place: Lexemes<'_, '_>,

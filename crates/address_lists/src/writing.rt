@@ -26,7 +26,7 @@ pub(crate) fn is_gap(lexeme: Lexeme<'_>) -> bool
     matches!(lexeme.kind, TokenKind::Gap)
 }
 
-// What stands behind the gaps in front.
+// What stands after the gaps in front.
 pub(crate) fn after_gaps<'a, 'b>(lexemes: Lexemes<'a, 'b>) -> Lexemes<'a, 'b>
     ensures { SkipsGaps (values_of lexemes.entry) (values_of result) }
 {
@@ -40,7 +40,7 @@ pub(crate) fn after_gaps<'a, 'b>(lexemes: Lexemes<'a, 'b>) -> Lexemes<'a, 'b>
     rest
 }
 
-// What goes to the last token that is neither gap nor comment, and what stands behind it.
+// What goes to the last token that is neither gap nor comment, and what stands after it.
 fn split_trail<'a, 'b>(lexemes: Lexemes<'a, 'b>) -> (Lexemes<'a, 'b>, Lexemes<'a, 'b>)
     ensures { SplitsTrail (values_of lexemes.entry) (values_of result.0) (values_of result.1) }
 {
@@ -55,7 +55,7 @@ fn split_trail<'a, 'b>(lexemes: Lexemes<'a, 'b>) -> (Lexemes<'a, 'b>, Lexemes<'a
     (front_before(lexemes, trail), trail)
 }
 
-// The phrase from its first token that is no gap to its last word, and the gaps and comments behind it.
+// The phrase from its first token that is no gap to its last word, and the gaps and comments after it.
 pub(crate) fn split_core<'a, 'b>(lexemes: Lexemes<'a, 'b>) -> (Lexemes<'a, 'b>, Lexemes<'a, 'b>)
     requires { IsPhrase (values_of lexemes) }
     ensures { HasCore (values_of lexemes.entry) (values_of result.0) (values_of result.1) }
@@ -135,7 +135,7 @@ pub(crate) fn push_core(
     write_comments(alloc, lexemes, made)
 }
 
-/// Puts the pieces of a phrase last, and those of the comments behind it.
+/// Puts the pieces of a phrase last, and those of the comments after it.
 pub fn write_phrase(
     alloc: Global,
     lexemes: Lexemes<'_, '_>,

@@ -49,7 +49,7 @@ fn write_member(alloc: Global, lexemes: Lexemes<'_, '_>, made: &mut Octets) -> R
     write_mailbox(alloc, lexemes, &mailbox, made)
 }
 
-// Puts the pieces of members last, with a comma behind each but the last one.
+// Puts the pieces of members last, with a comma after each but the last one.
 fn write_members(alloc: Global, lexemes: Lexemes<'_, '_>, made: &mut Octets) -> Result<(), Memory>
     requires writable { CanBeWritten (values_of lexemes) }
     requires members { AreSomeMailboxes (values_of lexemes) }
@@ -115,7 +115,7 @@ fn write_known_group(
     write_not_kept(alloc, lexemes, made)
 }
 
-/// Puts the pieces of the group of this name last, of what stands behind its colon.
+/// Puts the pieces of the group of this name last, of what stands after its colon.
 pub fn write_group(
     alloc: Global,
     lexemes: Lexemes<'_, '_>,

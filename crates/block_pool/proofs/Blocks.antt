@@ -19,7 +19,7 @@ take_over : (piece ys : List ℕ) (m : ℕ) → take (length piece + m) (piece +
 take_over piece ys m =
     take-append-add piece (drop (length piece) ys) m ∙ sym (ap (λ (zs : List ℕ). piece ++ zs) (drop-take (length piece) m ys))
 
--- the first octets of a list are others, and those behind them stay
+-- the first octets of a list are others, and those after them stay
 take_over_of : (size : ℕ) (piece ys : List ℕ) → length piece ≤ size → take size (piece ++ drop (length piece) ys) ≡ piece ++ drop (length piece) (take size ys)
 take_over_of size piece ys fits =
     let e : size ≡ length piece + (size - length piece) = omega arith in

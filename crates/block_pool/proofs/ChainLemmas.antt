@@ -61,7 +61,7 @@ module _ (owner : ℕ → Option ℕ) (rank : ℕ → ℕ) (whose : Option ℕ) 
         chain_taken owner' rank' whose' next rest (slice_index next block) count total (omega arith) chain.3 taken,
       )
 
-  -- the blocks behind them are a chain
+  -- the blocks after them are a chain
   pub chain_rest : (next : List ℕ) (rest block count total : ℕ) → total ≡ count + rest → IsChain owner rank whose next block total
       → IsChain owner rank whose next (block_after next block count) rest
   chain_rest next rest block zero total sum chain =

@@ -24,7 +24,7 @@ length-along region next block (suc count) whole inside =
 drop_past : (size n : ℕ) (xs ys : List ℕ) → length xs ≡ size → drop (size + n) (xs ++ ys) ≡ drop n ys
 drop_past size n xs ys is = sym (drop-drop n size (xs ++ ys)) ∙ ap (drop n) (drop_at xs ys size is)
 
--- what stands behind so many whole blocks and some octets more
+-- what stands after so many whole blocks and some octets more
 pub drop-along : (region next : List ℕ) (block steps count more : ℕ) → length region ≡ 4096 * length next → StaysInside next block
     → drop (4096 * steps + more) (along region next block (steps + count)) ≡ drop more (along region next (block_after next block steps) count)
 drop-along region next block zero count more whole inside =

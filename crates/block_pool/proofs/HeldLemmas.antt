@@ -50,7 +50,7 @@ abbrev pub one_of : (ℕ → ℕ → List ℕ) → ℕ → Option ℕ → List H
 one_of octets_of id None = []
 one_of octets_of id (Some len) = (record { id = id; octets = octets_of id len }) ∷ []
 
--- where the length at one place is set, what stands before and behind it stays
+-- where the length at one place is set, what stands before and after it stays
 pub held_from-set : (octets_of : ℕ → ℕ → List ℕ) (first : ℕ) (lens : List (Option ℕ)) (at id : ℕ) (one : Option ℕ) → at < length lens → id ≡ first + at
     → held_from octets_of first (set lens at one)
     ≡ held_from octets_of first (take at lens) ++ (one_of octets_of id one ++ held_from octets_of (suc id) (drop (suc at) lens))

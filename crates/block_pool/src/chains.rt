@@ -1,4 +1,4 @@
-//! Chains of blocks in one region: each block has the number of the one behind it.
+//! Chains of blocks in one region: each block has the number of the one after it.
 ghost use Rattle.std.specs.Prelude.{◌≡◌, ℕ, ◌+◌, ◌*◌, ◌<◌, ◌≤◌, length, take, drop, IfOk};
 ghost use Rattle.block_pool.specs.Pool.{needed_blocks};
 ghost use Rattle.block_pool.specs.private.Chains.{StaysInside, GoesInOrder, block_after, along, written, filled};
@@ -16,7 +16,7 @@ pub fn needed(len: usize) -> usize
     len.div_ceil(BLOCK).max(1)
 }
 
-// Each block with the next one behind it; the last goes back to the first.
+// Each block with the next one after it; the last goes back to the first.
 pub(crate) fn in_order(alloc: Global, blocks: u32) -> Result<Vec<u32>, Memory>
     requires { 1 ≤ blocks }
     ensures len { IfOk result (λ next. length next.items ≡ blocks) }
@@ -31,7 +31,7 @@ pub(crate) fn in_order(alloc: Global, blocks: u32) -> Result<Vec<u32>, Memory>
     Ok(next)
 }
 
-// The block so many steps behind a block.
+// The block so many steps after a block.
 pub(crate) fn following(next: &[u32], first: u32, steps: usize) -> u32
     requires { StaysInside next.now first }
     ensures value { result ≡ block_after next.now first steps }
@@ -54,7 +54,7 @@ fn write(region: &mut [u8], block: u32, piece: &[u8])
     region[start..start + piece.len()].copy_from_slice(piece);
 }
 
-// Copies octets to the blocks from `first` on, and answers the block behind those that they take.
+// Copies octets to the blocks from `first` on, and answers the block after those that they take.
 pub(crate) fn fill(region: &mut [u8], next: &[u32], first: u32, octets: &[u8]) -> u32
     requires inside { StaysInside next.now first }
     requires region { length region.old ≡ 4096 * length next.now }

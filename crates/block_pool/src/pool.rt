@@ -14,7 +14,7 @@ pub const BLOCKS_MAX: u32 = 65_536;
 #[derive(Drop)]
 pub struct Pool {
     region: Vec<u8>,
-    // the block behind each block, in the chain of a thing or of the free blocks
+    // the block after each block, in the chain of a thing or of the free blocks
     next: Vec<u32>,
     // the length of the thing that begins at each block
     lens: Vec<Option<usize>>,

@@ -139,7 +139,7 @@ fn after_a_fault_of_the_keeper_the_desk_is_opened_again(rt: HostRuntime) -> Resu
     Ok(())
 }
 
-/// How a session ends over this journal within these limits, what it was given, and the desk behind it.
+/// How a session ends over this journal within these limits, what it was given, and the desk after it.
 pub fn served_within(
     alloc: Global,
     role: Role,

@@ -58,7 +58,7 @@ const CAFE_SURROGATE: &[u8] = b"Subject:\r\n =?UTF-8?B?Y2Fmw6k=?=\r\n bar\r\n\r\
 const FIELD: usize = 39;
 
 // The call that fails where so many octets are given. The input is taken by one call, and its end is seen by another one; the field that
-// is made anew is given by the next, and what is kept behind it by the last.
+// is made anew is given by the next, and what is kept after it by the last.
 fn failure_after(kept: usize) -> Failure {
     if kept < FIELD {
         return Failure { call: 2, kept };
@@ -127,7 +127,7 @@ fn record_len(octets: &[u8], at: usize) -> usize {
     }
 }
 
-// Whether a session was told as much as all were, but for what comes behind the data, and has so much of its records.
+// Whether a session was told as much as all were, but for what comes after the data, and has so much of its records.
 fn is_first_of(cut: &Outcome, all: &Outcome, kept: usize) -> bool {
     cut.status == 2
         && cut.given.as_slice().ends_with(b"354 go ahead\r\n")

@@ -113,7 +113,7 @@ fn is_broken_off(cut: &Outcome, journal: &[u8], sent: Option<&[u8]>) -> bool {
     cut.status == 2 && cut.given.is_empty() && is_first
 }
 
-// Whether a relay cuts off what was begun behind the journal, and sends the message.
+// Whether a relay cuts off what was begun after the journal, and sends the message.
 fn is_sent_again(alloc: Global, journal: &[u8], left: &[u8]) -> Result<bool, Memory> {
     let mut dial = dial_of(alloc, SERVER, &[])?;
     let again = relayed(alloc, "x", left, Failing::Nothing, &mut dial)?;

@@ -17,7 +17,7 @@ use std::process::ExitCode;
 use std::rt::Clock;
 use tcp_wire::TcpDial;
 
-// The words behind the program's name. Arguments that aren't UTF-8 are the words of no command: none.
+// The words after the program's name. Arguments that aren't UTF-8 are the words of no command: none.
 fn words<R: Env + Alloc<A = Global>>(rt: &R) -> Result<Words, Memory> {
     let mut words = Words::none(rt.alloc());
     match env::args(rt) {

@@ -28,7 +28,7 @@ where
     status
 }
 
-// Says why nobody can be served behind this port.
+// Says why nobody can be served after this port.
 fn tell_port<T: Eprint + Alloc<A = Global>>(rt: &T, port: u16, error: io::Error) -> io::Result<()> {
     let place = format!(in rt.alloc(); "127.0.0.1, port {port}")?;
     tell(rt, place.as_str(), error)

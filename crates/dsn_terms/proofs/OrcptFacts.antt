@@ -65,7 +65,7 @@ not-Orcpt-utf8 utf8 value text e none orcpt is = elim is [
   | inr x ↦ none orcpt (subst (λ t. IsUtf8Recipient utf8 t orcpt) (same_some x.rest text (behind (codes "utf-8;") value) x.rest_is e) x.holds)
 ]
 
--- where nothing is read of the text behind a type, nothing is of the value
+-- where nothing is read of the text after a type, nothing is of the value
 pub none-rfc822 : {E : Type 0} (read : Result (Option (List ℕ)) E) (utf8 : Bool) (value text : List ℕ) → behind (codes "rfc822;") value ≡ Some text
     → IfOk read (λ o. IfNone o ((orcpt : List ℕ) → IsRfc822Recipient text orcpt → ⊥)) → IfOk read (λ o. IfNone o ((orcpt : List ℕ) → IsOrcpt utf8 value orcpt → ⊥))
 none-rfc822 (Ok None) utf8 value text e none = not-Orcpt-rfc822 utf8 value text e none

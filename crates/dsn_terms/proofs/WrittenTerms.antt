@@ -29,7 +29,7 @@ use Rattle.dsn_terms.proofs.NotifyFacts.{IsNotify-written, visible-notify}
 
 -- ---- texts put last
 
--- a value behind a front
+-- a value after a front
 pub put-behind : {T E : Type 0} (put : Result T E) (start front value mid new : List ℕ) → mid ≡ start ++ front → OnOk put (new ≡ mid ++ value) → OnOk put (new ≡ start ++ (front ++ value))
 put-behind (Ok x) start front value mid new first second = second ∙ ap (λ t. t ++ value) first ∙ append_assoc start front value
 put-behind (Err x) start front value mid new first second = tt

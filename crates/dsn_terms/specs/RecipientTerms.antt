@@ -42,14 +42,14 @@ NotifySays (Some value) notify = IsNotify value notify
 
 -- ---- ORCPT
 
--- The text behind `rfc822;` is xtext of an address, in at most 500 octets; kept are the type and the address (RFC 3461, 4.2).
+-- The text after `rfc822;` is xtext of an address, in at most 500 octets; kept are the type and the address (RFC 3461, 4.2).
 pub record IsRfc822Recipient (text orcpt : List ℕ) : Type 0 where
   pub address : List ℕ
   pub reads : IsPrintableXtext text address
   pub most : length text ≤ 500
   pub orcpt_is : orcpt ≡ codes "rfc822;" ++ address
 
--- The text behind `utf-8;` is a form of an address whose ASCII form has at most 500 octets; it is ASCII where UTF-8 isn't asked for
+-- The text after `utf-8;` is a form of an address whose ASCII form has at most 500 octets; it is ASCII where UTF-8 isn't asked for
 -- (RFC 6533, 3).
 pub record IsUtf8Recipient (utf8 : Bool) (text orcpt : List ℕ) : Type 0 where
   pub address : List ℕ

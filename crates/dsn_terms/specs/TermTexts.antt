@@ -1,4 +1,4 @@
--- Terms as a client writes them behind the path of MAIL or RCPT (RFC 3461, 4; RFC 5321, 4.1.2).
+-- Terms as a client writes them after the path of MAIL or RCPT (RFC 3461, 4; RFC 5321, 4.1.2).
 use Rattle.std.specs.Prelude.{◌≡◌, ℕ, ◌%◌, ◌==◌, Bool, true, ◌&&◌, nat_lt, if◌then◌else◌, List, [], ◌∷◌, ◌++◌, length, codes, Option, None, Some}
 use Rattle.std.specs.List.{flat_map, list_all, join_with_byte}
 use Rattle.mail_wire.specs.Characters.{space, comma}
@@ -17,7 +17,7 @@ use Rattle.dsn_terms.specs.declared.Asked.{Asked}
 abbrev pub is_visible : ℕ → Bool
 is_visible x = nat_lt 32 x && nat_lt x 127
 
--- words of visible ASCII characters, each behind a space
+-- words of visible ASCII characters, each after a space
 pub record AreSpaced (words : List (List ℕ)) (text : List ℕ) : Type 0 where
   pub spelled : text ≡ flat_map (λ word. space ∷ word) words
   pub visible : list_all (λ word. nat_lt 0 (length word) && list_all is_visible word) words ≡ true

@@ -77,7 +77,7 @@ fn read_notify(value: Option<&[u8]>) -> Option<u8>
     read_list(value)
 }
 
-// A type with its `;`, and an address behind it.
+// A type with its `;`, and an address after it.
 fn typed(alloc: Global, front: &[u8], address: &[u8]) -> Result<Octets, Memory>
     ensures { IfOk result (λ made. made ≡ front.now ++ address.now) }
 {
@@ -86,7 +86,7 @@ fn typed(alloc: Global, front: &[u8], address: &[u8]) -> Result<Octets, Memory>
     Ok(made)
 }
 
-// The recipient of what stands behind `rfc822;`.
+// The recipient of what stands after `rfc822;`.
 fn read_rfc822(alloc: Global, text: &[u8]) -> Result<Option<Octets>, Memory>
     ensures found { IfOk result (λ o. IfSome o (IsRfc822Recipient text.now)) }
     ensures none { IfOk result (λ o. IfNone o ((orcpt : List ℕ) → ¬ IsRfc822Recipient text.now orcpt)) }
@@ -101,7 +101,7 @@ fn read_rfc822(alloc: Global, text: &[u8]) -> Result<Option<Octets>, Memory>
     Ok(Some(orcpt))
 }
 
-// The recipient of what stands behind `utf-8;`.
+// The recipient of what stands after `utf-8;`.
 fn read_utf8(alloc: Global, utf8: bool, text: &[u8]) -> Result<Option<Octets>, Memory>
     ensures found { IfOk result (λ o. IfSome o (IsUtf8Recipient utf8 text.now)) }
     ensures none { IfOk result (λ o. IfNone o ((orcpt : List ℕ) → ¬ IsUtf8Recipient utf8 text.now orcpt)) }

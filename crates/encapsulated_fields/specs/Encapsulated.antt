@@ -23,7 +23,7 @@ downgraded_name name = codes "Downgraded-" ++ name
 abbrev pub field_of : List ℕ → List ℕ → List ℕ
 field_of name body = name ++ colon ∷ (body ++ crlf)
 
--- the field keeps the value of a field of this name as encoded words, each on a line of its own behind a space
+-- the field keeps the value of a field of this name as encoded words, each on a line of its own after a space
 pub record Encapsulates (name value field : List ℕ) : Type 0 where
   pub words : List (List ℕ)
   pub are_words : AreWordsOf value words

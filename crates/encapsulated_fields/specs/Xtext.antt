@@ -9,7 +9,7 @@ use Rattle.mail_wire.specs.Characters.{backslash, right_brace}
 abbrev pub is_hex_digit : ℕ → Bool
 is_hex_digit x = nat_lt (digit_value x) 16
 
--- the number that digits go on to, behind those of this number
+-- the number that digits go on to, after those of this number
 abbrev pub hex_onward : ℕ → List ℕ → ℕ
 hex_onward number [] = number
 hex_onward number (digit ∷ digits) = hex_onward (16 * number + digit_value digit) digits

@@ -15,7 +15,7 @@ concat-append : (xs ys : List (List ℕ)) → concat (xs ++ ys) ≡ concat xs ++
 concat-append [] ys = refl
 concat-append (x ∷ xs) ys = rw (concat-append xs ys, ← append_assoc) refl
 
--- one more chunk behind the others
+-- one more chunk after the others
 AreChunks-push : (chunks : List (List ℕ)) (chunk rest : List ℕ) → AreChunks chunks (chunk ++ rest) → IsChunk chunk rest → AreChunks (chunks ++ chunk ∷ []) rest
 AreChunks-push [] chunk rest are is = (is, tt)
 AreChunks-push (c ∷ cs) chunk rest are is =
@@ -41,7 +41,7 @@ AreFirstWords-push text words chunk rest were is = record {
   spelled = ap (λ ws. ws ++ written_word chunk ∷ []) were.spelled ∙ sym (map-append written_word were.chunks (chunk ∷ []));
 }
 
--- A text that is not empty has a boundary behind its first character.
+-- A text that is not empty has a boundary after its first character.
 pub first_boundary : (cs bs : List ℕ) → all_scalars cs ≡ true → encode_utf8_all cs ≡ bs → 0 < length bs → (i : ℕ) × (0 < i) × (i ≤ 4) × IsCharBoundary bs i
 first_boundary [] bs ok e some = absurd (omega (arith, ap length e))
 first_boundary (c ∷ cs) bs ok e some =
@@ -82,7 +82,7 @@ AddsWords-turn text rest chunk after word old mid new whole is word_is pushed ad
   added = pushed ∙ rw (word_is, adds.added) (append_assoc old adds.words (written_word chunk ∷ []));
 }
 
--- what is left is shorter behind a chunk
+-- what is left is shorter after a chunk
 pub chunk_shortens : (rest chunk after : List ℕ) → rest ≡ chunk ++ after → IsChunk chunk after → length after < length rest
 chunk_shortens rest chunk after whole is = let some = is.some in omega (arith, ap length whole, length-append chunk after)
 

@@ -161,7 +161,7 @@ TakesCommentWord-quoted old mid new run word octets was some gives run_is word_i
       units = λ us. then_text mid new octets us word_is ∙ then_text old mid run (with_text octets us) run_is ∙ rw (and_false was, gives.octets_are) refl;
     }
 
--- what a run of white and the words behind it give: a run at the text's end gives nothing
+-- what a run of white and the words after it give: a run at the text's end gives nothing
 abbrev pub following : List ℕ → Bool → List CommentWord → List UnitValue
 following run was [] = []
 following run was (w ∷ ws) = with_text (cond (was && is_some w.says) [] run) (merged (raw_units (comment_places (w ∷ ws))))

@@ -58,7 +58,7 @@ pub record WritesSoFar (text : List ℕ) (m : Merging) (run : List ℕ) (was : B
 pub WritesSoFar-start : (text lead rest : List ℕ) (m : Merging) (old : List ℕ) → IsSpan is_white text lead rest → IsMerging m [] [] → WritesSoFar text m [] false rest old old
 WritesSoFar-start text lead rest m old span empty = record { taken = []; reads = ReadsComment-start text lead rest m span empty; adds = adds_none old refl }
 
--- more units behind those that were written
+-- more units after those that were written
 more_written : (us vs : List UnitValue) (old mid new : List ℕ) → AddsLines (WriteAll us) old mid → AddsLines (WriteAll vs) mid new → AddsLines (WriteAll (us ++ vs)) old new
 more_written us vs old mid new a b = adds_both (write_append us vs) a b
 

@@ -1,4 +1,4 @@
--- Pieces that are put on lines, one list behind another.
+-- Pieces that are put on lines, one list after another.
 use Rattle.std.proofs.Common.{◌≡◌, ℕ, List, [], ◌∷◌, ◌++◌, map, refl, sym, ap, ◌∙◌}
 use Rattle.std.proofs.lemmas.List.{append_assoc, append-nil}
 use Rattle.mail_wire.specs.Lines.{crlf}
@@ -29,7 +29,7 @@ adds_both {old = old} join a b = record {
 pub adds_as : {P Q : List (List ℕ) → Type 0} → {old new : List ℕ} → ((xs : List (List ℕ)) → P xs → Q xs) → AddsLines P old new → AddsLines Q old new
 adds_as turn a = record { pieces = a.pieces; holds = turn a.pieces a.holds; added = a.added }
 
--- words that stand behind spaces, as pieces
+-- words that stand after spaces, as pieces
 pub made-lines : (words : List (List ℕ)) → made_body (word_pieces 32 words) ≡ lines_of words
 made-lines [] = refl
 made-lines (word ∷ words) = ap (λ r. (crlf ++ 32 ∷ word) ++ r) (spaced words)

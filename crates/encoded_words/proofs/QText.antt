@@ -109,7 +109,7 @@ second_is [] h = absurd (omega arith)
 second_is (b ∷ []) h = absurd (omega arith)
 second_is (b ∷ d ∷ bs) h = ap (λ r. b ∷ d ∷ r) (sym (take_rest (b ∷ d ∷ bs) 2))
 
--- a text behind the letter Q is a Q text
+-- a text after the letter Q is a Q text
 pub not-IsTextOf-q : (letter : ℕ) (text octets : List ℕ) → (letter ≡ 81) ⊎ (letter ≡ 113) → (IsQText text octets → ⊥) → IsTextOf letter text octets → ⊥
 not-IsTextOf-q letter text octets is none (inl b) = elim is [ inl e ↦ clash (ap to_ascii_uppercase (sym e) ∙ b.0) | inr e ↦ clash (ap to_ascii_uppercase (sym e) ∙ b.0) ]
   where

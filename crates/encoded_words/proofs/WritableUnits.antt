@@ -67,7 +67,7 @@ raw_writable : (ps : List Place) → AllByRecursion IsUtf8Place ps → AreWritab
 raw_writable [] all = tt
 raw_writable (p ∷ ps) all = (all.0.word, (run_utf8 (is_some p.says && begins_encoded ps) p.run all.0.run, raw_writable ps all.1))
 
--- A UTF-8 text is cut before and behind ASCII.
+-- A UTF-8 text is cut before and after ASCII.
 pub record BothUtf8 (a b : List ℕ) : Type 0 where
   pub front : IsUtf8 a
   pub rest : IsUtf8 b

@@ -7,7 +7,7 @@ use Rattle.encoded_words.specs.Words.{UnitValue, SaysWhere}
 use Rattle.encoded_words.specs.Units.{Place, raw_units, merged}
 
 -- An octet by itself, or a quoted pair: a backslash and the octet that it quotes (RFC 5322, 3.2.1). Where that is the
--- first octet of a longer character, the others stand behind it by themselves.
+-- first octet of a longer character, the others stand after it by themselves.
 pub data TextItem : Type 0 where
   Plain : ℕ → TextItem
   Pair : ℕ → TextItem
@@ -18,7 +18,7 @@ AreTextItems [] = Unit {0}
 AreTextItems (Plain x ∷ items) = (x ≡ backslash → items ≡ []) × AreTextItems items
 AreTextItems (Pair x ∷ items) = AreTextItems items
 
--- An octet as it is, or behind a backslash where it is a quoted pair (RFC 5322, 3.2.1).
+-- An octet as it is, or after a backslash where it is a quoted pair (RFC 5322, 3.2.1).
 abbrev pub item_spelling : TextItem → List ℕ
 item_spelling (Plain x) = x ∷ []
 item_spelling (Pair x) = backslash ∷ x ∷ []
@@ -38,13 +38,13 @@ abbrev pub is_white_item : TextItem → Bool
 is_white_item (Plain x) = is_white x
 is_white_item (Pair x) = false
 
--- a word of a comment, what it says where it is an encoded word, and the run of white behind it
+-- a word of a comment, what it says where it is an encoded word, and the run of white after it
 pub record CommentWord : Type 0 where
   pub items : List TextItem
   pub says : Option UnitValue
   pub run : List TextItem
 
--- A word of a comment and the white behind it.
+-- A word of a comment and the white after it.
 abbrev pub word_items : CommentWord → List TextItem
 word_items w = w.items ++ w.run
 
@@ -65,11 +65,11 @@ abbrev pub AreCommentWords : List CommentWord → Type 0
 AreCommentWords [] = Unit {0}
 AreCommentWords (w ∷ ws) = IsCommentWord w × ItemsDivide w.run ws × AreCommentWords ws
 
--- A word of a comment with this white behind it, by the octets that are meant.
+-- A word of a comment with this white after it, by the octets that are meant.
 abbrev pub comment_place : CommentWord → List TextItem → Place
 comment_place w run = record { word = map item_octet w.items; says = w.says; run = map item_octet run }
 
--- the places of words: the white at the text's end, behind the last word, is left out
+-- the places of words: the white at the text's end, after the last word, is left out
 abbrev pub comment_places : List CommentWord → List Place
 comment_places [] = []
 comment_places (w ∷ []) = comment_place w [] ∷ []

@@ -25,7 +25,7 @@ pub record AddsWordLines (text : List ℕ) (white : ℕ) (old new : List ℕ) : 
   pub are_words : AreWordsOf text words
   pub added : new ≡ old ++ made_body (word_pieces white words)
 
--- pieces stand on a line each, behind a space
+-- pieces stand on a line each, after a space
 abbrev pub lines_of : List (List ℕ) → List ℕ
 lines_of pieces = flat_map (λ piece. crlf ++ space ∷ piece) pieces
 

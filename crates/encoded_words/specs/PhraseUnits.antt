@@ -39,7 +39,7 @@ has_word (Dot ∷ items) = true
 abbrev pub gap_before : List PhraseItem → List ℕ
 gap_before items = if begins_free items && has_word items then space ∷ [] else []
 
--- a word of a phrase: its octets, whether it may be an encoded word, and the gap behind it
+-- a word of a phrase: its octets, whether it may be an encoded word, and the gap after it
 pub record PhraseWord : Type 0 where
   pub octets : List ℕ
   pub may_be_encoded : Bool

@@ -5,13 +5,13 @@ use Rattle.std.specs.List.{flat_map, list_all}
 use Rattle.mail_wire.specs.Octets.{is_white, is_nonwhite}
 use Rattle.encoded_words.specs.Words.{UnitValue, Text, Opaque, Says}
 
--- a word of a text, what it says where it is an encoded word, and the run of white behind it
+-- a word of a text, what it says where it is an encoded word, and the run of white after it
 pub record Place : Type 0 where
   pub word : List ℕ
   pub says : Option UnitValue
   pub run : List ℕ
 
--- A word and the white behind it.
+-- A word and the white after it.
 abbrev pub place_octets : Place → List ℕ
 place_octets p = p.word ++ p.run
 

@@ -79,7 +79,7 @@ pub record WordParts : Type 0 where
   pub letter : ℕ
   pub text : List ℕ
 
--- A star and the language behind a charset's name, where there is a language (RFC 2231, 5).
+-- A star and the language after a charset's name, where there is a language (RFC 2231, 5).
 abbrev pub language_suffix : Option (List ℕ) → List ℕ
 language_suffix None = []
 language_suffix (Some language) = asterisk ∷ language

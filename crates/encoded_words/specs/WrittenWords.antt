@@ -51,7 +51,7 @@ abbrev pub AreChunks : List (List ℕ) → List ℕ → Type 0
 AreChunks [] rest = Unit {0}
 AreChunks (chunk ∷ chunks) rest = IsChunk chunk (concat chunks ++ rest) × AreChunks chunks rest
 
--- the first words of a text, and the octets of the text behind them
+-- the first words of a text, and the octets of the text after them
 pub record AreFirstWords (text : List ℕ) (words : List (List ℕ)) (rest : List ℕ) : Type 0 where
   pub chunks : List (List ℕ)
   pub are_chunks : AreChunks chunks rest
@@ -62,7 +62,7 @@ pub record AreFirstWords (text : List ℕ) (words : List (List ℕ)) (rest : Lis
 abbrev pub AreWordsOf : List ℕ → List (List ℕ) → Type 0
 AreWordsOf text words = AreFirstWords text words []
 
--- new is old and the first words of a text, and rest is the octets of the text behind them
+-- new is old and the first words of a text, and rest is the octets of the text after them
 pub record AddsWords (text : List ℕ) (old new : List (List ℕ)) (rest : List ℕ) : Type 0 where
   pub words : List (List ℕ)
   pub are_words : AreFirstWords text words rest

@@ -98,7 +98,7 @@ fn push_word(
     Ok(false)
 }
 
-// Takes the first word, and the run of white before it. Answers the run behind it, whether it is an encoded word, and
+// Takes the first word, and the run of white before it. Answers the run after it, whether it is an encoded word, and
 // what is left.
 fn take_word<'a>(
     alloc: Global,

@@ -30,7 +30,7 @@ fn find_byte(octets: &[u8], byte: u8) -> Option<usize>
     octets.iter().position(|b| *b == byte)
 }
 
-/// What stands before the first such byte, and what stands behind it.
+/// What stands before the first such byte, and what stands after it.
 pub fn split_at_byte(octets: &[u8], byte: u8) -> Option<(&[u8], &[u8])>
     ensures found { IfSome result (λ x. (octets.now ≡ x.0.now ++ byte ∷ x.1.now) × (lacks byte x.0.now ≡ true)) }
     ensures none { IfNone result (lacks byte octets.now ≡ true) }
@@ -97,7 +97,7 @@ fn is_language(language: Option<&[u8]>) -> bool
     }
 }
 
-// What stands before the first star, and what stands behind it.
+// What stands before the first star, and what stands after it.
 fn cut_name(name: &[u8]) -> (&[u8], Option<&[u8]>)
     ensures spelled { name.now ≡ result.0.now ++ language_suffix (option_copied result.1) }
     ensures first { lacks 42 result.0.now ≡ true }
@@ -174,7 +174,7 @@ pub fn hex_value(octet: u8) -> Option<u8>
     }
 }
 
-// The first octet that a Q text spells, and the text behind it.
+// The first octet that a Q text spells, and the text after it.
 fn first_of_q(text: &[u8]) -> Option<(u8, &[u8])>
     requires { 0 < length text.now }
     ensures found { IfSome result (λ x. BeginsQ text.now x.0 x.1.now) }

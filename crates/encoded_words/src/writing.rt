@@ -8,7 +8,7 @@ use crate::Unit;
 use crate::written_words::push_words;
 use mail_wire::{Memory, Octets};
 
-/// Puts a piece last, on a line of its own behind a space. After want of memory a front of this line was put.
+/// Puts a piece last, on a line of its own after a space. After want of memory a front of this line was put.
 pub fn push_line(made: &mut Octets, piece: &[u8]) -> Result<(), Memory>
     ensures { OnOk result (made.new ≡ made.old ++ lines_of (piece.now ∷ [])) }
 {

@@ -17,7 +17,7 @@ const CHUNK: usize = 45;
 /// The most octets of a word.
 const WORD: usize = 72;
 
-// The text of the first word, and the text behind it.
+// The text of the first word, and the text after it.
 fn split_chunk(text: &str) -> (&str, &str)
     requires { 0 < length text.now }
     ensures whole { text.now ≡ result.0.now ++ result.1.now }
@@ -152,7 +152,7 @@ pub fn write_words(alloc: Global, text: &[u8], pieces: &mut Vec<Octets>) -> Resu
     Ok(())
 }
 
-/// Puts the words of a text last, each on a line of its own, the first one behind this white octet and the others behind
+/// Puts the words of a text last, each on a line of its own, the first one after this white octet and the others after
 /// a space. After want of memory a front of these lines was put.
 pub fn push_words(made: &mut Octets, white: u8, text: &[u8]) -> Result<(), Memory>
     requires { IsUtf8 text.now }

@@ -89,7 +89,7 @@ ChangesGlobal-folded body changed is c =
     let p = cut_at body changed is c in
     subst IsFolded (sym c.changed_is) (IsFolded-append c.before (codes "rfc822" ++ c.after) p.before_folded (IsFolded-append (codes "rfc822") c.after new_folded p.after_folded))
 
--- what is shown behind the word
+-- what is shown after the word
 shown_after : (body changed : List ℕ) (is : IsFolded body) (c : ChangesGlobal body changed) → without_ends c.after ≡ drop (c.at + 6) c.value ++ c.has.trail
 shown_after body changed is c =
     let g = global_at c.value c.at c.names in

@@ -114,7 +114,7 @@ after_lead body lead following shown rest is span e white stops =
 
 -- ---- the place as the code counts it
 
--- whatever octet stands behind so many that are shown stands there
+-- whatever octet stands after so many that are shown stands there
 abbrev pub IsPlaceAfter : List ℕ → ℕ → ℕ → Type 0
 IsPlaceAfter octets count place = (before rest : List ℕ) (x : ℕ) → octets ≡ before ++ x ∷ rest → is_line_end x ≡ false → length (without_ends before) ≡ count → place ≡ length before
 

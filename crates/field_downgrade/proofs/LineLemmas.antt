@@ -1,4 +1,4 @@
--- One more word behind others, and the lines of what is copied.
+-- One more word after others, and the lines of what is copied.
 use Rattle.std.proofs.Common.{◌≡◌, ℕ, ◌<◌, List, [], ◌∷◌, ◌++◌, length, refl, sym, ap, ◌∙◌, arith}
 use Rattle.std.proofs.lemmas.List.{append_assoc, append-nil}
 use Rattle.std.specs.List.{flat_map}
@@ -32,7 +32,7 @@ copied-push (v ∷ u ∷ ws) w =
     ∙ ap (λ t. v.octets ++ t) (sym (append_assoc v.gap (copied_octets (u ∷ ws)) rest))
     ∙ sym (append_assoc v.octets (v.gap ++ copied_octets (u ∷ ws)) rest)
 
--- words are what is copied, and the gap behind the last one
+-- words are what is copied, and the gap after the last one
 pub words_whole : (ws : List Word) → flat_map word_octets ws ≡ copied_octets ws ++ last_gap ws
 words_whole [] = refl
 words_whole (w ∷ []) = append-nil (w.octets ++ w.gap)

@@ -99,7 +99,7 @@ LackNul-words white text words u are =
 
 -- ---- the words of an unstructured body
 
--- no word has a NUL, nor the gap behind it
+-- no word has a NUL, nor the gap after it
 abbrev word_lacks : Word → Bool
 word_lacks w = list_all not_nul (word_octets w)
 

@@ -264,7 +264,7 @@ one_value f value other words others has has' are are' =
 says_of : (f : FieldParts) (value : List ℕ) (meaning : Meaning) → HasValue f.body value → Means f meaning → SaysAs (kind_named f.name) f.name value meaning
 says_of f value meaning has means = subst (λ v. SaysAs (kind_named f.name) f.name v meaning) (HasValue-once f.body means.value value means.has_value has) means.says
 
--- the kind of a field that means a path, or an address behind its type
+-- the kind of a field that means a path, or an address after its type
 path_kind : (kind : Kind) (name value : List ℕ) (answer : Option Address) (comments : List CommentValue) → SaysAs kind name value (PathTo answer comments) → kind ≡ Path
 path_kind Unstructured name value answer comments says = let no = says.1 in cc no
 path_kind Phrases name value answer comments says = let no = says.2 in cc no

@@ -36,7 +36,7 @@ following-append (x ∷ xs) ys = rw (following-append xs ys) (sym (append_assoc 
 pub shown-append : (x : Piece) (xs ys : List Piece) → shown ((x ∷ xs) ++ ys) ≡ shown (x ∷ xs) ++ following ys
 shown-append x xs ys = rw (following-append xs ys) (sym (append_assoc (without_ends x.octets) (following xs) (following ys)))
 
--- the texts behind words
+-- the texts after words
 pub AreWords-front : (xs ys : List Word) → AreWords (xs ++ ys) → AreWords xs
 AreWords-front [] ys are = tt
 AreWords-front (x ∷ xs) ys are = (are.0, by xs are.1, AreWords-front xs ys are.2)
@@ -49,7 +49,7 @@ pub AreWords-back : (xs ys : List Word) → AreWords (xs ++ ys) → AreWords ys
 AreWords-back [] ys are = are
 AreWords-back (x ∷ xs) ys are = AreWords-back xs ys are.2
 
--- white stands behind the last of words that others follow
+-- white stands after the last of words that others follow
 pub last_some : (x : Word) (xs : List Word) (y : Word) (ys : List Word) → AreWords ((x ∷ xs) ++ (y ∷ ys)) → 0 < length (last_run (x ∷ xs))
 last_some x [] y ys are = are.1
 last_some x (v ∷ xs) y ys are = last_some v xs y ys are.2

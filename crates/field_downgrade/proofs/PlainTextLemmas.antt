@@ -183,7 +183,7 @@ runs_join-octets : (runs : List (List TokenValue)) → (runs ≡ []) ⊎ (0 < le
 runs_join-octets runs (inl none) = inl (ap (map octets_of) none)
 runs_join-octets runs (inr some) = inr some
 
--- the pieces are read as the squeezed text with the written comments behind it
+-- the pieces are read as the squeezed text with the written comments after it
 joined_is : (is_encoding : Bool) (text : List ℕ) (pieces : List (List ℕ)) (values : List CommentValue) → (p : PlainPieces is_encoding text pieces) → (w : AreWritten (comments_of p.tokens) values p.comments)
     → map octets_of (runs_and p.tokens w.made) ≡ map octets_of (runs_of p.tokens) ++ w.made → squeezed_and p.tokens w.made ≡ join_with_byte 32 pieces
 joined_is is_encoding text pieces values p w e =

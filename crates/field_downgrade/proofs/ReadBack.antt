@@ -20,7 +20,7 @@ use Rattle.field_downgrade.proofs.Units.{units_from, encoded_places, core_same}
 use Rattle.field_downgrade.proofs.Places.{places, octets-places, Joint, ArePlaces-places, units_from-plain, was_of, copied_same, says_of-is_some}
 use Rattle.field_downgrade.proofs.Pieces.{following, shown, shown-append, AreWords-front, AreWords-back, last_some, last_white, plain_text-append, copied_text, ArePlaces-encoded_places, octets-encoded_places, AreUtf8-front, AreUtf8-back, white_utf8, plain_utf8, IsBare, bare-places, bare-encoded_places}
 
--- what stands behind a word with this run, where these words follow
+-- what stands after a word with this run, where these words follow
 abbrev pub tail_text : List ℕ → List Word → List ℕ
 tail_text run [] = []
 tail_text run (w ∷ ws) = run ++ plain_text (w ∷ ws)
@@ -33,12 +33,12 @@ pub record IsRun (run : List ℕ) : Type 0 where
   pub some : 0 < length run
   pub white : list_all is_white run ≡ true
 
--- the first piece stands behind this white octet
+-- the first piece stands after this white octet
 abbrev pub BeginsWith : ℕ → List Piece → Type 0
 BeginsWith white [] = ⊥
 BeginsWith white (p ∷ ps) = p.white ≡ white
 
--- The places of words and those of their pieces, behind this run and this lead.
+-- The places of words and those of their pieces, after this run and this lead.
 pub record Same (was : Bool) (run lead : List ℕ) (white : ℕ) (ws : List Word) (pieces : List Piece) : Type 0 where
   pub orig : List Place
   pub made : List Place
@@ -92,7 +92,7 @@ joint_encoded_places : (run : List ℕ) → IsRun run → (c : List ℕ) (cs : L
 joint_encoded_places run is c [] last rest = (is.some, is.white)
 joint_encoded_places run is c (d ∷ cs) last rest = (is.some, is.white)
 
--- copied words behind a run
+-- copied words after a run
 abbrev follow_copied : (run : List ℕ) (next : ℕ) (d : Word) (ds : List Word) (are : AreWords (d ∷ ds)) (ws : List Word) (more : List Piece) → IsRun run → is_white next ≡ true
     → Follow (last_run (d ∷ ds)) ws more → Follow run ((d ∷ ds) ++ ws) (copied_pieces next (d ∷ ds) ++ more)
 follow_copied run next d ds are ws more is white b =
@@ -123,7 +123,7 @@ right_run d last right next cuts = by d.is_encoded cuts
     by true cuts = append-nil right ∙ cuts.0
     by false cuts = sym cuts
 
--- copied words behind a core
+-- copied words after a core
 follow_core_units : (last right : List ℕ) (next : ℕ) (d : Word) (ds : List Word) (are : AreWords (d ∷ ds)) (ws : List Word) (more : List Piece)
     → CutsRight (side_of d) last right next → (b : Follow (last_run (d ∷ ds)) ws more)
     → units_from (was_of (last_side (d ∷ ds))) b.real b.orig ≡ units_from (was_of (last_side (d ∷ ds))) b.lead b.made
@@ -281,7 +281,7 @@ tail_some : (run : List ℕ) (core rest : List Word) → begins_high core ≡ tr
 tail_some run [] rest begins = cc begins
 tail_some run (c ∷ cs) rest begins = refl
 
--- what segments give has the units of their words, behind what is copied
+-- what segments give has the units of their words, after what is copied
 pub segments_follow : (ss : List Segment) (side : Side) (run : List ℕ) (pieces : List Piece) → AreSegments ss → AreWords (flat_map segment_words ss) → AreUtf8 (flat_map segment_words ss)
     → Ready ss side run → GiveAll side run ss pieces
     → (b : Follow run (flat_map segment_words ss) pieces) × (units_from (was_of side) b.real b.orig ≡ units_from (was_of side) b.lead b.made)

@@ -63,7 +63,7 @@ space_some : (text : List ℕ) → 0 < length text → 32 ∷ text ≡ with_spac
 space_some [] some = absurd (omega (arith, some))
 space_some (x ∷ xs) some = refl
 
--- a word and a text behind it are one piece
+-- a word and a text after it are one piece
 alike_word : (word : List ℕ) (runs made pieces : List (List ℕ)) → (runs ≡ []) ⊎ (0 < length (join_with_byte 32 runs)) → Alike made pieces → Alike (word ∷ (runs ++ made)) ((word ++ with_space_before (join_with_byte 32 runs)) ∷ pieces)
 alike_word word [] made pieces some a = record { joined = alike_cons word made pieces a ∙ sym (ap (λ r. join_with_byte 32 (r ∷ pieces)) (append-nil word)); none = λ e. cc e; some = λ e. cc e }
 alike_word word (x ∷ xs) made pieces (inl none) a = cc none
@@ -235,7 +235,7 @@ word_piece word text some ascii line text_ascii text_line = record {
 word_octets : (t : TokenValue) (runs parts : List (List TokenValue)) → map octets_of ((t ∷ []) ∷ (runs ++ parts)) ≡ t.octets ∷ (map octets_of runs ++ map octets_of parts)
 word_octets t runs parts = ap (λ r. r ∷ map octets_of (runs ++ parts)) (append-nil t.octets) ∙ ap (λ r. t.octets ∷ r) (map-append octets_of runs parts)
 
--- the text behind a word, where only gaps and comments follow it
+-- the text after a word, where only gaps and comments follow it
 text_following : (runs : List (List TokenValue)) (ts : List TokenValue) → AllByRecursion IsTokenRun runs → are_blank_tokens ts ≡ true → squeezed_values (spaced runs ++ ts) ≡ join_with_byte 32 (map octets_of runs)
 text_following runs ts each blank = ap (λ r. join_with_byte 32 (map octets_of r)) (spaced_runs runs ts each blank)
 

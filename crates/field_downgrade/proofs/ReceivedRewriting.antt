@@ -82,7 +82,7 @@ date_after (t ∷ ts) ds lacks =
     let parts = and_parts (not (is_semicolon t)) (list_all (λ t. not (is_semicolon t)) ts) lacks in
     rw (not-true (is_semicolon t) parts.0) (put_date-same (starts_clause t) t (ts ++ ds) (parts_of (ts ++ ds)) ∙ date_after ts ds parts.1)
 
--- lacks front, and the date behind the semicolon
+-- lacks front, and the date after the semicolon
 record HasNoFront (parts : ReceivedParts) (date : Option (List TokenValue)) : Type 0 where
   front : parts.front ≡ []
   date_is : parts.date ≡ date

@@ -235,7 +235,7 @@ IsServed-kept o octets is_any ascii fixed = record {
 pub puts_high : (open_global : Bool) (raw old new : List ℕ) → list_all is_ascii raw ≡ false → AddsOctets (IsServedField open_global raw) old new → PutsServed open_global raw true old new
 puts_high open_global raw old new high adds = (adds.more, adds.holds, not_kept open_global raw adds.more high adds.holds, adds.added)
 
--- what was put behind nothing is all
+-- what was put after nothing is all
 pub first_served : (open_global : Bool) (raw old new : List ℕ) → old ≡ [] → PutsServed open_global raw true old new → IsServedField open_global raw new × (new ≢ raw)
 first_served open_global raw old new none puts =
     let all : new ≡ puts.0 = puts.3 ∙ ap (λ xs. xs ++ puts.0) none in

@@ -8,7 +8,7 @@ use Rattle.field_tokens.specs.Squeezed.{is_blank, is_there, octets_of, squeezed_
 abbrev pub space : Bool → List ℕ
 space has_space_before = cond has_space_before (32 ∷ []) []
 
--- what tokens add behind others: behind a gap or a comment a space comes first
+-- what tokens add after others: after a gap or a comment a space comes first
 abbrev pub following : Bool → List TokenValue → List ℕ
 following has_space_before [] = []
 following has_space_before (t ∷ ts) = cond (is_blank t.kind) (following true ts) (space has_space_before ++ (t.octets ++ following false ts))

@@ -170,7 +170,7 @@ low_end body low rest so none = λ all stand. by all stand (so all stand)
 
 -- ---- the words of a core
 
--- the words up to the last high one, and those behind it, of which none is high; none is an encoded word
+-- the words up to the last high one, and those after it, of which none is high; none is an encoded word
 pub record CoreSoFar (words : List Word) (core : Stretch) (after_core rest : List ℕ) : Type 0 where
   pub done : List Word
   pub low : List Word

@@ -88,7 +88,7 @@ decide_begins text some u =
       | inr other ↦ inl (first.0, first.1, BeginsWith-plain text first.1 first.0 (first.2, first.3) other)
     ]
 
--- what is behind an item
+-- what is after an item
 utf8_after : (text rest : List ℕ) (character : ℕ) → IsUtf8 text → BeginsCharacter text character rest → IsUtf8 rest
 utf8_after text rest character u begins = by begins.item begins.is_item begins.spelled
   where

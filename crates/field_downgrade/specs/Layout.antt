@@ -9,7 +9,7 @@ use Rattle.field_downgrade.specs.declared.segments.Side.{Side}
 use Rattle.field_downgrade.specs.declared.segments.Side.TheVariants.{Edge, Encoded, Plain}
 use Rattle.field_downgrade.specs.Words.{Word, HasWords, copied_octets, plain_text, last_run, is_high_word}
 
--- pieces on lines of their own, each behind a space
+-- pieces on lines of their own, each after a space
 abbrev pub spaced : List (List ℕ) → List Piece
 spaced pieces = map (λ octets. record { white = space; octets = octets }) pieces
 
@@ -39,13 +39,13 @@ CutsLeft Edge run part white = (part ≡ []) × (white ≡ space)
 CutsLeft Encoded run part white = (part ≡ run) × (white ≡ space)
 CutsLeft Plain run part white = run ≡ white ∷ part
 
--- the part of the run behind a core, and the white octet before the copied piece that follows
+-- the part of the run after a core, and the white octet before the copied piece that follows
 abbrev pub CutsRight : Side → List ℕ → List ℕ → ℕ → Type 0
 CutsRight Edge run part white = (part ≡ []) × (white ≡ space)
 CutsRight Encoded run part white = (part ≡ run) × (white ≡ space)
 CutsRight Plain run part white = run ≡ part ++ white ∷ []
 
--- a core, and the words behind it that are copied, up to the next core or the end
+-- a core, and the words after it that are copied, up to the next core or the end
 pub record Segment : Type 0 where
   pub core : List Word
   pub copied : List Word
@@ -69,7 +69,7 @@ ends_high (w ∷ v ∷ ws) = ends_high (v ∷ ws)
 abbrev pub IsCopied : List Word → Type 0
 IsCopied ws = list_all (λ w. not (is_high_word w)) ws ≡ true
 
--- The core begins and ends with a word that isn't ASCII and has no encoded word; the words behind it are ASCII.
+-- The core begins and ends with a word that isn't ASCII and has no encoded word; the words after it are ASCII.
 pub record IsSegment (s : Segment) : Type 0 where
   pub begins : begins_high s.core ≡ true
   pub ends : ends_high s.core ≡ true
@@ -91,7 +91,7 @@ abbrev pub copied_pieces : ℕ → List Word → List Piece
 copied_pieces white [] = []
 copied_pieces white (w ∷ ws) = record { white = white; octets = copied_octets (w ∷ ws) } ∷ []
 
--- What a segment gives, behind a word or an end of this side and this run.
+-- What a segment gives, after a word or an end of this side and this run.
 pub record GivesPieces (side : Side) (run : List ℕ) (s : Segment) (pieces : List Piece) : Type 0 where
   pub left : List ℕ
   pub right : List ℕ

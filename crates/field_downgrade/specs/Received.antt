@@ -1,4 +1,4 @@
--- Received fields (RFC 5322, 3.6.7; RFC 5321, 4.4): clauses, and behind a semicolon a date.
+-- Received fields (RFC 5322, 3.6.7; RFC 5321, 4.4): clauses, and after a semicolon a date.
 use Rattle.std.specs.Prelude.{◌≡◌, ℕ, Bool, true, not, ◌&&◌, ◌||◌, ◌==◌, cond, codes, List, [], ◌∷◌, ◌++◌, map, Option, Some, None}
 use Rattle.std.specs.List.{AllByRecursion, list_all, list_any, flat_map, slice_split}
 use Rattle.std.specs.Str.{bytes_eq, str_to_ascii_lowercase}
@@ -31,21 +31,21 @@ is_semicolon token = is_special_kind token.kind && bytes_eq token.octets (semico
 abbrev pub is_inner : TokenValue → Bool
 is_inner token = not (starts_clause token) && not (is_semicolon token)
 
--- a clause: the token that starts it, and the tokens behind it
+-- a clause: the token that starts it, and the tokens after it
 pub record ClauseTokens : Type 0 where
   pub word : TokenValue
   pub following : List TokenValue
 
--- The first token may start a clause, and those behind it start no other and end none (RFC 5321, 4.4).
+-- The first token may start a clause, and those after it start no other and end none (RFC 5321, 4.4).
 pub record IsClause (clause : ClauseTokens) : Type 0 where
   pub starts : starts_clause clause.word ≡ true
   pub inner : list_all is_inner clause.following ≡ true
 
--- The token that starts a clause, and those behind it.
+-- The token that starts a clause, and those after it.
 abbrev pub clause_tokens : ClauseTokens → List TokenValue
 clause_tokens clause = clause.word ∷ clause.following
 
--- what stands before the first clause, the clauses, and what stands behind the semicolon, where there is one
+-- what stands before the first clause, the clauses, and what stands after the semicolon, where there is one
 pub record ReceivedParts : Type 0 where
   pub front : List TokenValue
   pub clauses : List ClauseTokens
@@ -83,12 +83,12 @@ pub record IsReceived (text : List ℕ) (tokens : List TokenValue) (parts : Rece
 
 -- ---- what it says
 
--- the word of a clause in lower case, and the text behind it without comments
+-- the word of a clause in lower case, and the text after it without comments
 pub record Clause : Type 0 where
   pub word : List ℕ
   pub text : List ℕ
 
--- The word of a clause in lower case, and the text behind it without comments.
+-- The word of a clause in lower case, and the text after it without comments.
 abbrev pub clause_of : ClauseTokens → Clause
 clause_of clause = record { word = str_to_ascii_lowercase clause.word.octets; text = squeezed_values clause.following }
 
@@ -136,7 +136,7 @@ served_clauses clauses = flat_map (λ (clause : Clause). clause_with clause.word
 
 -- ---- its pieces
 
--- a text behind a space, where there is one
+-- a text after a space, where there is one
 abbrev pub with_space_before : List ℕ → List ℕ
 with_space_before [] = []
 with_space_before (x ∷ xs) = space ∷ x ∷ xs

@@ -1,4 +1,4 @@
--- An address behind its type (RFC 3464, 2.3), which may be one beyond ASCII (RFC 6533, 3).
+-- An address after its type (RFC 3464, 2.3), which may be one beyond ASCII (RFC 6533, 3).
 use Rattle.std.specs.Prelude.{◌≡◌, ◌<◌, ℕ, ◌==◌, Bool, true, false, ◌&&◌, not, List, [], ◌∷◌, ◌++◌, length, codes}
 use Rattle.std.specs.List.{AllByRecursion, join_with_byte, list_all}
 use Rattle.std.specs.Str.{bytes_eq, str_to_ascii_lowercase}
@@ -36,7 +36,7 @@ pub record WritesType (octets type : List ℕ) : Type 0 where
   pub are : list_all is_type_octet atom ≡ true
   pub lower : type ≡ str_to_ascii_lowercase atom
 
--- a type, and an address that is written so behind the first `;`
+-- a type, and an address that is written so after the first `;`
 pub record IsTyped (value type written : List ℕ) : Type 0 where
   pub front : List ℕ
   pub following : List ℕ

@@ -36,7 +36,7 @@ fn split_lead(body: &[u8]) -> (&[u8], &[u8])
     }
 }
 
-// Where the octet stands behind so many others, of which line ends aren't counted.
+// Where the octet stands after so many others, of which line ends aren't counted.
 fn place_following(octets: &[u8], count: usize) -> usize
     ensures bound { result ≤ length octets.now }
     ensures place { (before rest : List ℕ) (x : ℕ) → octets.now ≡ before ++ x ∷ rest → is_line_end_octet x ≡ false

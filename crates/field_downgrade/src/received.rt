@@ -1,4 +1,4 @@
-//! Received fields (RFC 5322, 3.6.7; RFC 5321, 4.4): clauses, and behind a semicolon a date.
+//! Received fields (RFC 5322, 3.6.7; RFC 5321, 4.4): clauses, and after a semicolon a date.
 ghost use Rattle.std.specs.Prelude.{◌≡◌, ◌∷◌, ◌++◌, [], not, true, IfOk, OnOk, IsUtf8};
 ghost use Rattle.std.specs.List.{list_all};
 ghost use Rattle.encoded_words.specs.Folding.{lines_of, AddsLines};
@@ -34,7 +34,7 @@ fn starts_clause(token: Lexeme<'_>) -> bool
     matches!(token.kind, TokenKind::Atom) && is_clause_word(token.octets)
 }
 
-// The tokens before the first semicolon, and those behind it, where there is one.
+// The tokens before the first semicolon, and those after it, where there is one.
 fn split_head<'a, 'b>(tokens: Lexemes<'a, 'b>) -> (Lexemes<'a, 'b>, Option<Lexemes<'a, 'b>>)
     ensures { CutsDate (values_of tokens.entry) (values_of result.0) (tokens_after result.1) }
 {
@@ -97,7 +97,7 @@ fn served_text(alloc: Global, word: &[u8], text: Octets) -> Result<Option<Octets
 
 // ---- pieces
 
-// Puts a word with the text behind it last, on a line of its own.
+// Puts a word with the text after it last, on a line of its own.
 fn put_word(word: &[u8], text: &[u8], made: &mut Octets) -> Result<(), Memory>
     ensures { OnOk result (made.new ≡ made.old ++ lines_of ((word.now ++ with_space_before text.now) ∷ [])) }
 {
@@ -143,7 +143,7 @@ fn put_clauses(alloc: Global, tokens: Lexemes<'_, '_>, made: &mut Octets) -> Res
     Ok(())
 }
 
-// The text of the date behind a semicolon, or none.
+// The text of the date after a semicolon, or none.
 fn date_text(alloc: Global, date: Option<Lexemes<'_, '_>>) -> Result<Octets, Memory>
     ensures { IfOk result (λ said. said ≡ date_text_of (tokens_after date.entry)) }
 {
@@ -153,7 +153,7 @@ fn date_text(alloc: Global, date: Option<Lexemes<'_, '_>>) -> Result<Octets, Mem
     }
 }
 
-// Puts the pieces of the date behind a semicolon last, if there is one.
+// Puts the pieces of the date after a semicolon last, if there is one.
 fn put_date(
     alloc: Global,
     date: Option<Lexemes<'_, '_>>,

@@ -38,7 +38,7 @@ fn cut_left(side: Side, run: &[u8]) -> (u8, &[u8])
     }
 }
 
-// The part of the run behind a core that goes into its text, and the white octet before what is copied next.
+// The part of the run after a core that goes into its text, and the white octet before what is copied next.
 fn cut_right(side: Side, run: &[u8]) -> (&[u8], u8)
     requires { NeedsRun side run.now }
     ensures { CutsRight side run.now result.0.now result.1 }
@@ -118,7 +118,7 @@ fn push_core(
     }
 }
 
-// Puts the pieces of a core last, and of the words behind it that are copied.
+// Puts the pieces of a core last, and of the words after it that are copied.
 fn write_segment(
     alloc: Global,
     before: &Stretch<'_>,

@@ -1,4 +1,4 @@
-//! The rewriting of addresses behind their type.
+//! The rewriting of addresses after their type.
 ghost use Rattle.std.specs.Prelude.{◌≡◌, ◌++◌, ◌==◌, ℕ, List, true, codes, position, IfOk, OnOk, IfSome, IfNone, IsUtf8, ◌∷◌, []};
 ghost use Rattle.std.specs.List.{list_all};
 ghost use Rattle.encapsulated_fields.specs.AddressForms.{xtext_form};
@@ -18,7 +18,7 @@ fn find_semicolon(value: &[u8]) -> Option<usize>
     value.iter().position(|octet| *octet == b';')
 }
 
-// What stands before the first `;`, and behind it.
+// What stands before the first `;`, and after it.
 fn split_type(value: &[u8]) -> Option<(&[u8], &[u8])>
     ensures found { IfSome result (λ x. CutsType value.now x.0.now x.1.now) }
     ensures none { IfNone result (list_all is_no_semicolon value.now ≡ true) }
@@ -47,7 +47,7 @@ fn utf8_address(value: &[u8]) -> Option<&[u8]>
     Some(trim(following))
 }
 
-// Puts a UTF-8 address in its ASCII form last, on a line of its own behind its type.
+// Puts a UTF-8 address in its ASCII form last, on a line of its own after its type.
 fn push_typed(alloc: Global, address: &[u8], made: &mut Octets) -> Result<(), Memory>
     requires { IsUtf8 address.now }
     ensures { OnOk result (made.new ≡ made.old ++ lines_of ((codes "utf-8; " ++ xtext_form address.now) ∷ [])) }

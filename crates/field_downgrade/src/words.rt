@@ -9,7 +9,7 @@ use encoded_words::read_word;
 use mail_wire::{Memory, is_ascii};
 use std::alloc::Global;
 
-/// Words that stand together in a body, with the gaps between them, and the gap behind the last one.
+/// Words that stand together in a body, with the gaps between them, and the gap after the last one.
 #[derive(Clone, Copy)]
 pub struct Stretch<'a> {
     pub octets: &'a [u8],
@@ -94,7 +94,7 @@ fn front_before<'a>(octets: &'a [u8], rest: &[u8]) -> &'a [u8]
     front
 }
 
-// What the first word is, where another one is put behind the words.
+// What the first word is, where another one is put after the words.
 fn first_of(first: Side, next: Side) -> Side
     ensures { result ≡ first_where first next }
 {
@@ -129,7 +129,7 @@ pub fn split_low<'a>(alloc: Global, body: &'a [u8]) -> Result<(Stretch<'a>, &'a 
     Ok((low, rest))
 }
 
-/// The words up to the last one with an octet above 127 that no encoded word stands before, and what stands behind them.
+/// The words up to the last one with an octet above 127 that no encoded word stands before, and what stands after them.
 pub fn split_core<'a>(alloc: Global, body: &'a [u8]) -> Result<(Stretch<'a>, &'a [u8]), Memory>
     ensures { IfOk result (λ x. SplitsFirst body.now x.0 x.1.now) }
 {

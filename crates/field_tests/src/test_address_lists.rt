@@ -4,12 +4,12 @@ use address_lists::{rewrite_list, rewrite_path, rewrite_phrases};
 use mail_wire::Octets;
 use std::test::Fail;
 
-// A field's name, behind which the pieces are put.
+// A field's name, after which the pieces are put.
 fn name(rt: &HostRuntime) -> Result<Octets, Fail> {
     Ok(Octets::from_slice(rt.alloc(), b"To:").map_err(|_| "memory")?)
 }
 
-// Whether these pieces stand behind the name, each on a line of its own.
+// Whether these pieces stand after the name, each on a line of its own.
 fn are(rt: &HostRuntime, made: &Octets, wanted: &[&str]) -> Result<bool, Fail> {
     let mut lines = name(rt)?;
     for piece in wanted {

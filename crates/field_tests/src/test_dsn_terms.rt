@@ -151,7 +151,7 @@ fn parameters_of_recipients(rt: HostRuntime) -> Result<(), Fail> {
     Ok(())
 }
 
-// A front, and so many times this text behind it.
+// A front, and so many times this text after it.
 fn repeated(alloc: Global, front: &[u8], text: &[u8], times: usize) -> Result<Octets, Memory> {
     let mut made = Octets::from_slice(alloc, front)?;
     for _ in 0..times {

@@ -5,7 +5,7 @@ use Rattle.field_tokens.specs.declared.Token.{Token}
 use Rattle.field_tokens.specs.Trees.{spelling, Body, Last, Before, body_octets, IsCommentBody, Tree, End, NestedThen, run_then, HasItems, HasComment}
 use Rattle.field_tokens.proofs.Texts.{text_once, open_stops, close_stops, GivesRun-once}
 
--- the octets of text and a comment, with what follows grouped behind the text
+-- the octets of text and a comment, with what follows grouped after the text
 pub grouped : (text inner more : List ℕ) (x : List ℕ) → (text ++ 40 ∷ (inner ++ 41 ∷ more)) ++ x ≡ text ++ 40 ∷ (inner ++ 41 ∷ (more ++ x))
 grouped text inner more x = append_assoc text (40 ∷ (inner ++ 41 ∷ more)) x ∙ ap (λ r. text ++ 40 ∷ r) (append_assoc inner (41 ∷ more) x)
 

@@ -113,7 +113,7 @@ comment_at text token is kind =
       spelled = g.spelled ∙ ap (λ r. 40 ∷ (r ++ 41 ∷ [])) (sym (body_of-octets g.inside));
     }
 
--- the octets behind the opening parenthesis
+-- the octets after the opening parenthesis
 pub after_open : (text : List ℕ) (token : Token) (mark : ℕ) (octets : List ℕ) → (c : IsCommentAt text token) → octets_at text token.span ≡ mark ∷ octets → octets ≡ body_octets c.body ++ 41 ∷ []
 after_open text token mark octets c e = let whole : mark ∷ octets ≡ 40 ∷ (body_octets c.body ++ 41 ∷ []) = sym e ∙ c.spelled in cc whole
 

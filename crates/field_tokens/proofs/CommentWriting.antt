@@ -170,7 +170,7 @@ following_comment body rest = ap (λ r. 40 ∷ r) (append_assoc (body_octets bod
 comment_is : (octets : List ℕ) (ascii : Bool) (rest old new : List ℕ) → (w : WritesComment octets ascii rest old new) → octets ≡ 40 ∷ (body_octets w.adds.holds.body ++ 41 ∷ rest)
 comment_is octets ascii rest old new w = w.whole ∙ ap (λ c. c ++ rest) w.adds.holds.spelled ∙ following_comment w.adds.holds.body rest
 
--- what is left behind the comment
+-- what is left after the comment
 left_following : (levels : ℕ) (after : List ℕ) (ascii : Bool) (next old new : List ℕ) → OpensMore levels after → WritesComment after ascii next old new → HoldsBody levels next
 left_following levels after ascii next old new o w =
     let whole : 40 ∷ (body_octets w.adds.holds.body ++ 41 ∷ next) ≡ 40 ∷ (body_octets o.inner ++ 41 ∷ (body_octets o.more ++ 41 ∷ o.following)) = sym (comment_is after ascii next old new w) ∙ o.whole in
@@ -222,11 +222,11 @@ WritesOn-none levels mark octets inside made b u e =
       onward = λ body more following is_body whole has. record { body = body; is_body = is_body; whole = whole; pieces_are = has };
     }
 
--- lines behind lines
+-- lines after lines
 put_more : (old mid new : List ℕ) (xs ys : List (List ℕ)) → mid ≡ old ++ lines_of xs → new ≡ mid ++ lines_of ys → new ≡ old ++ lines_of (xs ++ ys)
 put_more old mid new xs ys a b = b ∙ ap (λ r. r ++ lines_of ys) a ∙ append_assoc old (lines_of xs) (lines_of ys) ∙ ap (λ r. old ++ r) (sym (lines_of-append xs ys))
 
--- octets behind octets
+-- octets after octets
 passed_more : (inside front rest text after : List ℕ) (ascii ascii_text : Bool) → inside ≡ front ++ rest → rest ≡ text ++ after → ascii ≡ list_all is_ascii front → ascii_text ≡ list_all is_ascii text
     → (inside ≡ (front ++ text) ++ after) × ((ascii && ascii_text) ≡ list_all is_ascii (front ++ text))
 passed_more inside front rest text after ascii ascii_text e f a b =

@@ -7,7 +7,7 @@ use Rattle.field_tokens.specs.Tokens.{TokenValue}
 use Rattle.field_tokens.specs.Squeezed.{is_comment, comments_of}
 use Rattle.field_tokens.specs.Comments.{IsComment, CommentPieces, CommentsPieces, AreWritableComments}
 
--- behind the pieces that were put, those of the rest's comments complete those of all
+-- after the pieces that were put, those of the rest's comments complete those of all
 pub record CommentsLeft (all rest : List TokenValue) (old made : List ℕ) : Type 0 where
   pub can : AreWritableComments (comments_of rest)
   pub onward : (new : List ℕ) → AddsLines (CommentsPieces (comments_of rest)) made new → AddsLines (CommentsPieces (comments_of all)) old new

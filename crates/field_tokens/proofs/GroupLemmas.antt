@@ -24,7 +24,7 @@ group_found m text body rest d text_is closed step =
 one_level : (m : Marks) (i : Inside) → IsInside m i → depth_of i < m.limit → Levels m 1 (inside_octets m i ++ m.close_mark ∷ [])
 one_level m i is shallow = (i, [], is, omega arith, refl, refl)
 
--- a group that a text begins with, behind its open mark
+-- a group that a text begins with, after its open mark
 body_is : (m : Marks) (text body rest : List ℕ) → text ≡ m.open_mark ∷ body → (s : SplitsGroup m text rest)
     → body ≡ (inside_octets m s.is_group.inside ++ m.close_mark ∷ []) ++ rest
 body_is m text body rest text_is s =

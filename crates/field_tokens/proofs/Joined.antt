@@ -8,7 +8,7 @@ use Rattle.field_tokens.specs.Tokens.{TokenValue, AreTokens, tokens_from, HasTok
 use Rattle.field_tokens.specs.Squeezed.{StandTogether}
 use Rattle.field_tokens.proofs.TokenLists.{token_at}
 
--- the tokens behind a front join to what follows it
+-- the tokens after a front join to what follows it
 join_from : (style : Style) (text front rest : List ℕ) (ts : List TokenValue) → text ≡ front ++ rest → AreTokens style ts rest
     → flat_map (λ token. octets_at text token.span) (tokens_from (length front) ts) ≡ rest
 join_from style text front rest [] e are = sym are

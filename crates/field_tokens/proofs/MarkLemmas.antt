@@ -9,7 +9,7 @@ use Rattle.field_tokens.specs.Tokens.{BeginsToken, TokenValue, IsLine, HasTokenV
 use Rattle.field_tokens.specs.Lexemes.{marked_kind, marked_len, lexemes_in}
 use Rattle.field_tokens.proofs.TokenLists.{ReadsTokens, ReadsTokens-none, ReadsTokens-push, no_tokens, all_tokens, token_some}
 
--- what stands behind the tokens of marks
+-- what stands after the tokens of marks
 abbrev pub after_marks : List ℕ → List Mark → List ℕ
 after_marks text [] = text
 after_marks text (m ∷ ms) = after_marks (drop (marked_len m) text) ms

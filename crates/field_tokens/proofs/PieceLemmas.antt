@@ -1,4 +1,4 @@
--- Pieces with a space between any two, and comments behind a text.
+-- Pieces with a space between any two, and comments after a text.
 use Rattle.std.proofs.Common.{◌≡◌, ℕ, ◌<◌, List, [], ◌∷◌, ◌++◌, length, refl, sym, ap, ◌∙◌, arith}
 use Rattle.std.proofs.lemmas.List.{append_assoc, append-nil}
 use Rattle.std.specs.List.{AllByRecursion, join_with_byte}
@@ -53,7 +53,7 @@ pub pieces_lines : (pieces : List (List ℕ)) → AllByRecursion IsLinePiece pie
 pieces_lines [] all = tt
 pieces_lines (p ∷ pieces) all = (ascii_line p all.0.ascii all.0.line, pieces_lines pieces all.1)
 
--- ---- comments behind a text
+-- ---- comments after a text
 
 -- comments with a space before each
 abbrev pub spaced : List (List ℕ) → List TokenValue

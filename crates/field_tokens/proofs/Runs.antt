@@ -32,7 +32,7 @@ with_white run white next octets rest e f =
     e ∙ ap (λ r. spelling run ++ r) f ∙ sym (append_assoc (spelling run) white next) ∙ ap (λ r. (spelling run ++ r) ++ next) (sym (spelling-white white))
     ∙ ap (λ r. r ++ next) (sym (spelling-append run (map Plain white)))
 
--- an item behind text
+-- an item after text
 with_item : (text : List TextItem) (i : TextItem) (octets next after : List ℕ) → octets ≡ spelling text ++ next → next ≡ item_spelling i ++ after → octets ≡ spelling (text ++ i ∷ []) ++ after
 with_item text i octets next after e f =
     e ∙ ap (λ r. spelling text ++ r) f ∙ sym (append_assoc (spelling text) (item_spelling i) after) ∙ ap (λ r. (spelling text ++ r) ++ after) (sym (append-nil (item_spelling i)))

@@ -13,7 +13,7 @@ use Rattle.field_tokens.proofs.TokenLists.{token_octets_some}
 abbrev pub space : Bool → List ℕ
 space has_space_before = cond has_space_before (32 ∷ []) []
 
--- what tokens add behind others: behind a gap or a comment a space comes first
+-- what tokens add after others: after a gap or a comment a space comes first
 abbrev pub following : List ℕ → Bool → List Token → List ℕ
 following text has_space_before [] = []
 following text has_space_before (t ∷ ts) = cond (is_blank t.kind) (following text true ts) (space has_space_before ++ (octets_at text t.span ++ following text false ts))
@@ -107,7 +107,7 @@ neighbour_stands text tokens k d (inr s) below =
       among = (length s.before + k, omega (arith, size, below), get_or-append-add s.before (tokens ++ s.after) k token ∙ get_or_append_left tokens s.after token k below ∙ get_or_any tokens k token d below);
     })
 
--- the next token, and what is behind it
+-- the next token, and what is after it
 pub Squeezes-at : (text : List ℕ) (tokens : List Token) (made : List ℕ) (has_space_before : Bool) (k : ℕ) (d : Token) → Squeezes text tokens made has_space_before (drop k tokens) → k < length tokens
     → Squeezes text tokens made has_space_before (get_or tokens k d ∷ drop (k + 1) tokens)
 Squeezes-at text tokens made has_space_before k d s below = rw (add-one) (rw (drop-cons tokens k d below) at s)

@@ -213,14 +213,14 @@ IsPart-runs style tokens text are =
     let runs : List (List TokenValue) = slice_split (λ (t : TokenValue). is_blank t.kind) tokens in
     runs_are_parts style (runs_of tokens) (runs_of-run tokens) (all_there style runs (all_read style text runs (cuts_runs style tokens text are)))
 
--- the runs of tokens, and comments behind them
+-- the runs of tokens, and comments after them
 abbrev pub runs_and : List TokenValue → List (List ℕ) → List (List TokenValue)
 runs_and tokens comments = runs_of tokens ++ comment_parts comments
 
 abbrev pub squeezed_and : List TokenValue → List (List ℕ) → List ℕ
 squeezed_and tokens comments = join_with_byte 32 (map octets_of (runs_and tokens comments))
 
--- what the squeezed text of tokens is read as, with comments behind it
+-- what the squeezed text of tokens is read as, with comments after it
 pub record IsSqueezedAgain (style : Style) (tokens : List TokenValue) (comments : List (List ℕ)) : Type 0 where
   pub are_parts : AllByRecursion (IsPart style) (runs_and tokens comments)
   pub are_tokens : AreTokens style (joined_by_spaces (runs_and tokens comments)) (squeezed_and tokens comments)

@@ -143,7 +143,7 @@ pub spelling-white : (white : List ℕ) → spelling (map Plain white) ≡ white
 spelling-white [] = refl
 spelling-white (x ∷ white) = ap (λ r. x ∷ r) (spelling-white white)
 
--- an item behind white is black
+-- an item after white is black
 pub item_nonwhite : (i : TextItem) (octets rest : List ℕ) → Stops is_white octets → octets ≡ item_spelling i ++ rest → is_white_item i ≡ false
 item_nonwhite (Plain x) octets rest stops e = rw (e) at stops
 item_nonwhite (Pair x) octets rest stops e = refl

@@ -140,7 +140,7 @@ lines_there ((t ∷ run) ∷ runs) all = (run_line (t ∷ run) all.0, lines_ther
 pub runs_are_lines : (style : Style) (tokens : List TokenValue) (text : List ℕ) → AreTokens style tokens text → IsLine text → AllByRecursion IsLine (map octets_of (runs_of tokens))
 runs_are_lines style tokens text are line = lines_there (slice_split (λ (t : TokenValue). is_blank t.kind) tokens) (split_lines tokens (tokens_lines style tokens text are line))
 
--- the squeezed text of a line is a line, with lines as comments behind it too
+-- the squeezed text of a line is a line, with lines as comments after it too
 pub squeezed_line : (style : Style) (tokens : List TokenValue) (text : List ℕ) → AreTokens style tokens text → IsLine text → IsLine (squeezed_values tokens)
 squeezed_line style tokens text are line = joined_line (map octets_of (runs_of tokens)) (runs_are_lines style tokens text are line)
 
@@ -150,7 +150,7 @@ squeezed_and_line style tokens text comments are line groups lines =
     let again = squeezed_again style tokens text comments are groups in
     rw (again.pieces_are) (joined_line (map octets_of (runs_of tokens) ++ comments) (all-append IsLine (map octets_of (runs_of tokens)) comments (runs_are_lines style tokens text are line) lines))
 
--- what the squeezed text of a line is, with no comments behind it
+-- what the squeezed text of a line is, with no comments after it
 again_alone : (style : Style) (text : List ℕ) (tokens : List TokenValue) → HasTokenValues style text tokens → IsSqueezedAgain style tokens []
 again_alone style text tokens has = squeezed_again style tokens text [] has.are_tokens tt
 

@@ -1,4 +1,4 @@
--- Tokens are read one behind another, in one way.
+-- Tokens are read one after another, in one way.
 use Rattle.std.proofs.Common.{◌≡◌, ℕ, ◌+◌, ◌-◌, ◌<◌, List, [], ◌∷◌, ◌++◌, length, get_or, refl, sym, ap, ◌∙◌, subst, arith, add-zero}
 use Rattle.std.specs.List.{flat_map}
 use Rattle.std.proofs.lemmas.Grind.{flat_map-append}
@@ -60,7 +60,7 @@ ReadsTokens-push style kind text rest after done reads some b = record {
       (first.0, first.1, old.2 ∙ rw (append_assoc) (ap (λ us. done ++ us) first.2));
 }
 
--- tokens behind others stand behind them
+-- tokens after others stand after them
 abbrev pub all_octets : List TokenValue → List ℕ
 all_octets ts = flat_map (λ t. t.octets) ts
 

@@ -92,7 +92,7 @@ CommentsSay [] values = values ≡ []
 CommentsSay (comment ∷ comments) values = (first : CommentValue) × (more : List CommentValue) × (values ≡ first ∷ more)
     × CommentSays comment first × CommentsSay comments more
 
--- the pieces of several comments, one behind another
+-- the pieces of several comments, one after another
 abbrev pub CommentsPieces : List (List ℕ) → List (List ℕ) → Type 0
 CommentsPieces [] pieces = pieces ≡ []
 CommentsPieces (comment ∷ comments) pieces = (first more : List (List ℕ)) × (pieces ≡ first ++ more)

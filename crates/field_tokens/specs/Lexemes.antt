@@ -32,7 +32,7 @@ marked_kind m = kind_numbered (m.code % 8)
 abbrev pub marked_len : Mark → ℕ
 marked_len m = m.code / 8
 
--- The tokens of marks, one behind another from the text's beginning on. Where the text ends in one it is as long as that.
+-- The tokens of marks, one after another from the text's beginning on. Where the text ends in one it is as long as that.
 abbrev pub lexemes_in : List ℕ → List Mark → List TokenValue
 lexemes_in text [] = []
 lexemes_in text (m ∷ ms) = record { kind = marked_kind m; octets = take (marked_len m) text } ∷ lexemes_in (drop (marked_len m) text) ms

@@ -17,7 +17,7 @@ is_blank Quoted = false
 is_blank Literal = false
 is_blank Special = false
 
--- the octets of tokens, one behind another
+-- the octets of tokens, one after another
 abbrev pub run_octets : List ℕ → List Token → List ℕ
 run_octets text tokens = flat_map (λ token. octets_at text token.span) tokens
 
@@ -45,7 +45,7 @@ AreNeighbours text tokens = (tokens ≡ []) ⊎ StandTogether text tokens
 abbrev pub runs_of : List TokenValue → List (List TokenValue)
 runs_of tokens = filter is_there (slice_split (λ token. is_blank token.kind) tokens)
 
--- The octets of tokens, one behind another.
+-- The octets of tokens, one after another.
 abbrev pub octets_of : List TokenValue → List ℕ
 octets_of tokens = flat_map (λ token. token.octets) tokens
 

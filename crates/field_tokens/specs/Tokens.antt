@@ -47,7 +47,7 @@ pub record TokenValue : Type 0 where
   pub kind : TokenKind
   pub octets : List ℕ
 
--- the text is these tokens, one behind another
+-- the text is these tokens, one after another
 abbrev pub AreTokens : Style → List TokenValue → List ℕ → Type 0
 AreTokens style [] text = text ≡ []
 AreTokens style (t ∷ ts) text = (rest : List ℕ) × (text ≡ t.octets ++ rest) × IsToken style t.kind t.octets rest × AreTokens style ts rest

@@ -24,7 +24,7 @@ AreText text = AllByRecursion StandsInText text
 abbrev pub spelling : List TextItem → List ℕ
 spelling text = flat_map item_spelling text
 
--- What stands in a comment: text up to its end, or text, then a comment, and what stands behind that.
+-- What stands in a comment: text up to its end, or text, then a comment, and what stands after that.
 pub data Body : Type 0 where
   Last : List TextItem → Body
   Before : List TextItem → Body → Body → Body

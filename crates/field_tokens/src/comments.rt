@@ -46,7 +46,7 @@ fn write_text<'a>(
     Ok((ascii, after))
 }
 
-// Ends the pieces of a comment, which begin behind `start`: an ASCII comment becomes one piece.
+// Ends the pieces of a comment, which begin after `start`: an ASCII comment becomes one piece.
 fn end_comment(comment: &[u8], ascii: bool, start: usize, made: &mut Octets) -> Result<(), Memory>
     ensures { OnOk result (made.new ≡ (if ascii then take start made.old ++ lines_of (comment.now ∷ []) else made.old ++ lines_of ((41 ∷ []) ∷ []))) }
 {

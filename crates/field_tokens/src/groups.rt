@@ -48,7 +48,7 @@ fn may_stand(marks: Marks, octet: u8) -> bool
     marks.holds_controls || !is_control(octet)
 }
 
-// One octet, pair or mark of open groups: how many are open behind it, and what follows.
+// One octet, pair or mark of open groups: how many are open after it, and what follows.
 fn group_step(marks: Marks, depth: usize, rest: &[u8]) -> Option<(usize, &[u8])>
     requires marks { AreMarks marks }
     requires is_open { 0 < depth }

@@ -14,7 +14,7 @@ pub fn tokens_are_one()
         → HasTokens style text others → tokens ≡ others }
 {}
 
-/// The octets of its tokens, one behind another, are the text.
+/// The octets of its tokens, one after another, are the text.
 pub fn tokens_join()
     ensures { (style : Style) (text : List ℕ) (tokens : List Token) → HasTokens style text tokens
         → flat_map (λ token. octets_at text token.span) tokens ≡ text }

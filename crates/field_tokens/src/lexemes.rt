@@ -21,7 +21,7 @@ pub struct Mark {
     code: u32,
 }
 
-/// Tokens that stand one behind another, the first one where the text begins. The text may go on behind the last one.
+/// Tokens that stand one after another, the first one where the text begins. The text may go on after the last one.
 #[derive(Clone, Copy)]
 pub struct Lexemes<'a, 'b> {
     text: &'a [u8],
@@ -158,7 +158,7 @@ impl<'a, 'b> Lexemes<'a, 'b> {
         self.marks.len()
     }
 
-    /// The first token, and those behind it.
+    /// The first token, and those after it.
     pub fn split_first(self) -> Option<(Lexeme<'a>, Lexemes<'a, 'b>)>
         ensures found { IfSome result (λ x. values_of self.entry ≡ value_of x.0 ∷ values_of x.1) }
         ensures none { IfNone result (values_of self.entry ≡ []) }

@@ -32,7 +32,7 @@ fn item_rest(octets: &[u8]) -> Option<&[u8]>
     Some(after)
 }
 
-/// The length of the run that comes first, and what follows the white behind it. A run begins with no white.
+/// The length of the run that comes first, and what follows the white after it. A run begins with no white.
 pub(crate) fn split_run(octets: &[u8]) -> (usize, &[u8])
     requires { Stops is_white octets.now }
     ensures { SplitsRun octets.now result.0 result.1.now }

@@ -30,7 +30,7 @@ use Rattle.imap_grammar.specs.declared.words.UidName.TheVariants as uid
 use Rattle.imap_words.proofs.InLine.{no_return, IsFlat, not_crlf, Flat, is_flat, octet_flat, then_flat, or_flat, itself_flat, list_flat, run_flat, astring_ok, list_ok, digit_ok, atom_flat, tag_flat, number_flat, non_zero_flat, space_flat, flat_words, word_flat, quoted_flat, set_flat, date_flat}
 use Rattle.imap_grammar.proofs.LineLaws.{header_form, crlf_spelled}
 
--- ---- lines behind octets without CR
+-- ---- lines after octets without CR
 
 first_more : (x : ℕ) (xs : List ℕ) (cut : Cut) → no_return x ≡ true → first_line xs ≡ Some cut → first_line (x ∷ xs) ≡ Some (begun_with x cut)
 unfolding first_line
@@ -101,7 +101,7 @@ flat_before kind a line (l ∷ before) b flat e each is has =
 pub flat_ends : (kind : Option ℕ) (a b : List ℕ) → IsFlat a → Ends kind b → Ends kind (a ++ b)
 flat_ends kind a b flat e = flat_before kind a e.line e.before b flat e.whole e.each e.is_line e.has
 
--- behind what announces a literal: the literal, and then what ends a line
+-- after what announces a literal: the literal, and then what ends a line
 pub after_announced : (kind : Option ℕ) (a literal b : List ℕ) (size : ℕ) → Ends (Some size) a → length literal ≡ size → Ends kind b → Ends kind (a ++ (literal ++ b))
 after_announced kind a literal b size is sized e = record {
   before = is.before ++ mine ∷ e.before;
@@ -124,7 +124,7 @@ after_announced kind a literal b size is sized e = record {
 
 -- ---- kinds of languages
 
--- parts of a line, with literals: what ends a line does so behind them
+-- parts of a line, with literals: what ends a line does so after them
 abbrev pub Weaves : {V : Type 0} → (List ℕ → V → Type 0) → Type 0
 Weaves {V} P = (kind : Option ℕ) (a b : List ℕ) (v : V) → P a v → Ends kind b → Ends kind (a ++ b)
 
@@ -151,7 +151,7 @@ module _ {V W : Type 0} (P : List ℕ → V → Type 0) (Q : V → List ℕ → 
   pub then_closes : (kind : W → Option ℕ) → Weaves P → ((u : V) → Closes kind (Q u)) → Closes kind (Then P Q)
   then_closes kind first second a w is = subst (λ z. Ends (kind w) z) (sym is.whole) (first (kind w) is.front is.back is.value is.first (second is.value is.back w is.second))
 
--- a word that ends the line, and nothing behind it
+-- a word that ends the line, and nothing after it
 pub closed : {V W : Type 0} (P : List ℕ → V → Type 0) (f : V → W) (kind : W → Option ℕ) → Closes (λ v. kind (f v)) P → Closes kind (Then P (λ v. Is (f v)))
 closed P f kind closes a w is =
     subst (λ z. Ends (kind z) a) (sym is.second.1)
@@ -217,7 +217,7 @@ header_line a n is =
 pub header_closes : Closes (λ (n : ℕ). Some n) IsHeader
 header_closes a n is = one_line (Some n) a (header_line a n is) ([], a, refl, is)
 
--- a literal behind what announces it
+-- a literal after what announces it
 pub counted_weaves : {V : Type 0} (P : List ℕ → V → Type 0) (size : V → ℕ) → Closes (λ v. Some (size v)) P → Weaves (Then P (λ v. IsCounted (size v)))
 counted_weaves P size closes kind a b w is e =
     subst (λ z. Ends kind z) (sym (ap (λ z. z ++ b) is.whole ∙ append_assoc is.front is.back b)) (after_announced kind is.front is.back b (size is.value) (closes is.front is.value is.first) is.second.0 e)

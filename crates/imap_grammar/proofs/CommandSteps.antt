@@ -1,4 +1,4 @@
--- The steps of reading a command: what is left behind a part of it, and what comes of the rest.
+-- The steps of reading a command: what is left after a part of it, and what comes of the rest.
 use Rattle.std.proofs.Common.{◌≡◌, ℕ, Bool, false, List, [], ◌∷◌, ◌++◌, inl, inr, refl, sym, ap, ◌∙◌, subst, append_assoc, append-nil, Bor}
 use Rattle.std.specs.Prelude.{Result, Ok, Err, MatchResult, ⊤}
 use Rattle.imap_words.specs.Languages.{Then, After, Is, IsOctet, IsCounted, IsMoreThan, IsViable}

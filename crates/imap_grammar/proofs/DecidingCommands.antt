@@ -96,7 +96,7 @@ partial_decided =
 section_item_decided : (utf8 peek : Bool) → Decided (IsSectionItem utf8 peek)
 section_item_decided utf8 peek = then_decided (section_decided utf8) (λ s. then_decided (maybe_decided partial_decided) (λ partial. is_decided _))
 
--- Behind a macro's word nothing is an item; behind each other word something is.
+-- After a macro's word nothing is an item; after each other word something is.
 abbrev ItemDecided : Bool → ItemWord → Type 1
 ItemDecided utf8 w = Known (IsAfterItem utf8 w) × (is_macro w ≡ false → IsViable (IsAfterItem utf8 w) [])
 

@@ -35,7 +35,7 @@ data_sized size tail = elim (cases_lt (length tail) size) [
     nothing [] e = refl
     nothing (x ∷ octets) e = absurd (omega (arith, e))
 
--- how many octets stand behind the data
+-- how many octets stand after the data
 after_data : (size : ℕ) (content back : List ℕ) → (length content ≡ size) ⊎ ((length content < size) × (back ≡ [])) → length back ≡ length (drop size (content ++ back))
 after_data size content back (inl all) = omega (arith, all, length-drop size (content ++ back), length-append content back)
 after_data size content back (inr part) = omega (arith, part.0, ap length part.1, length-drop size (content ++ back), length-append content back)

@@ -25,11 +25,11 @@ then_nonempty {P} some w is = at is.front is.back is.whole is.first
     at [] back e p = some is.value p
     at (x ∷ front) back e p = cc e
 
--- an item, and a row behind it whose values pass with the item's
+-- an item, and a row after it whose values pass with the item's
 abbrev Item : {V E : Type 0} → (List ℕ → V → Type 0) → (List ℕ → E → Type 0) → (List V → Type 0) → List ℕ → List ℕ → Type 0
 Item {V} S End R a b = (v : V) × S a v × ((vs : List V) × Row S End b vs × R (v ∷ vs))
 
--- an item, and a front of a row behind it
+-- an item, and a front of a row after it
 abbrev ItemBegun : {V E : Type 0} → (List ℕ → V → Type 0) → (List ℕ → E → Type 0) → List ℕ → List ℕ → Type 0
 ItemBegun {V} S End a b = (v : V) × S a v × IsViable (Row S End) b
 

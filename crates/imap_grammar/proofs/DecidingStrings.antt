@@ -50,7 +50,7 @@ high_decided = or_decided two_decided (or_known three_decided.known four_decided
 
 -- ---- quoted strings
 
--- a character that stands for itself, and one behind a backslash
+-- a character that stands for itself, and one after a backslash
 abbrev Plain : (ℕ → Bool) → List ℕ → List ℕ → Type 0
 Plain p = Then (IsOneOf p) (λ x. Is (x ∷ []))
 

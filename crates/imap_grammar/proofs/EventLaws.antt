@@ -75,13 +75,13 @@ drop_append zero a b = let e : 0 ≡ 0 - length a = omega arith in ap (λ m. a +
 drop_append (suc n) [] b = let e : suc n ≡ suc n - 0 = omega arith in ap (λ m. drop m b) e
 drop_append (suc n) (x ∷ a) b = let e : n - length a ≡ suc n - suc (length a) = omega arith in drop_append n a b ∙ ap (λ m. drop n a ++ drop m b) e
 
--- ---- behind a stage
+-- ---- after a stage
 
 -- how many octets count
 abbrev pub count_of : Stage → (front body : List ℕ) → ℕ
 count_of stage front body = if is_data stage then length front + length (drop (size_of stage) body) else length front + length body
 
--- behind the literal no line is whole yet
+-- after the literal no line is whole yet
 abbrev pub Quiet : Stage → List ℕ → Type 0
 Quiet stage body = first_line (drop (size_of stage) body) ≡ None
 
@@ -94,7 +94,7 @@ ends_in utf8 (AfterLiteral tag size a) front more reached is some = ends_after f
 others_are : (size : ℕ) (more : List ℕ) (l : LineAfter size more) → drop size more ≡ l.others
 others_are size more l = ap (λ z. drop size z) l.whole ∙ drop_at l.literal l.others size l.sized
 
--- No line ends within a literal or before the line behind it is whole.
+-- No line ends within a literal or before the line after it is whole.
 pub quiet_no_end : (utf8 : Bool) (stage : Stage) (front body : List ℕ) → Reached utf8 stage front → Quiet stage body → (body ≡ [] → ⊥) → EndsCommandLine (front ++ body) → ⊥
 quiet_no_end utf8 stage front body reached quiet some is =
     let l = ends_in utf8 stage front body reached is some in
@@ -105,7 +105,7 @@ quiet_no_end utf8 stage front body reached quiet some is =
 appending_ends : (utf8 : Bool) (head : List ℕ) (a : Appends) → IsAppending utf8 head a → EndsCommandLine head
 appending_ends utf8 head a is = announces_ends head a.front.announced.size (appending_announces utf8 head a is)
 
--- the front itself, or up to the end of the line behind it
+-- the front itself, or up to the end of the line after it
 pub data HeadAt (stage : Stage) (front body head rest : List ℕ) : Type 0 where
   AtFront : head ≡ front → rest ≡ body → HeadAt stage front body head rest
   AtLine : (others : List ℕ) (cut : Cut) → drop (size_of stage) body ≡ others ++ rest → first_line others ≡ Some cut → HeadAt stage front body head rest

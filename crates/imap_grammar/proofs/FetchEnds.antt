@@ -53,11 +53,11 @@ pub steps_on : {P Q : List ℕ → Command → Type 0} {text mid : List ℕ} (ut
 steps_on {P} {Q} {text} {mid} utf8 (Ok x) l h = goes_on utf8 x.0 x.1.now l h
 steps_on {P} {Q} {text} {mid} utf8 (Err stop) l h = (here l).stops never stop h
 
--- a step behind another part
+-- a step after another part
 pub step_left : {L Q : List ℕ → Command → Type 0} {text mid : List ℕ} {step is : Step} (utf8 : Bool) (rest : List ℕ) → Leaves L text Q mid → step ≡ is → Goes utf8 Q mid step rest → Goes utf8 L text is rest
 step_left {L} {Q} {text} {mid} {step} {is} utf8 rest l e goes = subst (λ z. Goes utf8 L text z rest) e (goes_on utf8 step rest l goes)
 
--- what is left behind a step
+-- what is left after a step
 step_leaves : (utf8 : Bool) (L : List ℕ → Command → Type 0) (text : List ℕ) (step : Step) (rest : List ℕ) → Goes utf8 L text step rest → Leaves L text (IsAfterStep utf8 step) rest
 step_leaves utf8 L text (Read f) rest goes = goes
 step_leaves utf8 L text (Awaits size so_far) rest goes = goes.2
@@ -131,7 +131,7 @@ letters_never {V} table x low none test =
 pub number_none : (x : ℕ) → is_digit x ≡ false → NeverAt IsNonZero x
 number_none x bad a b v more is e = number_never x bad a b v more is.is_number e
 
--- ---- behind an item
+-- ---- after an item
 
 -- a space, what closes a list, and the line's end don't pass
 abbrev pub Ends : (ℕ → Bool) → Type 0

@@ -20,7 +20,7 @@ pub fits_parts : (stage : Stage) (literal line : List ℕ) → FitsStage stage l
 fits_parts Begin literal line none = (omega (arith, ap length none), inl (ap length none))
 fits_parts (AfterLiteral tag size a) literal line fits = fits
 
--- octets behind the literal stand in the line
+-- octets after the literal stand in the line
 pub drop_body : (size : ℕ) (literal line octets : List ℕ) → length literal ≤ size → (length literal ≡ size) ⊎ (line ≡ []) → drop size ((literal ++ line) ++ octets) ≡ line ++ drop (size - length literal) octets
 drop_body size literal line octets fits (inl same) =
     let none : 0 ≡ size - length literal = omega (arith, same) in

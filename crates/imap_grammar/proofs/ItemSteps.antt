@@ -125,7 +125,7 @@ module _ (utf8 : Bool) where
   macro_follows word.Fast e = same_self (IsAfterAny utf8 word.Fast)
   macro_follows word.Full e = same_self (IsAfterAny utf8 word.Full)
 
--- ---- behind a word
+-- ---- after a word
 
 module _ (utf8 : Bool) (f : Fetching) where
   abbrev pub These : List FetchItem → List ℕ → Command → Type 0

@@ -139,7 +139,7 @@ returned_open octets v = front_none octets v.rest (returned (octets ++ v.rest) v
 pub returned_last : (octets rest : List ℕ) (n : ℕ) → Reads (HasFlags (AreFlags 13)) never octets n rest → rest ≡ [] → first_line octets ≡ None
 returned_last octets rest n r none = subst (λ z. first_line z ≡ None) (sym (r.whole ∙ (ap (λ z. r.word ++ z) none ∙ append-nil r.word))) (returned r.word n r.is_word)
 
--- what an item's reader passes, behind octets in which no line ends
+-- what an item's reader passes, after octets in which no line ends
 pub steps_pass : (octets mid : List ℕ) (r : Result (Step × Bor (List ℕ)) Stop) → (first_line mid ≡ None → first_line octets ≡ None) → IfOk r (λ x. PassesNoEnd mid x.0 x.1.now) → IfOk r (λ x. PassesNoEnd octets x.0 x.1.now)
 steps_pass octets mid r joins h = IfOk-weaker r (λ x. PassesNoEnd mid x.0 x.1.now) (λ x. PassesNoEnd octets x.0 x.1.now) (λ x passes is none. joins (passes is none)) h
 

@@ -1,4 +1,4 @@
--- Where lines end: octets that end a line have one parting into lines and literals, and octets behind them have the same one and more.
+-- Where lines end: octets that end a line have one parting into lines and literals, and octets after them have the same one and more.
 use Rattle.std.proofs.Common.{◌≡◌, ℕ, ◌==◌, Bool, true, not, List, [], ◌∷◌, ◌++◌, length, Some, refl, sym, ap, ◌∙◌, subst, append_assoc, append-nil, arith}
 use Rattle.std.proofs.lemmas.Bool.{and_parts, both_ways}
 use Rattle.std.proofs.lemmas.Bool.Decides.{nat_tests}
@@ -107,12 +107,12 @@ same_size front header before other n m is his e = by (compared front before hea
 
 -- ---- one parting
 
--- what the octets behind a line are
+-- what the octets after a line are
 pub data Walk (line last more : List ℕ) : Type 0 where
   Here : last ≡ line → more ≡ [] → Walk line last more
   Beyond : (l : LiteralLine) (others : List ℕ) (cut : Cut) → IsLiteralLine l → l.line ≡ line → more ≡ l.literal ++ others → first_line others ≡ Some cut → Walk line last more
 
--- what lines with literals and a line behind them begin with
+-- what lines with literals and a line after them begin with
 begins_line : (before : List LiteralLine) (line : List ℕ) → All IsLiteralLine before → IsWholeLine line → (cut : Cut) × (first_line (flat_map literal_line before ++ line) ≡ Some cut)
 begins_line [] line each is = (cut_at line [], is)
 begins_line (l ∷ before) line each is =
@@ -186,9 +186,9 @@ walk (l ∷ before) (m ∷ others) line last more all alls is his e =
         ap (λ z. z ++ more) (append_assoc (l.line ++ l.literal) (flat_map literal_line before) line ∙ append_assoc l.line l.literal (flat_map literal_line before ++ line))
         ∙ (append_assoc l.line (l.literal ++ (flat_map literal_line before ++ line)) more ∙ ap (λ z. l.line ++ z) (append_assoc l.literal (flat_map literal_line before ++ line) more))
 
--- ---- behind octets that announce a literal
+-- ---- after octets that announce a literal
 
--- the literal, and a line at least behind it
+-- the literal, and a line at least after it
 pub record LineAfter (size : ℕ) (more : List ℕ) : Type 0 where
   pub literal : List ℕ
   pub others : List ℕ
@@ -211,7 +211,7 @@ ends_after octets more size a is some = by (walk a.before is.before a.line is.li
       first = first;
     }
 
--- A front that ends a line, and behind which more octets end one, announces a literal.
+-- A front that ends a line, and after which more octets end one, announces a literal.
 pub front_announces : (octets more : List ℕ) → EndsCommandLine octets → EndsCommandLine (octets ++ more) → (more ≡ [] → ⊥) → (size : ℕ) × Announces octets size
 front_announces octets more was is some = by (walk was.before is.before was.line is.line more was.each is.each was.is_line is.is_line (sym is.whole ∙ ap (λ z. z ++ more) was.whole))
   where

@@ -1,4 +1,4 @@
--- The steps of reading what stands behind a literal.
+-- The steps of reading what stands after a literal.
 use Rattle.std.proofs.Common.{◌≡◌, ℕ, ◌+◌, ◌-◌, ◌<◌, Bool, true, not, List, [], ◌∷◌, ◌++◌, length, get_or, take, drop, Some, Bor, refl, sym, ap, ◌∙◌, subst, append_assoc, length-append, length-drop, arith, position}
 use Rattle.std.proofs.lemmas.Bool.{and_parts, both_ways}
 use Rattle.std.proofs.lemmas.List.{take-append-drop, drop_more}

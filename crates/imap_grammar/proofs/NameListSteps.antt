@@ -74,7 +74,7 @@ name_header {text} {mid} {n} r = by r.is_word
 -- ---- a list of names, and the section's end
 
 module _ (utf8 : Bool) (f : FieldNames) where
-  -- behind names
+  -- after names
   names_avoid : (names : List (List ℕ)) → Avoids (passes NameAstring) (IsAfterNames utf8 f names)
   names_avoid names = then_avoids (passes NameAstring) (IsMoreThan IsSpace (IsHeaderName utf8) IsCloseParenthesis names) _
       (more_avoids IsSpace (IsHeaderName utf8) IsCloseParenthesis (passes NameAstring) names (octet_avoids (passes NameAstring) 32 space_ends) (octet_avoids (passes NameAstring) 41 close_ends))
@@ -88,7 +88,7 @@ module _ (utf8 : Bool) (f : FieldNames) where
   pub names_stop : (names : List (List ℕ)) {L : List ℕ → Command → Type 0} {text rest : List ℕ} → Leaves L text (IsAfterNames utf8 f names) rest → length rest ≡ 0 → StopsReading L never text More
   names_stop names {L} {text} {rest} l e = (here l).stops never More (names_more names rest e)
 
-  -- behind a name
+  -- after a name
   abbrev pub NextName : List (List ℕ) → List ℕ → List ℕ → Command → Type 0
   NextName names v = IsAfterNames utf8 f (names ++ v ∷ [])
 
@@ -143,7 +143,7 @@ module _ (utf8 : Bool) (f : FieldNames) where
         let reads = subst (λ z. Reads IsNameHead after_name_head rest z mid) e r in
         (header_later by_head (name_header reads), name_size reads.word n reads.is_word, leaves_then by_head reads (head_avoids names))
 
-  -- ---- behind a name
+  -- ---- after a name
 
   abbrev pub Closes : List (List ℕ) → List ℕ → Command → Type 0
   Closes names = After IsCloseParenthesis (IsSectionEnd utf8 f.fetching f.peek f.path (part.Fields names f.negated))
@@ -180,7 +180,7 @@ names_await {L} {text} {mid} utf8 f n r = (
 pub names_put : {L : List ℕ → Command → Type 0} {text mid : List ℕ} {made : FieldNames} (utf8 : Bool) (f : FieldNames) (v : List ℕ) → made ≡ with_name f v → Leaves L text (NextName utf8 f f.names v) mid → Leaves L text (IsAfterNames utf8 made made.names) mid
 names_put {L} {text} {mid} utf8 f v e l = subst (λ (z : FieldNames). Leaves L text (IsAfterNames utf8 z z.names) mid) (sym e) l
 
--- behind a name that was put last
+-- after a name that was put last
 pub made_left : {made : FieldNames} (utf8 : Bool) (f : FieldNames) (v text : List ℕ) (step : Step) (rest : List ℕ) → made ≡ with_name f v → Goes utf8 (IsAfterNames utf8 made made.names) text step rest → Goes utf8 (IsAfterNames utf8 f (f.names ++ v ∷ [])) text step rest
 made_left {made} utf8 f v text step rest e goes = subst (λ (z : FieldNames). Goes utf8 (IsAfterNames utf8 z z.names) text step rest) e goes
 

@@ -1,4 +1,4 @@
--- At some octets one event at most is due, and what is due first stays so with more octets behind them.
+-- At some octets one event at most is due, and what is due first stays so with more octets after them.
 use Rattle.std.proofs.Common.{◌≡◌, ℕ, ◌+◌, ◌<◌, ◌≤◌, Bool, List, [], ◌++◌, length, take, Option, None, Some, inl, inr, refl, sym, ap, ◌∙◌, subst, append-nil, length-append, arith}
 use Rattle.std.proofs.lemmas.Bool.{cases_order}
 use Rattle.std.proofs.lemmas.List.{take-append-le, take-take}
@@ -21,7 +21,7 @@ module _ (utf8 : Bool) (octets : List ℕ) where
   one_command : (c d : Tagged) → IsCommand utf8 octets c → IsCommand utf8 octets d → c ≡ d
   one_command c d is other = ((command_single utf8).one octets octets [] [] c d is other refl (λ h. h) (λ h. h)).1
 
-  -- no command goes on behind one
+  -- no command goes on after one
   no_longer : (more : List ℕ) (c d : Tagged) → 0 < length more → IsCommand utf8 octets c → IsCommand utf8 (octets ++ more) d → ⊥
   no_longer more c d some is other =
       let same = ((command_single utf8).one octets (octets ++ more) more [] c d is other (sym (append-nil (octets ++ more))) (nothing_goes c more) (λ h. h)).0 in

@@ -1,4 +1,4 @@
--- A part that may be missing, with the space that stands before it or behind it.
+-- A part that may be missing, with the space that stands before it or after it.
 use Rattle.std.proofs.Common.{◌≡◌, ℕ, Bool, true, List, [], ◌∷◌, ◌++◌, length, Option, None, Some, inl, inr, refl, sym, ap, ◌∙◌, subst, append_assoc, append-nil}
 use Rattle.std.proofs.lemmas.Bool.{eq-eqb}
 use Rattle.imap_words.specs.Languages.{Then, After, Or, Is, Maybe, IsViable}

@@ -90,7 +90,7 @@ or_then {V} {W} A B C = (λ octets w is. to octets w is is.first, from)
     from octets w (inl is) = record { value = is.value; front = is.front; back = is.back; whole = is.whole; first = inl is.first; second = is.second }
     from octets w (inr is) = record { value = is.value; front = is.front; back = is.back; whole = is.whole; first = inr is.first; second = is.second }
 
--- a list behind its first items, and what follows it
+-- a list after its first items, and what follows it
 module _ {V W E X : Type 0} (Separator : List ℕ → W → Type 0) (P : List ℕ → V → Type 0) (End : List ℕ → E → Type 0) (R : List V → List ℕ → X → Type 0) (begun : List V) where
   abbrev pub Steps : List ℕ → X → Type 0
   Steps = Or (After End (R begun)) (After Separator (Then P (λ v. Then (IsMoreThan Separator P End (begun ++ v ∷ [])) R)))

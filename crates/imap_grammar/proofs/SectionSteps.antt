@@ -258,7 +258,7 @@ module _ (utf8 : Bool) (f : Fetching) (peek : Bool) where
   abbrev pub Named : List ℕ → SectionName → Type 0
   Named = Or (Is all_of) (IsSectionSpec utf8)
 
-  -- behind numbers
+  -- after numbers
   after_numbers : (numbers : List ℕ)
       → Same (Then (Or (Is (at_part numbers part.Whole)) (After (IsOctet 46) (Then (IsSectionText utf8) (λ p. Is (at_part numbers p))))) NameEnd) (IsAfterNumbers utf8 f peek numbers)
   after_numbers numbers =
@@ -287,7 +287,7 @@ module _ (utf8 : Bool) (f : Fetching) (peek : Bool) where
       (same_on (Then (IsSectionSpec utf8) NameEnd) (Or (Then (Then (IsSectionMsgtext utf8) (λ p. Is (at_part [] p))) NameEnd) (Then Numbered NameEnd)) (Or (IsText false utf8 f peek []) (AreNumbers utf8 f peek []))
       (or_then (Then (IsSectionMsgtext utf8) (λ p. Is (at_part [] p))) Numbered NameEnd) (or_same _ _ _ _ text_same numbered_same)))
 
-  -- a name, and the bracket behind it
+  -- a name, and the bracket after it
   closed_same : Same (Then (Then Named (λ s. After (IsOctet 93) (Is s))) AfterClose) (Then Named NameEnd)
   closed_same =
       same_on _ _ _ (then_apart Named (λ s. After (IsOctet 93) (Is s)) AfterClose)

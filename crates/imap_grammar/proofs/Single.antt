@@ -1,4 +1,4 @@
--- Of a text one front at most is a word, with one value, where no octet follows that may go on behind it: so it is of languages that
+-- Of a text one front at most is a word, with one value, where no octet follows that may go on after it: so it is of languages that
 -- are made of such ones.
 use Rattle.std.proofs.Common.{◌≡◌, ℕ, ◌==◌, Bool, true, not, List, [], ◌∷◌, ◌++◌, inl, inr, refl, sym, ap, ◌∙◌, subst, append_assoc}
 use Rattle.std.proofs.lemmas.Bool.{cases_Bool, eqb-true, not_from_false}
@@ -19,7 +19,7 @@ pub record Single {V : Type 0} (q : V → ℕ → Bool) (P : List ℕ → V → 
 
 -- ---- what may go on
 
--- no octet goes on behind such a word
+-- no octet goes on after such a word
 pub nothing_goes : {V : Type 0} (v : V) (x : List ℕ) → BeginsIn (never v) x → ⊥
 nothing_goes v x h = never_avoids (Is v) [] x v (refl, refl) h
 
@@ -92,7 +92,7 @@ then_single {V} {W} {P} {Q} {p} {q} first hands second = record { one = one }
 pub ends_single : {V W : Type 0} {P : List ℕ → V → Type 0} {Q : V → List ℕ → W → Type 0} {p : V → ℕ → Bool} {q : W → ℕ → Bool} → Single p P → ((u : V) → Avoids (p u) (Q u)) → ((u : V) → Single q (Q u)) → Single q (Then P Q)
 ends_single {V} {W} {P} {Q} {p} {q} first avoids second = then_single first (λ u. hands_avoiding (p u) q (Q u) (avoids u)) second
 
--- nothing goes on behind the first
+-- nothing goes on after the first
 pub read_single : {V W : Type 0} {P : List ℕ → V → Type 0} {Q : V → List ℕ → W → Type 0} {q : W → ℕ → Bool} → Single never P → ((u : V) → Single q (Q u)) → Single q (Then P Q)
 read_single {V} {W} {P} {Q} {q} first second = ends_single first (λ u. never_avoids (Q u)) second
 
@@ -137,7 +137,7 @@ either_single {V} {P} {Q} {q} f first second opens avoids = or_single first seco
 pub either_turned : {V : Type 0} {P Q : List ℕ → V → Type 0} {q : V → ℕ → Bool} (f : ℕ → Bool) → Single q P → Single q Q → Avoids f P → Opens f Q → Single q (Or P Q)
 either_turned {V} {P} {Q} {q} f first second avoids opens = or_single first second (parted_turned q Q P (parted_from q f Q P opens avoids))
 
--- nothing, or a word that goes on behind nothing
+-- nothing, or a word that goes on after nothing
 pub nothing_single : {V : Type 0} {Q : List ℕ → V → Type 0} {q : V → ℕ → Bool} (v : V) → Single q Q → Opens (q v) Q → Single q (Or (Is v) Q)
 nothing_single {V} {Q} {q} v second opens = or_single (is_single v) second parted
   where
@@ -151,7 +151,7 @@ nothing_hands p q v Q over avoids a b w (inr is) begin = absurd (avoids a b w is
 
 -- ---- words that are told by their octets
 
--- Octets have one value, and an octet that is put behind a word of which a longer one has it may go on.
+-- Octets have one value, and an octet that is put after a word of which a longer one has it may go on.
 pub greedy_single : {V : Type 0} {P : List ℕ → V → Type 0} {p : V → ℕ → Bool} → ((a : List ℕ) (v w : V) → P a v → P a w → v ≡ w)
     → ((a : List ℕ) (z : ℕ) (c : List ℕ) (v w : V) → P a v → P (a ++ z ∷ c) w → p v z ≡ true) → Single p P
 greedy_single {V} {P} {p} once goes = record { one = λ a b x y v w is other e no_x no_y. by a b x y v w is other no_x no_y (compared a b x y e) }

@@ -91,7 +91,7 @@ module _ (utf8 : Bool) where
   after_single : (numbers : List ℕ) → Single (always inside) (AfterLiteral numbers)
   after_single numbers = nothing_single (named numbers part.Whole) (read_single (octet_single 46) (λ _. named_single numbers)) (then_opens inside (IsOctet 46) _ (octet_opens inside 46 refl))
 
-  -- more numbers and what is behind them don't begin with a digit, where none follows
+  -- more numbers and what is after them don't begin with a digit, where none follows
   no_digit : (a b x : List ℕ) (ns numbers : List ℕ) (v : SectionName) → Tail a ns → AfterLiteral numbers b v → (BeginsIn inside x → ⊥) → BeginsIn is_digit (a ++ (b ++ x)) → ⊥
   no_digit a b x [] numbers v is (inl last) none begin = none (digit_inside x (subst (λ z. BeginsIn is_digit (z ++ x)) last.0 (subst (λ z. BeginsIn is_digit (z ++ (b ++ x))) is.1.0 begin)))
     where
@@ -181,7 +181,7 @@ module _ (utf8 : Bool) where
 
 -- ---- items
 
--- what isn't behind an item
+-- what isn't after an item
 abbrev pub unended : ℕ → Bool
 unended x = not (x == 32) && not (x == 41) && not (x == 13)
 

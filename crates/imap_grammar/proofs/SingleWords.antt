@@ -45,7 +45,7 @@ word_single {V} table later t observed = greedy_single once goes
         = sym other.word ∙ (map-append upper a (z ∷ c) ∙ (ap (λ k. k ++ upper z ∷ map upper c) is.word ∙ sym (append_assoc is.entry.word (upper z ∷ []) (map upper c)))) in
         subst (λ k. later k z ≡ true) (sym is.says) (observed is.entry z is.known (other.entry, map upper c, other.known, longer))
 
--- what is behind a front passes too
+-- what is after a front passes too
 passes_after : (p : ℕ → Bool) (a : List ℕ) (z : ℕ) (c : List ℕ) → list_all p (a ++ z ∷ c) ≡ true → p z ≡ true
 passes_after p a z c all = (and_parts (p z) (list_all p c) (all_append p a (z ∷ c) all).1).0
 

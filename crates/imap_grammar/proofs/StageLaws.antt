@@ -1,4 +1,4 @@
--- Behind a literal's header: no command ends there, one can follow, and which stages are those of data.
+-- After a literal's header: no command ends there, one can follow, and which stages are those of data.
 use Rattle.std.proofs.Common.{◌≡◌, ℕ, ◌==◌, ◌||◌, Bool, true, false, not, List, [], ◌∷◌, ◌++◌, length, replicate, Contains, Option, inl, inr, refl, sym, ap, ◌∙◌, subst, append_assoc, append-nil, arith}
 use Rattle.std.proofs.lemmas.Bool.{and_parts, both_ways, cases_Bool, eqb-true}
 use Rattle.std.proofs.lemmas.List.{append_cancel_right, length-replicate}
@@ -148,7 +148,7 @@ body_reads size a literal rest is = record {
       inl (same, counted.1 ∙ same);
 }
 
--- ---- behind octets of which this is left
+-- ---- after octets of which this is left
 
 -- No word is a front of octets at which it fails.
 pub no_word_before : {V : Type 0} (P : List ℕ → V → Type 0) (octets : List ℕ) (left : ℕ) → FailsAt P never octets left → (a b : List ℕ) (v : V) → P a v → a ++ b ≡ octets → ⊥
@@ -185,7 +185,7 @@ module _ (utf8 : Bool) (tag : List ℕ) (size : ℕ) (a : Awaited) where
         no_word_before (IsCommand utf8) (front ++ (literal ++ x ∷ rest)) _
         ((leaves_later (IsCommand utf8) Left front (literal ++ x ∷ rest) l).stops never (Bad (length (x ∷ rest))) (left_fails literal (x ∷ rest) _ body (fails_first (IsAfterLiteral utf8 a literal) never x rest (after_viable utf8 a literal) none)))
 
-    -- No command ends behind a header of which a literal is left, nor before it.
+    -- No command ends after a header of which a literal is left, nor before it.
     pub no_command_yet : IsSized size a → (u b : List ℕ) (c : Tagged) → IsCommand utf8 u c → u ++ b ≡ front → ⊥
     no_command_yet some u b c is e =
         no_command_with (xs size) 97 [] (body_xs size a some) (after_never utf8 a (xs size) 97 (λ e. omega (arith, e)) (λ e. omega (arith, e)) (λ e. omega (arith, e)))
@@ -490,7 +490,7 @@ module _ (utf8 : Bool) (tag : List ℕ) (size : ℕ) (a : Awaited) where
     whole_reads : (literal rest : List ℕ) (c : Command) → IsLiteralBody size a literal literal → Reads (IsAfterLiteral utf8 a literal) never rest c [] → Reads (IsCommand utf8) never (front ++ (literal ++ rest)) (tagged tag c) []
     whole_reads literal rest c body r = (leaves_later (IsCommand utf8) (left_of utf8 (AfterLiteral tag size a)) front (literal ++ rest) l).reads never (tagged tag c) [] (left_reads literal rest c body r)
 
--- Behind what awaits data stands an APPEND up to its data.
+-- After what awaits data stands an APPEND up to its data.
 pub at_data : (utf8 : Bool) (tag : List ℕ) (size : ℕ) (mailbox : List ℕ) (flags : ℕ) (date : Option (List ℕ)) (in_utf8 : Bool) (front : List ℕ)
     → Leaves (IsCommand utf8) front (left_of utf8 (AfterLiteral tag size (awaited.AppendData mailbox flags date in_utf8))) [] → (appends : Appends) × IsAppending utf8 front appends
 at_data utf8 tag size mailbox flags date in_utf8 front l =
@@ -542,7 +542,7 @@ named_no naming.Select v = refl
 named_no naming.Examine v = refl
 named_no naming.Create v = refl
 
--- behind the parenthesis that ends names of fields comes a bracket
+-- after the parenthesis that ends names of fields comes a bracket
 names_fail : (utf8 : Bool) (so_far : FieldNames) (names : List (List ℕ)) → FailsAt (IsAfterNames utf8 so_far names) never (41 ∷ 13 ∷ 10 ∷ []) 2
 names_fail utf8 so_far names =
     then_stops (IsMoreThan IsSpace (IsHeaderName utf8) IsCloseParenthesis names) _ never never (41 ∷ 13 ∷ 10 ∷ []) (13 ∷ 10 ∷ []) names (Bad 2)

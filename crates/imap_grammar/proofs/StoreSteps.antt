@@ -1,4 +1,4 @@
--- The steps of reading STORE and what stands behind UID.
+-- The steps of reading STORE and what stands after UID.
 use Rattle.std.proofs.Common.{ℕ, Bool, List, [], ◌∷◌, Option, inl, refl}
 use Rattle.imap_words.specs.Languages.{Then, After, Is, IsOctet, IsViable}
 use Rattle.imap_words.specs.Going.{Continues}

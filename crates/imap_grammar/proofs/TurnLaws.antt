@@ -1,4 +1,4 @@
--- What comes of a whole line: from what is left behind its literal to the whole command.
+-- What comes of a whole line: from what is left after its literal to the whole command.
 use Rattle.std.proofs.Common.{◌≡◌, ℕ, Bool, true, false, List, [], ◌∷◌, ◌++◌, length, Some, inl, inr, refl, sym, ap, ◌∙◌, subst, append_assoc, append-nil}
 use Rattle.std.proofs.lemmas.Bool.{and_parts, both_ways}
 use Rattle.std.specs.List.{list_all}
@@ -93,7 +93,7 @@ command_of t = t.command
 pub tagged_leaves : (tag : List ℕ) (P Q : List ℕ → Command → Type 0) (text rest : List ℕ) → Leaves P text Q rest → Leaves (Then P (λ c. Is (tagged tag c))) text (Then Q (λ c. Is (tagged tag c))) rest
 tagged_leaves tag P Q text rest l = mapped_leaves (tagged tag) (λ (t : Tagged). t.command) (λ v. refl) P Q text rest l
 
--- What comes of the part behind the name, or behind a literal, comes of the command.
+-- What comes of the part after the name, or after a literal, comes of the command.
 pub tagged_comes : (utf8 : Bool) (tag : List ℕ) (P : List ℕ → Tagged → Type 0) (L : List ℕ → Command → Type 0) (text mid : List ℕ) (next : Next) (rest : List ℕ)
     → Leaves P text (Then L (λ c. Is (tagged tag c))) mid → Comes utf8 L mid next rest → TaggedComes utf8 tag P text next rest
 tagged_comes utf8 tag P L text mid (Whole c) rest l r = (here l).reads never (tagged tag c) rest (mapped_reads L (tagged tag) never never mid rest c (λ v b h. h) r)

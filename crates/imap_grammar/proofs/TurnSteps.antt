@@ -86,7 +86,7 @@ first_stops utf8 front literal line tag stop r reached sized stops has is =
     let whole : front ++ (literal ++ line) ≡ line = ap (λ z. z ++ (literal ++ line)) reached ∙ ap (λ z. z ++ line) (no_octets literal sized) in
     subst (λ z. IfOk r (TurnTells utf8 z)) (sym whole) (stops_tell utf8 line tag has r stop stops is)
 
--- ---- behind a literal
+-- ---- after a literal
 
 -- where a literal is awaited then, no data were
 no_data_then : (utf8 : Bool) (tag : List ℕ) (size : ℕ) (a : Awaited) (front literal line : List ℕ) (next : Next) (rest : List ℕ) → IsWholeLine line → IsAtData utf8 a front

@@ -1,4 +1,4 @@
--- The steps of reading what stands behind UID.
+-- The steps of reading what stands after UID.
 use Rattle.std.proofs.Common.{◌≡◌, ℕ, Bool, true, List, [], refl, sym, subst, Bor}
 use Rattle.std.specs.Prelude.{Result, MatchResult}
 use Rattle.imap_words.specs.Languages.{Then, IsViable}

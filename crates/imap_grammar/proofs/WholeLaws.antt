@@ -78,7 +78,7 @@ module _ (utf8 : Bool) (front literal line : List ℕ) where
       by (AtFront s r) = absurd (none a (subst (λ z. IsAppending utf8 z a) s appending))
       by (AtLine others cut f found) = line_rest line others back cut is (sym (drop_at literal line (size_of stage) sized) ∙ f) found
 
--- a literal is awaited behind the whole line
+-- a literal is awaited after the whole line
 pub awaits_tells : (utf8 : Bool) (octets tag : List ℕ) (size : ℕ) (a : Awaited) → Leaves (IsCommand utf8) octets (left_of utf8 (AfterLiteral tag size a)) [] → IsSized size a → Announces octets size → BeginsWithTag octets tag → HasNoDataBefore utf8 octets
     → TurnTells utf8 octets (turn.Awaits tag size a)
 awaits_tells utf8 octets tag size a l some announces begins alone = (l, (announces, some, begins, not_data utf8 tag size a octets l announces some), alone)
@@ -119,7 +119,7 @@ whole_tells utf8 octets tag c rest r none = (subst (λ z. IsCommand utf8 z (tagg
 pub bad_tells : (utf8 : Bool) (octets : List ℕ) (tag : Option (List ℕ)) (left : ℕ) → FailsAt (IsCommand utf8) never octets left → HasTag octets tag → TurnTells utf8 octets (turn.Bad tag left)
 bad_tells utf8 octets tag left f has = (omega (arith, ap length f.whole, length-append f.front (f.octet ∷ f.back), f.left_is), first_bad (IsCommand utf8) octets left f, has)
 
--- ---- behind a literal
+-- ---- after a literal
 
 module _ (utf8 : Bool) (tag : List ℕ) (size : ℕ) (a : Awaited) (front literal line : List ℕ) (l : Leaves (IsCommand utf8) front (left_of utf8 (AfterLiteral tag size a)) []) where
   pub literal_leaves : IsLiteralBody size a literal literal → Leaves (IsCommand utf8) (front ++ (literal ++ line)) (Then (IsAfterLiteral utf8 a literal) (λ c. Is (tagged tag c))) line
@@ -134,7 +134,7 @@ module _ (utf8 : Bool) (tag : List ℕ) (size : ℕ) (a : Awaited) (front litera
       (leaves_later (IsCommand utf8) (left_of utf8 (AfterLiteral tag size a)) front (literal ++ line) l).stops never stop
       (first_stops (IsRestAtLiteral utf8 size a) (λ c. Is (tagged tag c)) never never (literal ++ line) stop s (λ u. never_avoids _) (λ u. is_viable _))
 
--- behind data no literal is awaited
+-- after data no literal is awaited
 pub no_literal_then : (utf8 : Bool) (mailbox : List ℕ) (flags : ℕ) (date : Option (List ℕ)) (in_utf8 : Bool) (octets line : List ℕ) (size : ℕ) (a : Awaited) (rest : List ℕ)
     → IsAfterHeader line size rest → IsSized size a → Leaves (IsAfterData mailbox flags date in_utf8 octets) line (IsRestAtLiteral utf8 size a) rest → rest ≡ [] → ⊥
 no_literal_then utf8 mailbox flags date in_utf8 octets line size a rest h some l none =
@@ -296,7 +296,7 @@ module _ (utf8 : Bool) (reader : Reader) (seen : List ℕ) (s : IsAtLine utf8 re
             omega (arith, sizes, large.3, small_is size a tag given small)
         not_large (NoData lacks none) other large = none large.0 large.1
 
-    -- the reader stands behind the header
+    -- the reader stands after the header
     pub stands_go : too_large size a ≡ false → (after : Reader) → after.stage ≡ AfterLiteral tag size a → after.literal ≡ [] → after.line ≡ [] → after.seen ≡ length seen → after.counted ≡ reader.counted → HasSeen utf8 after seen
     stands_go small after stage literal line place counted = record {
       front = seen;

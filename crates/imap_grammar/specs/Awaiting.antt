@@ -1,4 +1,4 @@
--- What is left of a command behind a literal (RFC 3501, 9).
+-- What is left of a command after a literal (RFC 3501, 9).
 use Rattle.std.specs.Prelude.{◌≡◌, ℕ, ◌<◌, Bool, true, false, List, [], ◌∷◌, ◌++◌, Option, ⊤}
 use Rattle.mail_wire.specs.Characters.{right_bracket}
 use Rattle.imap_words.specs.Languages.{Then, After, Is, IsOctet, IsCounted, IsMoreThan, Maybe}

@@ -79,11 +79,11 @@ IsDataFront =
 abbrev pub at_octet : ℕ → ℕ → Bool
 at_octet x y = y == x
 
--- flags and the space behind them, or neither; a bit for each flag
+-- flags and the space after them, or neither; a bit for each flag
 abbrev pub IsFlagBits : List ℕ → ℕ → Type 0
 IsFlagBits = Or (Is 0) (Then (HasFlags IsFlagList) (λ flags. After IsSpace (Is flags)))
 
--- a date and the space behind it, or neither
+-- a date and the space after it, or neither
 abbrev pub IsDateAndSpace : List ℕ → Option (List ℕ) → Type 0
 IsDateAndSpace = Or (Is None) (Then IsDateTime (λ date. After IsSpace (Is (Some date))))
 
@@ -139,7 +139,7 @@ uid_names =
     record { word = codes "FETCH"; says = uid.Fetch } ∷ record { word = codes "STORE"; says = uid.Store } ∷ record { word = codes "COPY"; says = uid.NotHere }
     ∷ record { word = codes "SEARCH"; says = uid.NotHere } ∷ []
 
--- What follows the word behind UID: a FETCH or a STORE by unique identifiers, or a command that isn't here (RFC 3501, 6.4.8).
+-- What follows the word after UID: a FETCH or a STORE by unique identifiers, or a command that isn't here (RFC 3501, 6.4.8).
 abbrev pub IsAfterUid : Bool → UidName → List ℕ → Command → Type 0
 IsAfterUid utf8 uid.Fetch = IsFetch utf8 true
 IsAfterUid utf8 uid.Store = IsStore true

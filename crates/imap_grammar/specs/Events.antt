@@ -34,7 +34,7 @@ pub record IsLiteralLine (l : LiteralLine) : Type 0 where
   pub whole : l.line ≡ front ++ header
   pub is_header : IsHeader header (length l.literal)
 
--- A line and the literal behind it.
+-- A line and the literal after it.
 abbrev pub literal_line : LiteralLine → List ℕ
 literal_line l = l.line ++ l.literal
 
@@ -135,7 +135,7 @@ IsDue utf8 octets TooLong = IsShort utf8 octets → ⊥
 abbrev pub NothingBefore : Bool → (seen piece : List ℕ) → ℕ → Type 0
 NothingBefore utf8 seen piece used = (n : ℕ) → 0 < n → n < used → (event : Event) → IsDue utf8 (seen ++ take n piece) event → ⊥
 
--- Behind the octets that were seen, so many of the piece are used up to the first event; where there is none, all.
+-- After the octets that were seen, so many of the piece are used up to the first event; where there is none, all.
 abbrev pub Tells : Bool → (seen piece : List ℕ) → ℕ → Event → Type 0
 Tells utf8 seen piece used More = (used ≡ length piece) × NothingBefore utf8 seen piece (length piece + 1)
 Tells utf8 seen piece used event = (0 < used) × (used ≤ length piece) × NothingBefore utf8 seen piece used × IsDue utf8 (seen ++ take used piece) event

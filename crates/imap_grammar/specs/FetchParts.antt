@@ -63,13 +63,13 @@ abbrev pub is_read : Step → Bool
 is_read (Read f) = true
 is_read (Awaits size so_far) = false
 
--- Behind an item that was read a line ends, where one does in the text.
+-- After an item that was read a line ends, where one does in the text.
 abbrev pub PassesNoEnd : List ℕ → Step → List ℕ → Type 0
 PassesNoEnd text step rest = is_read step ≡ true → first_line rest ≡ None → first_line text ≡ None
 
 -- ---- sections
 
--- what may go on behind what says which octets
+-- what may go on after what says which octets
 abbrev pub after_partial : Option (ℕ × ℕ) → ℕ → Bool
 after_partial None x = x == less_than
 after_partial (Some p) x = false
@@ -87,7 +87,7 @@ AreNames utf8 f peek path negated = After IsSpace (Then (IsHeaderList utf8) (λ 
 abbrev pub IsAfterText : Bool → Fetching → Bool → List ℕ → SectionWord → List ℕ → Command → Type 0
 IsAfterText utf8 f peek path w = Then (IsAfterWord utf8 w) (IsSectionEnd utf8 f peek path)
 
--- a word of a section, behind numbers or not
+-- a word of a section, after numbers or not
 abbrev pub IsText : Bool → Bool → Fetching → Bool → List ℕ → List ℕ → Command → Type 0
 IsText after_numbers utf8 f peek path = Then (IsWordOf (text_words after_numbers)) (IsAfterText utf8 f peek path)
 
@@ -116,7 +116,7 @@ IsAfterAny utf8 word.Fast = Is (macro_items word.Fast)
 IsAfterAny utf8 word.Full = Is (macro_items word.Full)
 IsAfterAny utf8 w = Then (IsAfterItem utf8 w) (λ i. Is (i ∷ []))
 
--- What is left of a FETCH behind the word of an item or of a macro.
+-- What is left of a FETCH after the word of an item or of a macro.
 abbrev pub IsRestOf : Bool → Fetching → ItemWord → List ℕ → Command → Type 0
 IsRestOf utf8 f w = Then (IsAfterAny utf8 w) (IsAfterThese utf8 f)
 

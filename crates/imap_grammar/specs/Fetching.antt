@@ -26,7 +26,7 @@ msgtext_words =
     record { word = codes "HEADER"; says = section.Header } ∷ record { word = codes "HEADER.FIELDS"; says = section.Fields }
     ∷ record { word = codes "HEADER.FIELDS.NOT"; says = section.FieldsNot } ∷ record { word = codes "TEXT"; says = section.Text } ∷ []
 
--- section-text = section-msgtext / "MIME", behind numbers alone
+-- section-text = section-msgtext / "MIME", after numbers alone
 abbrev pub text_words : Bool → List (Named SectionWord)
 text_words false = msgtext_words
 text_words true = msgtext_words ++ record { word = codes "MIME"; says = section.Mime } ∷ []
@@ -133,15 +133,15 @@ IsFetchItems utf8 =
     (Or (Then (IsFetchAtt utf8) (λ i. Is (i ∷ [])))
     (After IsOpenParenthesis (IsList IsSpace (IsFetchAtt utf8) IsCloseParenthesis)))
 
--- ---- what may go on behind a word, as a longer one begins with it
+-- ---- what may go on after a word, as a longer one begins with it
 
--- The octet goes on to a longer item word: a dot behind RFC822 and BODY, and an S behind BODY (RFC 3501, 6.4.5).
+-- The octet goes on to a longer item word: a dot after RFC822 and BODY, and an S after BODY (RFC 3501, 6.4.5).
 abbrev pub after_item_word : ItemWord → ℕ → Bool
 after_item_word word.Rfc822 x = x == dot
 after_item_word word.Body x = x == dot || x == 83 || x == 115
 after_item_word w x = false
 
--- The octet goes on to a longer section word: a dot behind HEADER and HEADER.FIELDS (RFC 3501, 6.4.5).
+-- The octet goes on to a longer section word: a dot after HEADER and HEADER.FIELDS (RFC 3501, 6.4.5).
 abbrev pub after_section_word : SectionWord → ℕ → Bool
 after_section_word section.Header x = x == dot
 after_section_word section.Fields x = x == dot

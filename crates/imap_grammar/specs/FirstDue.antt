@@ -9,7 +9,7 @@ pub record Due : Type 0 where
   pub used : ℕ
   pub event : Event
 
--- Of these octets behind those that were seen this is due first; or nothing is, whatever front of them came.
+-- Of these octets after those that were seen this is due first; or nothing is, whatever front of them came.
 abbrev pub IsFirstDue : Bool → (seen octets : List ℕ) → Option Due → Type 0
 IsFirstDue utf8 seen octets None = NothingBefore utf8 seen octets (length octets + 1)
 IsFirstDue utf8 seen octets (Some due) = Tells utf8 seen octets due.used due.event × (due.event ≡ More → ⊥)

@@ -41,7 +41,7 @@ IsFlagsToEnd = Or (Then IsFlagList (λ flags. After IsCrlf (Is flags))) (IsList 
 
 -- ---- words of the readers' own contracts
 
--- flag *(SP flag), and an octet behind them
+-- flag *(SP flag), and an octet after them
 abbrev pub AreFlags : ℕ → List ℕ → List (List ℕ) → Type 0
 AreFlags close = IsList IsSpace IsFlag (IsOctet close)
 
@@ -61,6 +61,6 @@ pub record IsBits (flags : List (List ℕ)) (bits : Bits) : Type 0 where
   pub is_deleted : bits.deleted ≡ list_any (same_name (codes "\\Deleted")) flags
   pub is_draft : bits.draft ≡ list_any (same_name (codes "\\Draft")) flags
 
--- what may go on behind the word: `.SILENT`
+-- what may go on after the word: `.SILENT`
 abbrev pub after_storing : StoreOp × Bool → ℕ → Bool
 after_storing storing x = x == dot

@@ -32,7 +32,7 @@ abbrev pub left_of : Bool → Stage → List ℕ → Tagged → Type 0
 left_of utf8 Begin = IsCommand utf8
 left_of utf8 (AfterLiteral tag size a) = Then (IsRestAtLiteral utf8 size a) (λ c. Is (record { tag = tag; command = c }))
 
--- Data are awaited behind an APPEND up to its data, and nowhere else.
+-- Data are awaited after an APPEND up to its data, and nowhere else.
 abbrev pub IsAtData : Bool → Awaited → List ℕ → Type 0
 IsAtData utf8 (awaited.AppendData mailbox flags date in_utf8) front = (appends : Appends) × IsAppending utf8 front appends
 IsAtData utf8 a front = (appends : Appends) → IsAppending utf8 front appends → ⊥
@@ -110,7 +110,7 @@ TurnTells utf8 octets (turn.Whole tag c) = IsCommand utf8 octets (record { tag =
 TurnTells utf8 octets (turn.Awaits tag size a) = Leaves (IsCommand utf8) octets (left_of utf8 (AfterLiteral tag size a)) [] × Reached utf8 (AfterLiteral tag size a) octets × HasNoDataBefore utf8 octets
 TurnTells utf8 octets (turn.Bad tag left) = (left ≤ length octets) × IsFirstBad (IsCommand utf8) octets (length octets - left) × HasTag octets tag
 
--- What a line brings behind this tag: a whole command, or a wait for a literal.
+-- What a line brings after this tag: a whole command, or a wait for a literal.
 abbrev pub went_on : List ℕ → Next → Turn
 went_on tag (next.Whole c) = turn.Whole tag c
 went_on tag (next.Awaits size a) = turn.Awaits tag size a
@@ -188,7 +188,7 @@ pub record IsAtLine (utf8 : Bool) (reader : Reader) (seen : List ℕ) : Type 0 w
   pub counts : reader.counted ≡ counted_at reader.stage front reader.literal reader.line
   pub few : reader.counted ≤ LINE_MAX
 
--- which octets of a command were seen behind what is due at these
+-- which octets of a command were seen after what is due at these
 abbrev pub left_after : List ℕ → Event → List ℕ
 left_after seen event.Go = seen
 left_after seen e = []

@@ -1,4 +1,4 @@
-//! Readers of commands, behind their names. Each reads to the command's end, or up to the octets of a literal.
+//! Readers of commands, after their names. Each reads to the command's end, or up to the octets of a literal.
 #![tactic(auto, using(crate::proofs::LineEnds::command_steps))]
 
 ghost use Rattle.std.specs.Prelude.{◌≡◌, ◌≤◌, ℕ, Bool, true, false, List, length, take, drop, Some, None, Err, IfSome, MatchOption, MatchResult};

@@ -33,7 +33,7 @@ enum Step {
 
 // ---- words
 
-// The words of items, and behind them those of macros.
+// The words of items, and after them those of macros.
 const ITEM_WORDS: [TableWord<ItemWord>; 14] = [
     TableWord(b"ENVELOPE", ItemWord::Envelope),
     TableWord(b"FLAGS", ItemWord::Flags),
@@ -67,7 +67,7 @@ fn listed_word(text: &[u8]) -> Result<(ItemWord, &[u8]), Stop>
     read_word(&ITEM_WORDS[..ITEMS], text)
 }
 
-// The words of sections; the last one stands behind numbers alone.
+// The words of sections; the last one stands after numbers alone.
 const SECTION_WORDS: [TableWord<SectionWord>; 5] = [
     TableWord(b"HEADER", SectionWord::Header),
     TableWord(b"HEADER.FIELDS", SectionWord::Fields),

@@ -74,7 +74,7 @@ fn flag(text: &[u8]) -> Result<(&[u8], &[u8]), Stop>
     Ok(text.split_at(text.len() - following.len()))
 }
 
-// Reads flags with a space between any two, and this octet behind them.
+// Reads flags with a space between any two, and this octet after them.
 fn flags_until(close: u8, text: &[u8]) -> Result<(u8, &[u8]), Stop>
     requires { EndsFlags close }
     ensures { MatchResult result (λ x. Reads (HasFlags (AreFlags close)) never text.now x.0 x.1.now) (λ stop. StopsReading (HasFlags (AreFlags close)) never text.now stop) }

@@ -12,7 +12,7 @@ pub fn commands_are_read()
 {}
 
 /// At some octets one event at most is due. What is due first is one thing, or nothing is, and it stays due first with more octets
-/// behind these.
+/// after these.
 pub fn events_are_one()
     ensures event { (utf8 : Bool) (octets : List ℕ) (event other : Event) → IsDue utf8 octets event → IsDue utf8 octets other → event ≡ other }
     ensures first { (utf8 : Bool) (seen octets : List ℕ) (answer other : Option Due) → IsFirstDue utf8 seen octets answer → IsFirstDue utf8 seen octets other → answer ≡ other }

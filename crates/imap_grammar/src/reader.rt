@@ -24,7 +24,7 @@ use imap_words::{Kind, Stop, octet, passes, run};
 use mail_wire::{LINE_MAX, Memory, Octets, line_end};
 use std::alloc::Global;
 
-/// Where a reader stands: at the beginning of a command, or behind the header of a literal.
+/// Where a reader stands: at the beginning of a command, or after the header of a literal.
 #[derive(Drop)]
 pub enum Stage {
     Begin,
@@ -35,7 +35,7 @@ pub enum Stage {
     },
 }
 
-// What a piece has of the line that is awaited: all is used up, it ends behind so many octets, or so many are more than a
+// What a piece has of the line that is awaited: all is used up, it ends after so many octets, or so many are more than a
 // command may have.
 #[derive(Clone, Copy)]
 enum Found {
@@ -49,7 +49,7 @@ enum Found {
 pub struct Reader {
     alloc: Global,
     stage: Stage,
-    // the literal's octets so far, and those of the line behind it
+    // the literal's octets so far, and those of the line after it
     literal: Octets,
     line: Octets,
     // how many octets of the command came before these
@@ -335,7 +335,7 @@ fn stopped(tag: Option<Octets>, stop: Stop) -> Result<Turn, Memory>
     }
 }
 
-// Reads a line behind a literal, or from the first octet of a command.
+// Reads a line after a literal, or from the first octet of a command.
 fn line_turn(
     alloc: Global,
     utf8: bool,

@@ -45,7 +45,7 @@ pub fn command_name(text: &[u8]) -> Result<(Name, &[u8]), Stop>
     read_word(&COMMAND_NAMES, text)
 }
 
-// The names behind UID.
+// The names after UID.
 const UID_NAMES: [TableWord<UidName>; 4] = [
     TableWord(b"FETCH", UidName::Fetch),
     TableWord(b"STORE", UidName::Store),
@@ -53,7 +53,7 @@ const UID_NAMES: [TableWord<UidName>; 4] = [
     TableWord(b"SEARCH", UidName::NotHere),
 ];
 
-// Reads the name behind UID.
+// Reads the name after UID.
 pub fn uid_name(text: &[u8]) -> Result<(UidName, &[u8]), Stop>
     ensures { MatchResult result (λ x. Reads (IsWordOf uid_names) never text.now x.0 x.1.now) (λ stop. StopsReading (IsWordOf uid_names) never text.now stop) }
 {

@@ -23,7 +23,7 @@ pub enum Name {
     NotHere,
 }
 
-/// The name behind UID.
+/// The name after UID.
 #[derive(Clone, Copy, Debug, PartialEq, Eq)]
 pub enum UidName {
     Fetch,

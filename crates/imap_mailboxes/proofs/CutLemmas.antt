@@ -26,12 +26,12 @@ pub runs_push : (runs : List (List ℕ)) (run last : List ℕ) → after_wildcar
 runs_push [] run last = refl
 runs_push (first ∷ runs) run last = ap (λ p. 42 ∷ (first ++ p)) (runs_push runs run last)
 
--- what is left behind a wildcard begins with one
+-- what is left after a wildcard begins with one
 begins_wild : (runs : List (List ℕ)) (last : List ℕ) → (rest : List ℕ) × (after_wildcards runs last ≡ 42 ∷ rest)
 begins_wild [] last = (last, refl)
 begins_wild (run ∷ runs) last = (run ++ after_wildcards runs last, refl)
 
--- the next run of the octets and those behind it
+-- the next run of the octets and those after it
 next_run : (octets : List ℕ) (runs : List Span) (last : List ℕ) (i : ℕ) (d : Span) → i < length runs
     → after_wildcards (plain_runs octets (drop i runs)) last ≡ 42 ∷ (span_octets octets (get_or runs i d) ++ after_wildcards (plain_runs octets (drop (i + 1) runs)) last)
 next_run octets runs last i d l = ap (λ spans. after_wildcards (plain_runs octets spans) last) (drop_more runs i d l)
@@ -217,7 +217,7 @@ whole_ends octets name rest plain first runs last whole same e at =
     ∙ (ap (λ p. is_match p rest) (sym (cond-true (first == length octets) [] (after_wildcards (plain_runs octets runs) (drop last octets)) (eq-eqb first (length octets) at)))
     ∙ sym (whole_met octets name rest plain first runs last whole same e))
 
--- behind the first one
+-- after the first one
 pub whole_goes_on : (octets name rest : List ℕ) (plain first : ℕ) (runs : List Span) (last : ℕ) → IsCutWhole octets plain first runs last → bytes_eq (take (length (take first octets)) name) (take first octets) ≡ true
     → rest ≡ drop (length (take first octets)) name → (first ≡ length octets → ⊥) → is_match (after_wildcards (plain_runs octets runs) (drop last octets)) rest ≡ is_match octets name
 whole_goes_on octets name rest plain first runs last whole same e before =

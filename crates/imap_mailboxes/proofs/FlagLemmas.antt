@@ -61,7 +61,7 @@ stored-remove old named small =
     ∙ same_flags (has_flag (bit_and kept 31)) (λ flag. has_flag old flag && not (has_flag named flag)) (clear_bit old named 0 small (omega arith) refl) (clear_bit old named 1 small (omega arith) refl)
     (clear_bit old named 2 small (omega arith) refl) (clear_bit old named 3 small (omega arith) refl) (clear_bit old named 4 small (omega arith) refl)
 
--- ---- words behind one another
+-- ---- words after one another
 
 join-push : (word next : List ℕ) (words : List (List ℕ)) → join_with_byte 32 ((word ∷ words) ++ next ∷ []) ≡ join_with_byte 32 (word ∷ words) ++ 32 ∷ next
 join-push word next [] = refl

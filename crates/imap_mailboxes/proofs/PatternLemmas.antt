@@ -82,7 +82,7 @@ same_truth false false to from = refl
 pub match-nothing : (name : List ℕ) (b : Bool) → (b ≡ true → name ≡ []) → (name ≡ [] → b ≡ true) → b ≡ is_match [] name
 match-nothing name b to from = same_truth b (is_match [] name) (λ e. ap (is_match []) (to e) ∙ match-end) (λ e. from (only_end name e))
 
--- what patterns that mean the same mean behind the same octets
+-- what patterns that mean the same mean after the same octets
 pub match-following : (run p q name : List ℕ) → ((n : List ℕ) → is_match p n ≡ is_match q n) → is_match (run ++ p) name ≡ is_match (run ++ q) name
 match-following [] p q name same = same name
 match-following (x ∷ run) p q [] same = elim (cases_Bool (is_list_wildcard x)) [
@@ -132,7 +132,7 @@ run_first (x ∷ run) pattern (y ∷ name) plain e =
 pub match-no_run : (run pattern name : List ℕ) → list_all is_no_wildcard run ≡ true → ((rest : List ℕ) → name ≡ run ++ rest → ⊥) → is_match (run ++ pattern) name ≡ false
 match-no_run run pattern name plain other = false_from_ne_true (is_match (run ++ pattern) name) (λ e. let r = run_first run pattern name plain e in other r.rest r.is)
 
--- ---- a run behind a wildcard
+-- ---- a run after a wildcard
 
 record HasRun (run pattern name : List ℕ) : Type 0 where
   at : ℕ

@@ -31,7 +31,7 @@ flags_text flags = codes "FLAGS " ++ in_parentheses (flag_words flags)
 abbrev pub flags_by : (ℕ → Bool) → ℕ
 flags_by has = sum_by (λ flag. if has flag then flag else 0) (1 ∷ 2 ∷ 4 ∷ 8 ∷ 16 ∷ [])
 
--- the flags of a message behind STORE, which named some
+-- the flags of a message after STORE, which named some
 unfoldable pub stored_flags : StoreOp → (old named : ℕ) → ℕ
 stored_flags Replace old named = flags_by (has_flag named)
 stored_flags Add old named = flags_by (λ flag. has_flag old flag || has_flag named flag)

@@ -2,7 +2,7 @@
 use Rattle.std.specs.Prelude.{ℕ, Bool, true, false, ◌&&◌, ◌||◌, ◌==◌, List, [], ◌∷◌, if◌then◌else◌}
 use Rattle.imap_words.specs.Tokens.{is_list_wildcard}
 
--- The test holds of these octets, or of what is left of them behind some first ones.
+-- The test holds of these octets, or of what is left of them after some first ones.
 abbrev pub some_tail : (List ℕ → Bool) → List ℕ → Bool
 some_tail p [] = p []
 some_tail p (x ∷ xs) = p (x ∷ xs) || some_tail p xs

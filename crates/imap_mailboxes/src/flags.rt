@@ -25,7 +25,7 @@ pub fn has_flag(flags: u8, flag: u8) -> bool
     flags / flag % 2 == 1
 }
 
-// Puts the word last where the flag is set, behind a space where a word was put before it. It tells whether none was yet.
+// Puts the word last where the flag is set, after a space where a word was put before it. It tells whether none was yet.
 fn push_flag(text: &mut Octets, is_first: bool, is_set: bool, word: &[u8]) -> Result<bool, Memory>
     ensures { (front : List ℕ) (words : List (List ℕ)) → EndsWithWords front words text.old is_first
         → IfOk result (λ first. EndsWithWords front (words ++ (if is_set then word.now ∷ [] else [])) text.new first) }

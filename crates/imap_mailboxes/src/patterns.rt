@@ -16,7 +16,7 @@ pub struct Pattern {
     octets: Octets,
     // how many of them are no wildcards
     plain: usize,
-    // where the first wildcard stands, or behind all octets
+    // where the first wildcard stands, or after all octets
     first: usize,
     // the runs between two wildcards that have an octet at least
     runs: Vec<Span>,

@@ -204,7 +204,7 @@ pub request_state : (oracles : Oracles) (tag : List ℕ) (state : State) (opened
     → state ≡ (request_step oracles tag state opened mode account store request date).state
 request_state oracles tag state opened mode account store request date = named_state oracles tag state opened mode store request.flags date request.in_utf8 request.octets.now _
 
--- ---- the store behind it
+-- ---- the store after it
 
 counts_after : (kept : Kept) (flags : ℕ) (date octets : List ℕ) (advance : Put)
     → (length (after_all kept (records_of (put_changes flags date octets advance))).accounts ≡ length kept.accounts) × (length (after_all kept (records_of (put_changes flags date octets advance))).folders ≡ length kept.folders)

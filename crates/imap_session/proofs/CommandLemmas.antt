@@ -266,7 +266,7 @@ more-known a b (imap.EnabledAuthenticated session) has known = rw has.accounts k
 more-known a b (imap.Selected session) has known = more-folder a b session.state.account session.state.folder session.state.messages.items has known
 more-known a b (imap.EnabledSelected session) has known = more-folder a b session.state.account session.state.folder session.state.messages.items has known
 
--- what is kept behind a step
+-- what is kept after a step
 kept_following : Kept → Step → Kept
 kept_following kept step = after_all kept (records_of (changes_in step.acts))
 

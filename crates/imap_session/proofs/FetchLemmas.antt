@@ -89,7 +89,7 @@ after_more others f xs x =
     ∙ (reply-append (parts_following others (map f xs)) (space_parts (stands_after others xs) ++ f x)
     ∙ ap (λ (l : List (Act ReplyPart)). reply (parts_following others (map f xs)) ++ l) (reply-append (space_parts (stands_after others xs)) (f x)))
 
--- one item more, behind a space or not
+-- one item more, after a space or not
 pub Carries-item : (oracles : Oracles) (a b c : Around) (met : Option Fault) (owed had spaced owes : List ℕ) (others is_separated : Bool) (f : FetchItem → List ReplyPart) (items : List FetchItem) (at : ℕ) (x : FetchItem)
     → at < length items → x ≡ get_or items at x → Carries (part_octets oracles) a b None owed had (reply (parts_following others (map f (take at items))))
     → is_separated ≡ stands_after others (take at items) → spaced ≡ had ++ space_octets is_separated → Carries (part_octets oracles) b c met spaced owes (reply (f x))
@@ -143,7 +143,7 @@ unfolding last_parts
 end_given oracles false one = refl
 end_given oracles true one = refl
 
--- the flags behind all items, of which there is one at least
+-- the flags after all items, of which there is one at least
 flags_after : (f : FetchItem → List ReplyPart) (one : Listed) (others : Bool) (items : List FetchItem) → f item.Flags ≡ text (flags_text one.flags) ∷ [] → stands_after others items ≡ true
     → parts_following others (map f (items ++ item.Flags ∷ [])) ≡ parts_following others (map f items) ++ last_parts true one
 unfolding last_parts
@@ -198,7 +198,7 @@ all_told f one items first true uid flags seen =
 regrouped : {A : Type 0} (x : A) (a b c d : List A) → x ∷ (((a ++ b) ++ c) ++ d) ≡ (x ∷ []) ++ (a ++ (b ++ (c ++ d)))
 regrouped x a b c d = ap (λ l. x ∷ l) (ap (λ l. l ++ d) (append_assoc a b c) ∙ (append_assoc a (b ++ c) d ∙ ap (λ l. a ++ l) (append_assoc b c d)))
 
--- the parts behind all items
+-- the parts after all items
 pub tail_parts : (changed : Bool) → List FetchItem → Listed → List ReplyPart
 tail_parts changed items one = last_parts (tells_flags_last changed items) one ++ line (codes ")") ∷ []
 
@@ -224,7 +224,7 @@ reply_is oracles mode store number one by_uid changed items seen =
     ∙ ap (λ (l : List (Act ReplyPart)). reply (text (front_of number) ∷ []) ++ l) (reply-append (first_parts first one) (told ++ (last ++ line (codes ")") ∷ []))
     ∙ ap (λ (l : List (Act ReplyPart)). reply (first_parts first one) ++ l) (reply-append told (last ++ line (codes ")") ∷ []))))
 
--- items behind the beginning of a reply, and what follows them
+-- items after the beginning of a reply, and what follows them
 pub Carries-fronted : (oracles : Oracles) (mode : Mode) (store : StoreState) (number : ℕ) (one : Listed) (by_uid changed first : Bool) (items : List FetchItem) (a b : Around) (met : Option Fault)
     (owed fronted had owes : List ℕ) → (changed ≡ true → list_any sets_seen items ≡ true) → first ≡ tells_uid_first by_uid items → fronted ≡ owed ++ front_of number → had ≡ fronted ++ uid_first_octets first one
     → Carries (part_octets oracles) a b met had owes (reply (parts_following first (map (item_parts oracles mode store one) items)) ++ reply (tail_parts changed items one))

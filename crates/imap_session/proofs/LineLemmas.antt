@@ -23,7 +23,7 @@ closing-gone oracles messages place number d lines new text whole inside gone te
     let now = rw (drop_more messages place d inside, gone) at so_far in
     rw (new_is, text_is) (simp append_assoc (simp append_assoc at now))
 
--- any other leaves the next one its number behind its own
+-- any other leaves the next one its number after its own
 pub closing-left : (oracles : Oracles) (messages : List Listed) (place number : ℕ) (d : Listed) (lines new whole : List ℕ) → place < length messages → is_deleted (get_or messages place d) ≡ false → new ≡ lines
     → lines ++ reply_octets oracles (closing_up number (drop place messages)) ≡ whole
     → new ++ reply_octets oracles (closing_up (number + 1) (drop (place + 1) messages)) ≡ whole

@@ -160,7 +160,7 @@ Carries-change spelled a b None made makes = λ before first had.
 Carries-change spelled a b (Some met) made makes = λ before first had.
     DoesFirst-following spelled before a b met first (changes made ∷ []) (Owes-done spelled before a first had) (Does-unchanged spelled a b met (made ∷ []) [] makes)
 
--- one call behind another
+-- one call after another
 pub Carries-then : {P : Type 0} (spelled : P → List ℕ) (a b c : Around) (met : Option Fault) (owed mid owes : List ℕ) (xs ys : List (Act P)) → Carries spelled a b None owed mid xs → Carries spelled b c met mid owes ys
     → Carries spelled a c met owed owes (xs ++ ys)
 Carries-then spelled a b c None owed mid owes xs ys one two = λ before first had. rw (← append_assoc first xs ys) (two before (first ++ xs) (one before first had))
@@ -178,7 +178,7 @@ Carries-asking {P} spelled a b c met owed owes asked acts fetches rest =
     Carries-then spelled a b c met owed owed owes (map asks asked) acts
     (subst (λ (l : List (Act P)). Carries spelled a b None owed owed l) (append-nil (map asks asked)) (waits spelled a b owed asked fetches)) rest
 
--- nothing more was done behind these acts
+-- nothing more was done after these acts
 pub Carries-on : {P : Type 0} (spelled : P → List ℕ) (a b c : Around) (met : Option Fault) (owed mid owes : List ℕ) (acts : List (Act P)) → Carries spelled a b None owed mid acts → Carries spelled b c met mid owes []
     → Carries spelled a c met owed owes acts
 Carries-on {P} spelled a b c met owed mid owes acts one two =

@@ -153,7 +153,7 @@ pub none_before : (oracles : Oracles) (now tag : List ℕ) (store : StoreState) 
 unfolding step
 none_before oracles now tag store said = refl
 
--- ---- the store behind a stream
+-- ---- the store after a stream
 
 each_tracks : (oracles : Oracles) → EachTracks (next_turn oracles) (λ (machine : Machine). machine.store)
 each_tracks oracles machine octets turn is = let of = comes oracles machine octets turn is in rw of.turn_is refl

@@ -1,4 +1,4 @@
--- The list of a folder's messages behind APPEND: the message that was put there is its last one.
+-- The list of a folder's messages after APPEND: the message that was put there is its last one.
 use Rattle.std.proofs.Common.{◌≡◌, ℕ, ◌+◌, ◌<◌, ◌≤◌, ◌==◌, Bool, true, false, cond, List, [], ◌∷◌, ◌++◌, length, refl, sym, ap, ◌∙◌, append-nil, length-append, eq-eqb, ne_eqb, arith}
 use Rattle.std.specs.Prelude.{count_by}
 use Rattle.std.proofs.lemmas.List.Sums.{sum_by-cons, sum_by_push}
@@ -12,7 +12,7 @@ use Rattle.imap_session.specs.declared.appending.Put.{Put}
 use Rattle.imap_session.specs.declared.appending.Put.TheVariants as put
 use Rattle.imap_session.specs.private.Appending.{WereListed}
 
--- ---- a message more behind all
+-- ---- a message more after all
 
 front_joins : (here live : Bool) (one : Listed) (others more joined_others joined_more : List Listed) (uid n : ℕ) (last : ℕ → List Listed) → joined_others ≡ others ++ last (uid + 1 + n)
     → joined_more ≡ more ++ last (uid + n) → in_front here live one joined_others joined_more ≡ in_front here live one others more ++ last (uid + (cond here 1 0 + n))
@@ -81,7 +81,7 @@ next_put old folder flags date octets =
 
 -- ---- the list
 
--- the message that was put last in the folder, behind these
+-- the message that was put last in the folder, after these
 pub record HasNewest (kept : Kept) (folder flags : ℕ) (messages : List Listed) : Type 0 where
   pub id : ℕ
   pub uid : ℕ

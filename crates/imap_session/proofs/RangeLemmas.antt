@@ -263,7 +263,7 @@ stored_told oracles are mode store one asked msg entities span asks msg_is tree 
     (sym (message_found msg entities tree)) in
     octets_told oracles mode store one asked place.Whole (all_of msg) span asks.wanted (rw (asks.path, asks.wanted) found) span_is
 
--- it is given behind its header
+-- it is given after its header
 pub Carries-stored : (oracles : Oracles) → AreOracles oracles → (mode : Mode) (store : StoreState) (one : Listed) (asked : Asked) (msg : List ℕ) (span : Span) (a b c : Around) (met : Option Fault) (owed had : List ℕ)
     → AsksStored (is_enabled mode) asked → msg ≡ stored_octets store one.id → IsStored msg → span ≡ partial_span asked.partial (all_of msg) → had ≡ owed ++ head_octets (name_of asked) span.len
     → Carries (part_octets oracles) a b None had [] [] → Replies b c met (take span.len (drop span.at msg)) → Carries (part_octets oracles) a c met owed [] (reply (asked_parts oracles mode store one asked))

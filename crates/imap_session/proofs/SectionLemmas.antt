@@ -58,7 +58,7 @@ joined_word (n ∷ path) word =
     joined_push 46 (map decimal (n ∷ path)) word
     ∙ ap (λ (b : Bool). join_with_byte 46 (map decimal (n ∷ path)) ++ (separator_octets 46 (not b) ++ word)) (sym (ne_eqb (length (n ∷ path)) 0 (λ is. omega (arith, is))))
 
--- the words of the part behind the path
+-- the words of the part after the path
 joined_words : (path : List ℕ) (what : SectionPart)
     → join_with_byte 46 (map decimal path ++ part_words what) ≡ join_with_byte 46 (map decimal path) ++ (separator_octets 46 (not (names_all what) && not (length path == 0)) ++ join_with_byte 46 (part_words what))
 joined_words path part.Whole = ap (join_with_byte 46) (append-nil (map decimal path)) ∙ sym (append-nil (join_with_byte 46 (map decimal path)))

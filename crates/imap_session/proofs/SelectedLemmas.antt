@@ -85,7 +85,7 @@ unfolding chosen_places
 chosen_rise by_uid set messages =
     IsStrictlyIncreasing-from_sorted (chosen_from by_uid (last_of by_uid messages) set 0 messages) (chosen_sorted by_uid (last_of by_uid messages) set 0 messages)
 
--- ---- the line behind acts
+-- ---- the line after acts
 
 -- what was pending of them was given with it
 pub pending_ends : (oracles : Oracles) (a b c : Around) (met : Option Fault) (tag words : List ℕ) (acts : List (Act ReplyPart)) (pending : List ℕ) → Carries (part_octets oracles) a b None [] pending acts
@@ -189,7 +189,7 @@ deleted_unrefused kept messages listing =
     ids_live kept messages (subst (λ (l : List Listed). AllByRecursion (λ one. IsLive (slice_get kept.messages one.id)) l) (sym listing.are) (listed_live kept listing.folder)) in
     rw live refl
 
--- ---- the store behind it
+-- ---- the store after it
 
 -- the store has as many accounts and folders as before
 pub record HasCounts (old new : StoreState) : Type 0 where
@@ -296,9 +296,9 @@ pub on_ok_then : {T E : Type 0} (result : Result T E) (P Q : Type 0) → (P → 
 on_ok_then (Ok x) P Q so holds = so holds
 on_ok_then (Err met) P Q so holds = tt
 
--- ---- the state behind a command
+-- ---- the state after a command
 
--- what was done is told, and the session behind it is in this state
+-- what was done is told, and the session after it is in this state
 pub Takes-state : (a b : Around) (met : Option Fault) (result : Result (Option ImapState) Fault) (state : State) (taken : Oracles → Step) → WithOracles (λ oracles. Does (part_octets oracles) a b met (taken oracles).acts)
     → ((oracles : Oracles) → state ≡ (taken oracles).state) → fault_of result ≡ met → IfOk result (λ next. state_or_ended next ≡ state) → IfOk result (KnowsNext b.desk.store) → TakesStep a b result taken
 Takes-state a b met (Ok next) state taken does states is next_is known = record {

@@ -103,7 +103,7 @@ stands_anew utf8 other reader s =
       few = s.few;
     }
 
--- ---- what is due behind what came before
+-- ---- what is due after what came before
 
 -- nothing in the one nor in the other
 quiet_both : (utf8 : Bool) (seen rest piece : List ℕ) (k : ℕ) → NothingBefore utf8 seen rest (length rest + 1) → NothingBefore utf8 (seen ++ rest) piece k → NothingBefore utf8 seen (rest ++ piece) (length rest + k)
@@ -131,7 +131,7 @@ tells_by utf8 seen octets used (Bad tag at) other some within nothing due = (som
 tells_by utf8 seen octets used (TooLarge tag) other some within nothing due = (some, within, nothing, due)
 tells_by utf8 seen octets used TooLong other some within nothing due = (some, within, nothing, due)
 
--- behind a rest of which nothing was due
+-- after a rest of which nothing was due
 tells_whole : (utf8 : Bool) (seen rest piece : List ℕ) (used : ℕ) (event : Event) → (event ≡ More → ⊥) → NothingBefore utf8 seen rest (length rest + 1) → Tells utf8 (seen ++ rest) piece used event
     → Tells utf8 seen (rest ++ piece) (length rest + used) event
 tells_whole utf8 seen rest piece used event other quiet told =
@@ -150,7 +150,7 @@ seen_same seen rest piece used (Bad tag at) other = refl
 seen_same seen rest piece used (TooLarge tag) other = refl
 seen_same seen rest piece used TooLong other = refl
 
--- ---- the reader behind what was due
+-- ---- the reader after what was due
 
 -- where no octets of a command were kept, a reader reads in whatever mode comes
 reads_after : (oracles : Oracles) (now : List ℕ) (state : State) (store : StoreState) (reader : Reader) (seen piece : List ℕ) (used : ℕ) (event : Event)
@@ -248,7 +248,7 @@ module _ (a b : Around) (session : ImapMachine) (reader : Reader) (piece : List 
         (subst (λ (step : Step). DoesFirst (part_octets oracles) a b met step.acts) (sym (step_same oracles (takes.told ++ more) kept machine rest has)) ((takes.steps more).does oracles are));
   }
 
-  -- what the session stands for behind what was due
+  -- what the session stands for after what was due
   stands_after : (oracles : Oracles) (all more : List Moment) (kept keeps : List ℕ) (machine : Machine) (rest : List ℕ) (next : Option ImapState) → (event ≡ More → ⊥) → ImapStands all session kept a.desk machine rest
       → moments_after (event_takes (state_of session.state) event) all ≡ more
       → DoesAll (part_octets oracles) a b (due_step oracles (date_at machine.moments) machine.state machine.store event).acts

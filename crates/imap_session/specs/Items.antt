@@ -84,7 +84,7 @@ section_name path what partial = codes "BODY[" ++ (join_with_byte dot (map decim
 
 -- ---- octets as literals
 
--- the header of a literal, behind the name of what was asked (RFC 3501, 4.3)
+-- the header of a literal, after the name of what was asked (RFC 3501, 4.3)
 abbrev pub literal_head : (asked : List ℕ) → (size : ℕ) → ReplyPart
 literal_head asked size = text (asked ++ (codes " {" ++ (decimal size ++ codes "}\r\n")))
 

@@ -47,7 +47,7 @@ pub data State : Type 0 where
   selected : (mode : Mode) (account folder : ℕ) (read_only : Bool) → State
   ended : State
 
--- what a command does, in order, and the state behind it
+-- what a command does, in order, and the state after it
 pub record Step : Type 0 where
   pub acts : List (Act ReplyPart)
   pub state : State

@@ -25,7 +25,7 @@ part_octets oracles (name mode octets) = quoted (shown_name (is_enabled mode) oc
 part_octets oracles (shown msg mode at len) = take len (drop at (served_by oracles.surrogate mode msg))
 part_octets oracles (viewed mode octets) = octets
 
--- The octets of the parts, one behind another.
+-- The octets of the parts, one after another.
 abbrev pub reply_octets : Oracles → List ReplyPart → List ℕ
 reply_octets oracles parts = flat_map (part_octets oracles) parts
 

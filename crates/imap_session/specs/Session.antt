@@ -59,7 +59,7 @@ abbrev pub date_at : List Moment → List ℕ
 date_at [] = long_ago
 date_at (moment ∷ moments) = if is_date moment.internal then moment.internal else long_ago
 
--- the moments behind one that was taken, or not
+-- the moments after one that was taken, or not
 abbrev pub moments_after : (taken : Bool) → List Moment → List Moment
 moments_after true (moment ∷ moments) = moments
 moments_after other moments = moments
@@ -79,7 +79,7 @@ due_step oracles now state store (Bad None at) = record { acts = reply (untagged
 due_step oracles now state store (TooLarge tag) = says tag (codes "NO too large") state
 due_step oracles now state store TooLong = record { acts = reply (untagged (codes "BYE line too long") ∷ []); state = ended }
 
--- The turn for what is due: its acts, the machine after it, and the octets behind those it used.
+-- The turn for what is due: its acts, the machine after it, and the octets after those it used.
 abbrev pub due_turn : Oracles → Machine → List ℕ → Due → Turn Machine (Act ReplyPart)
 due_turn oracles machine octets due =
     let taken = due_step oracles (date_at machine.moments) machine.state machine.store due.event in
@@ -165,7 +165,7 @@ KnowsNext store None = Unit {0}
 KnowsNext store (Some session) = KnowsState store session
 
 -- The states and the rests that a session stands for. Its reader has seen the octets of a command that came, and nothing is due at those
--- behind the last literal that was asked for.
+-- after the last literal that was asked for.
 pub record ImapStands (moments : List Moment) (session : ImapMachine) (kept : List ℕ) (desk : Desk) (machine : Machine) (rest : List ℕ) : Type 0 where
   pub state_is : machine.state ≡ state_of session.state
   pub store_is : machine.store ≡ desk.store
@@ -180,7 +180,7 @@ pub record ImapReady (session : ImapMachine) (kept : List ℕ) (desk : Desk) : T
   pub seen : List ℕ
   pub reads : HasSeen (is_enabled (mode_of (state_of session.state))) session.reader seen
 
--- the session behind an answer, with its reader
+-- the session after an answer, with its reader
 abbrev pub machine_next : Reader → Option ImapState → Option ImapMachine
 machine_next reader None = None
 machine_next reader (Some state) = Some (record { reader = reader; state = state })

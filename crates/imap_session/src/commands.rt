@@ -44,7 +44,7 @@ fn give_common<W: Wire, J: Keeper, C: Clock>(
     }
 }
 
-// The session behind a command that leaves the state.
+// The session after a command that leaves the state.
 fn left_by(session: ImapState, command: &Command) -> Option<ImapState>
     ensures state { state_or_ended result ≡ state_left (state_of session) command.now }
     ensures known { (store : StoreState) → KnowsState store session → KnowsNext store result }

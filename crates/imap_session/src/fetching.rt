@@ -264,7 +264,7 @@ impl<'a, V: Kind> Fetching<'a, V> {
         Ok(true)
     }
 
-    // Puts the end of a message's reply last, behind its flags where they changed and weren't asked.
+    // Puts the end of a message's reply last, after its flags where they changed and weren't asked.
     fn push_end(
         &self,
         one: &Listed,

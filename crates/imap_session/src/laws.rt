@@ -1,4 +1,4 @@
-//! Laws of what APPEND puts into folders, of which commands change the store, which ask the cache and how each is answered, and of the store behind a stream.
+//! Laws of what APPEND puts into folders, of which commands change the store, which ask the cache and how each is answered, and of the store after a stream.
 ghost use Rattle.std.specs.Prelude.{◌≡◌, ◌≢◌, ◌⊎◌, ◌∷◌, [], ℕ, List, Bool, false, true, map};
 ghost use Rattle.std.specs.List.{list_any};
 ghost use Rattle.kept_mail.specs.Kept.{listed};
@@ -54,7 +54,7 @@ pub fn each_command_is_answered()
         → EndsTagged tag (step oracles now state store tag said) }
 {}
 
-/// Behind a stream the machine's store is the one before it with the changes that its commands make.
+/// After a stream the machine's store is the one before it with the changes that its commands make.
 pub fn the_store_has_the_changes()
     ensures { (oracles : Oracles) (machine : Machine) (octets : List ℕ) → let turn = all_turns (next_turn oracles) machine octets in
         turn.after.store ≡ with_records machine.store (records_of (changes_in turn.parts)) }

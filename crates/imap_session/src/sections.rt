@@ -34,7 +34,7 @@ use surrogate_rope::Shown;
 
 // ---- names
 
-/// Puts a number last, behind a word.
+/// Puts a number last, after a word.
 pub fn push_number(made: &mut Octets, word: &[u8], number: usize) -> Result<(), Memory>
     ensures { OnOk result (made.new ≡ made.old ++ (word.now ++ decimal number)) }
 {
@@ -146,7 +146,7 @@ pub fn is_message(path: &[u32], part: &SectionPart) -> bool
     is_whole(part) && path.is_empty()
 }
 
-// Whether a part has a word behind a path.
+// Whether a part has a word after a path.
 fn has_separator(path: &[u32], part: &SectionPart) -> bool
     ensures { result ≡ (not (names_all part.now) && not (length path.now == 0)) }
 {
@@ -292,7 +292,7 @@ pub fn partial_span(partial: Option<(u32, u32)>, span: Span) -> Span
     }
 }
 
-/// Puts the header of a literal last, behind the name of what is asked.
+/// Puts the header of a literal last, after the name of what is asked.
 pub fn push_head(
     alloc: Global,
     pending: &mut Octets,
@@ -314,7 +314,7 @@ fn push_nil(alloc: Global, pending: &mut Octets, asked: &Asked<'_>) -> Result<()
     pending.push_slice(b" NIL")
 }
 
-// Gives a range of what is shown of a message as a literal, behind what is pending and the name of what is asked.
+// Gives a range of what is shown of a message as a literal, after what is pending and the name of what is asked.
 fn give_span<V: Kind, W: Wire, J: Keeper, C: Clock>(
     asked: &Asked<'_>,
     span: Span,

@@ -226,7 +226,7 @@ fn leave<V: Kind>(
     Ok(Some(V::in_authenticated(imap.unselect())))
 }
 
-// APPEND, behind which the folder is still selected.
+// APPEND, after which the folder is still selected.
 fn append_selected<V: Kind, W: Wire, J: Keeper, C: Clock>(
     mut imap: Imap<Selected, V>,
     tag: &[u8],
@@ -247,7 +247,7 @@ fn append_selected<V: Kind, W: Wire, J: Keeper, C: Clock>(
     stay(imap, done)
 }
 
-// A command behind which the folder is still selected, or one that ends the session.
+// A command after which the folder is still selected, or one that ends the session.
 fn answer_within<V: Kind, W: Wire, J: Keeper, C: Clock>(
     mut imap: Imap<Selected, V>,
     tag: &[u8],

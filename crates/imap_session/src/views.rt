@@ -26,7 +26,7 @@ fn read_header(alloc: Global, shown: &Shown, msg: &[u8]) -> Result<Octets, Memor
     }
 }
 
-/// Puts the envelope of what is shown of a message last, behind its name.
+/// Puts the envelope of what is shown of a message last, after its name.
 pub fn put_envelope(
     alloc: Global,
     shown: &Shown,
@@ -51,7 +51,7 @@ fn structure_word(extended: bool) -> &'static [u8]
     }
 }
 
-/// Puts the structure of what is shown of a message last, behind its name.
+/// Puts the structure of what is shown of a message last, after its name.
 pub fn put_structure(
     alloc: Global,
     shown: &Shown,

@@ -57,7 +57,7 @@ said_ascii Comment octets h = refl
 contents_ascii : (ts : List TokenValue) → AreAsciiTokens ts → AreAscii (contents ts)
 contents_ascii ts h = ascii_flat is_ascii_token content (λ t. said_ascii t.kind t.octets) ts h
 
--- what stands before and behind a token
+-- what stands before and after a token
 before_token : (ts front : List TokenValue) (t : TokenValue) (back : List TokenValue) → ts ≡ front ++ t ∷ back → AreAsciiTokens ts → AreAsciiTokens front
 before_token ts front t back e h = (pass-parts is_ascii_token front (t ∷ back) (rw (e) at h)).0
 

@@ -11,7 +11,7 @@ use Rattle.mime_tree.specs.declared.outlines.Outline.{Outline as OutlineOf}
 use Rattle.surrogate_rope.specs.Served.{seen_outline}
 use Rattle.imap_views.specs.private.Reading.{HasChildren}
 
--- the children among entities, and among those behind them
+-- the children among entities, and among those after them
 pub children-append : (from number : ℕ) (outlines more : List Outline)
     → children_from from (outlines ++ more) number ≡ children_from from outlines number ++ children_from (from + length outlines) more number
 unfolding children_from

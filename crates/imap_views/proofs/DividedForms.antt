@@ -1,4 +1,4 @@
--- Forms of parts divided by commas, put one behind another.
+-- Forms of parts divided by commas, put one after another.
 use Rattle.std.proofs.Common.{◌≡◌, ℕ, List, ◌++◌, refl}
 use Rattle.std.proofs.lemmas.List.{append_assoc}
 use Rattle.field_tokens.specs.Tokens.{TokenValue}

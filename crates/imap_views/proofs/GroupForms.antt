@@ -17,7 +17,7 @@ group_unnamed ts before following text s none is =
     let cut = splits_once 58 ts before following is.before is.following s is.named in
     none (rw (cut.front) is.is_phrase)
 
--- the parts of a group behind its name
+-- the parts of a group after its name
 record GroupEnd (inner after : List TokenValue) : Type 0 where
   nothing_after : are_blank after ≡ true
   members : List ℕ

@@ -4,7 +4,7 @@ use Rattle.std.proofs.lemmas.List.{append-nil}
 use Rattle.imap_views.specs.Strings.{spaced}
 use Rattle.imap_views.specs.Structures.{after_spaces}
 
--- each text but the first one stands behind a space
+-- each text but the first one stands after a space
 pub spaced_after : (text : List ℕ) (texts : List (List ℕ)) → spaced (text ∷ texts) ≡ text ++ after_spaces texts
 unfolding spaced
 spaced_after text [] = sym (append-nil text)
@@ -27,7 +27,7 @@ pub spaced_one : (old text made : List ℕ) → made ≡ old ++ text → made �
 unfolding spaced
 spaced_one old text made e = e
 
--- more texts, each behind a space
+-- more texts, each after a space
 pub spaced_more : (old text : List ℕ) (texts more : List (List ℕ)) (made new : List ℕ) → made ≡ old ++ spaced (text ∷ texts) → new ≡ made ++ after_spaces more → new ≡ old ++ spaced (text ∷ (texts ++ more))
 spaced_more old text texts more made new e put =
     put ∙ ap (λ m. m ++ after_spaces more) (e ∙ ap (λ r. old ++ r) (spaced_after text texts)) ∙ append_assoc old (text ++ after_spaces texts) (after_spaces more)

@@ -227,7 +227,7 @@ among_first all number entity inner is =
     slice_get-get_or (is.before ++ entity ∷ rest) number entity (omega (arith, length-append is.before (entity ∷ rest))) ∙ ap Some (get_or_at is.before entity rest entity number place) in
     slice_get-map outline_of all number ∙ ap (option_map outline_of) (ap (λ list. slice_get list number) whole ∙ found)
 
--- its children are all among those behind it
+-- its children are all among those after it
 among_children : (all : List Entity) (number : ℕ) (entity : Entity) (inner : List Entity) → is_in entity.parent number ≡ false → IsAmong all number (entity ∷ inner)
     → children_from 0 (outlines_of all) number ≡ children_from (number + 1) (outlines_of inner) number
 unfolding children_from

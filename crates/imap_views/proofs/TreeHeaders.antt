@@ -1,4 +1,4 @@
--- The header of each entity of a tree: its raw fields, and the empty line behind them.
+-- The header of each entity of a tree: its raw fields, and the empty line after them.
 use Rattle.std.proofs.Common.{◌≡◌, ℕ, zero, suc, ◌+◌, List, [], ◌∷◌, ◌++◌, Bool, false, length, take, drop, Option, Some, None, arith, refl, sym, ap, ◌∙◌, subst, append_assoc}
 use Rattle.std.specs.Prelude.{slice_range}
 use Rattle.std.specs.List.{AllByRecursion, concat, flat_map}

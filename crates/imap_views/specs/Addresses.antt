@@ -48,7 +48,7 @@ pub record IsMailboxForm (tokens : List TokenValue) (text : List ℕ) : Type 0 w
   pub is_name : IsPhraseName tokens mailbox.phrase name
   pub text_is : text ≡ address_form name mailbox.address
 
--- the forms of a group's members, one behind another
+-- the forms of a group's members, one after another
 abbrev pub AreMemberForms : List TokenValue → List ℕ → Type 0
 AreMemberForms tokens text = ((are_blank tokens ≡ true) × (text ≡ [])) ⊎ AreDivided IsMailboxForm tokens text
 
@@ -78,7 +78,7 @@ pub record IsGroupForm (tokens : List TokenValue) (text : List ℕ) : Type 0 whe
 abbrev pub IsPlaceForm : List TokenValue → List ℕ → Type 0
 IsPlaceForm tokens text = ((are_blank tokens ≡ true) × (text ≡ [])) ⊎ IsMailboxForm tokens text ⊎ IsGroupForm tokens text
 
--- the text is a list of addresses, and these are their forms, one behind another
+-- the text is a list of addresses, and these are their forms, one after another
 pub record HasForms (text forms : List ℕ) : Type 0 where
   pub tokens : List TokenValue
   pub has_tokens : HasMailTokens text tokens

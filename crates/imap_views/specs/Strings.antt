@@ -32,11 +32,11 @@ unfoldable pub before_mark : ℕ → List ℕ → List ℕ
 before_mark mark [] = []
 before_mark mark (x ∷ octets) = if x == mark then [] else x ∷ before_mark mark octets
 
--- what stands behind the first such octet; nothing, where there is none
+-- what stands after the first such octet; nothing, where there is none
 unfoldable pub after_mark : ℕ → List ℕ → List ℕ
 after_mark mark [] = []
 after_mark mark (x ∷ octets) = if x == mark then octets else after_mark mark octets
 
--- new is old with a text behind it of which this holds
+-- new is old with a text after it of which this holds
 abbrev pub AddsText : (List ℕ → Type 0) → List ℕ → List ℕ → Type 0
 AddsText Holds old new = (text : List ℕ) × Holds text × (new ≡ old ++ text)

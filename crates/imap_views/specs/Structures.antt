@@ -35,7 +35,7 @@ header_at seen outline = slice_range seen.octets outline.at outline.body
 abbrev pub content_at : Seen → Outline → List ℕ
 content_at seen outline = slice_range seen.octets outline.body outline.end
 
--- the texts, each behind a space
+-- the texts, each after a space
 abbrev pub after_spaces : List (List ℕ) → List ℕ
 after_spaces [] = []
 after_spaces (text ∷ texts) = space ∷ (text ++ after_spaces texts)
@@ -89,7 +89,7 @@ multipart_form seen part parts = in_parentheses (parts ++ (after_spaces (sub_typ
 abbrev pub FormRelation : Type 1
 FormRelation = Bool → ℕ → List ℕ → Type 0
 
--- the entities of these numbers have these forms, one behind another
+-- the entities of these numbers have these forms, one after another
 abbrev pub AreForms : FormRelation → Bool → List ℕ → List ℕ → Type 0
 AreForms IsForm digest [] text = text ≡ []
 AreForms IsForm digest (number ∷ numbers) text =

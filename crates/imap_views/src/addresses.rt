@@ -121,7 +121,7 @@ fn push_group_end(made: &mut Octets) -> Result<(), Memory>
     made.push_slice(b"(NIL NIL NIL NIL)")
 }
 
-// Puts the form of the group of this name last, of what stands behind its colon.
+// Puts the form of the group of this name last, of what stands after its colon.
 fn push_group(
     alloc: Global,
     made: &mut Octets,

@@ -25,7 +25,7 @@ fn push_string_of(
     push_nstring(made, slice_of(&value))
 }
 
-// The same, behind a space.
+// The same, after a space.
 fn push_string_after(
     alloc: Global,
     made: &mut Octets,
@@ -65,7 +65,7 @@ fn addresses_or(
     }
 }
 
-// Puts the addresses of the first field of this name last, behind a space.
+// Puts the addresses of the first field of this name last, after a space.
 fn push_addresses_of(
     alloc: Global,
     made: &mut Octets,
@@ -94,7 +94,7 @@ fn push_addresses_or(
     push_after_space(made, addresses.as_slice())
 }
 
-// Puts the author, the sender and the address for replies last, behind spaces.
+// Puts the author, the sender and the address for replies last, after spaces.
 fn push_senders(alloc: Global, made: &mut Octets, header: &Header<'_>) -> Result<(), Memory>
     requires { IsRead header.now }
     ensures { OnOk result (AddsText (HasSenders (raws_in header.now)) made.old made.new) }
@@ -105,7 +105,7 @@ fn push_senders(alloc: Global, made: &mut Octets, header: &Header<'_>) -> Result
     push_addresses_or(alloc, made, from.as_slice(), header, b"Reply-To")
 }
 
-// Puts the senders and the addressees last, behind spaces.
+// Puts the senders and the addressees last, after spaces.
 fn push_all_addresses(alloc: Global, made: &mut Octets, header: &Header<'_>) -> Result<(), Memory>
     requires { IsRead header.now }
     ensures { OnOk result (AddsText (HasAllAddresses (raws_in header.now)) made.old made.new) }

@@ -45,7 +45,7 @@ pub fn slice_of(text: &Option<Octets>) -> Option<&[u8]>
     }
 }
 
-/// What stands before the first such octet, and what stands behind it.
+/// What stands before the first such octet, and what stands after it.
 pub fn split_mark(octets: &[u8], mark: u8) -> (&[u8], &[u8])
     ensures before { result.0.now ≡ before_mark mark octets.now }
     ensures following { result.1.now ≡ after_mark mark octets.now }

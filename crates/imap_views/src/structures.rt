@@ -126,7 +126,7 @@ fn count_lines(seeing: &Seeing<'_>, from: usize, to: usize) -> usize
     lines
 }
 
-// Puts how many lines end in an entity's content last, behind a space.
+// Puts how many lines end in an entity's content last, after a space.
 fn push_lines(
     alloc: Global,
     made: &mut Octets,

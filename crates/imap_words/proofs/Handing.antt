@@ -1,4 +1,4 @@
--- Sequences whose second part may be empty: what may go on behind the first may then go on behind both.
+-- Sequences whose second part may be empty: what may go on after the first may then go on after both.
 use Rattle.std.proofs.Common.{◌≡◌, ℕ, Bool, true, List, [], ◌∷◌, ◌++◌, ◌⊎◌, inl, inr, refl, sym, ap, ◌∙◌, subst, append_assoc}
 use Rattle.std.proofs.lemmas.List.{append_cancel_left}
 use Rattle.imap_words.specs.Languages.{Then, Or, Is, IsViable}

@@ -292,7 +292,7 @@ octet_open x (y ∷ z ∷ octets) v = absurd (too_many y z (octets ++ v.rest) v.
 pub octet_joins : (x : ℕ) (octets rest : List ℕ) → Reads (IsOctet x) never octets x rest → no_return x ≡ true → first_line rest ≡ None → first_line octets ≡ None
 octet_joins x octets rest r ok none = flat_joins (IsOctet x) (octet_flat x ok) never octets rest x r none
 
--- behind CR the text is at its end
+-- after CR the text is at its end
 pub return_last : (octets rest : List ℕ) → Reads (IsOctet 13) never octets 13 rest → rest ≡ [] → first_line octets ≡ None
 return_last octets rest r none = subst (λ z. first_line z ≡ None) (sym (r.whole ∙ (ap (λ z. r.word ++ z) none ∙ (append-nil r.word ∙ r.is_word.0)))) (none_one 13)
 

@@ -9,7 +9,7 @@ use Rattle.imap_words.specs.Reading.{BeginsAlike, BeginsIn, Reads, FailsAt}
 use Rattle.imap_words.specs.Keywords.{Named, upper, IsWordOf, SomeBegins, IsTable, TellsLonger, IsCommon, IsBest}
 use Rattle.imap_words.proofs.TokenSteps.{Compared, Same, Longer, Shorter, compared, greedy_reads}
 
--- what stands behind a front, with an octet of it
+-- what stands after a front, with an octet of it
 regrouped : (a : List ℕ) (y : ℕ) (c : List ℕ) → map upper (a ++ y ∷ c) ≡ (map upper a ++ upper y ∷ []) ++ map upper c
 regrouped a y c = map-append upper a (y ∷ c) ∙ sym (append_assoc (map upper a) (upper y ∷ []) (map upper c))
 
@@ -58,7 +58,7 @@ module _ {V : Type 0} (table : List (Named V)) where
         best.longest (len + 1) (omega arith) (omega (arith, short))
         (entry, c, known, spelled ∙ ap (λ z. z ++ c) (sym (front_more text len short ∙ ap (λ z. map upper (take len text) ++ upper z ∷ []) same)))
 
-    -- a shorter word, behind which a longer one goes on
+    -- a shorter word, after which a longer one goes on
     shorter_goes : (a : List ℕ) (y : ℕ) (c rest : List ℕ) (w : V) → take len text ≡ a ++ y ∷ c → IsWordOf table a w → (entry : Named V) → Contains table entry → entry.word ≡ map upper (take len text) ++ rest → later w y ≡ true
     shorter_goes a y c rest w s is entry known spelled =
         subst (λ z. later z y ≡ true) (sym is.says) (observed is.entry y is.known (

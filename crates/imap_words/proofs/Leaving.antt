@@ -12,7 +12,7 @@ goes_over (x ∷ a) (y ∷ b) (z ∷ c) f g = f ∙ g
 goes_over (x ∷ a) (y ∷ b) [] f g = absurd g
 goes_over (x ∷ a) [] c f g = absurd f
 
--- the same word, with something else behind it that begins alike
+-- the same word, with something else after it that begins alike
 pub reads_on : {V : Type 0} (P : List ℕ → V → Type 0) (p : V → ℕ → Bool) (text rest more : List ℕ) (v : V) (r : Reads P p text v rest) → BeginsAlike rest more → Reads P p (r.word ++ more) v more
 reads_on P p text rest more v r on = record { word = r.word; whole = refl; is_word = r.is_word; only = λ others a b w is goes e. r.only others a b w is (goes_over rest more others on goes) e }
 
@@ -37,7 +37,7 @@ leaves_then {P} {text} {Q} {F} {p} {rest} {mid} {w} l r avoids = record {
       (onwards (l.goes (r.word ++ more) there) (reads_on F p rest mid more w r on) avoids);
 }
 
--- one behind another
+-- one after another
 pub leaves_on : {V : Type 0} (P Q R : List ℕ → V → Type 0) (text rest mid : List ℕ) → Leaves P text Q rest → Leaves Q rest R mid → Leaves P text R mid
 leaves_on P Q R text rest mid a b = record {
   front = a.front ++ b.front;

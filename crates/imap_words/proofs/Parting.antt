@@ -133,7 +133,7 @@ second_same A B C to from text = same_continues (Then A B) (Then A C) text
     (λ octets w is. record { value = is.value; front = is.front; back = is.back; whole = is.whole; first = is.first; second = to is.value is.back w is.second })
     (λ octets w is. record { value = is.value; front = is.front; back = is.back; whole = is.whole; first = is.first; second = from is.value is.back w is.second })
 
--- a value that is told behind an end is told at once
+-- a value that is told after an end is told at once
 pub mapped_end : {V U E : Type 0} (P : List ℕ → V → Type 0) (f : V → U) (End : List ℕ → E → Type 0) (text : List ℕ) → Continues (Then P (λ v. Then (After End (Is v)) (λ w. Is (f w)))) text (Then P (λ v. After End (Is (f v)))) text
 mapped_end {V} {U} P f End text = second_same P (λ v. Then (After End (Is v)) (λ w. Is (f w))) (λ v. After End (Is (f v))) to from text
   where

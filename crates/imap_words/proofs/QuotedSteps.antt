@@ -69,7 +69,7 @@ module _ (utf8 : Bool) where
       by_item a w b more (escaped y) is s v same = let at : x ≡ 92 = cc same in absurd (backslash_is_no_text (subst (λ z. is_quoted_text z ≡ true) at is_text))
       by_item a w b more (high octets) is s v same = absurd (high_never x (λ l _. omega (arith, l, text_is_low x is_text)) octets b is.1.0 more is.1.1 same)
 
-  -- behind a backslash
+  -- after a backslash
   escape_continues : (xs : List ℕ) → Continues (IsOneQuoted utf8) (92 ∷ xs) IsSpecial xs
   escape_continues xs = onwards (same_at (IsOneQuoted utf8) (After (IsOctet 92) IsSpecial) 92 xs into out) (octet_reads 92 xs) (λ _. never_avoids _)
     where
@@ -159,7 +159,7 @@ AreRest utf8 octets value [] = (octets ≡ 34 ∷ []) × (value ≡ [])
 AreRest utf8 octets value (item ∷ items) =
     (back rest : List ℕ) × IsQuotedChar utf8 item × (octets ≡ quoted_spelling item ++ back) × (value ≡ quoted_octets item ++ rest) × AreRest utf8 back rest items
 
--- behind those that said this
+-- after those that said this
 abbrev pub IsRestQuoted : Bool → List ℕ → List ℕ → List ℕ → Type 0
 IsRestQuoted utf8 begun octets value = (more : List ℕ) × (items : List QuotedChar) × (value ≡ begun ++ more) × AreRest utf8 octets more items
 

@@ -1,4 +1,4 @@
--- Languages that are the same behind the first octet of the text.
+-- Languages that are the same after the first octet of the text.
 use Rattle.std.proofs.Common.{◌≡◌, ℕ, zero, suc, ◌<◌, ◌≤◌, Bool, List, ◌∷◌, ◌++◌, ◌⊎◌, inl, inr, refl, ap, ◌∙◌, arith}
 use Rattle.imap_words.specs.Languages.{Or}
 use Rattle.imap_words.specs.Reading.{StopsReading}

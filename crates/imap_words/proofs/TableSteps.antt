@@ -32,7 +32,7 @@ same_self (x ∷ xs) = both (x == x) (same_list xs xs) (eq-eqb x x refl) (same_s
     both true false e f = f
     both false b e f = e
 
--- what is left of the second behind the first
+-- what is left of the second after the first
 abbrev pub rest_of : List ℕ → List ℕ → Option (List ℕ)
 rest_of [] ys = Some ys
 rest_of (x ∷ xs) [] = None
@@ -114,7 +114,7 @@ module _ {V : Type 0} where
     one = λ a b is also same. ap (λ z. z.says) (one_entry (first ∷ table) test a b is also same);
   }
 
-  -- ---- which octets go on behind a word
+  -- ---- which octets go on after a word
 
   abbrev pub goes_on : (V → ℕ → Bool) → V → Option (List ℕ) → Bool
   goes_on later v None = true

@@ -141,7 +141,7 @@ name_plain whole name rest next x others taken e plain n = by_back taken.back ta
           absurd (plain (cc same))
     ]
 
--- what stands behind an ampersand
+-- what stands after an ampersand
 pub record ShiftTaken (whole name others : List ℕ) : Type 0 where
   pub cs : List ℕ
   pub symbols : List ℕ

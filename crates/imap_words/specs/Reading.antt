@@ -10,11 +10,11 @@ abbrev pub BeginsIn : (ℕ → Bool) → List ℕ → Type 0
 BeginsIn p [] = ⊥
 BeginsIn p (x ∷ xs) = p x ≡ true
 
--- No octet goes on behind any word.
+-- No octet goes on after any word.
 abbrev pub never : {V : Type 0} → V → ℕ → Bool
 never value x = false
 
--- The same octets go on behind each word.
+-- The same octets go on after each word.
 abbrev pub always : {V : Type 0} → (ℕ → Bool) → V → ℕ → Bool
 always p value = p
 
@@ -24,8 +24,8 @@ BeginsAlike [] more = ⊤
 BeginsAlike (x ∷ xs) [] = ⊥
 BeginsAlike (x ∷ xs) (y ∷ ys) = x ≡ y
 
--- The text begins with this word, and rest follows. However the text goes on behind the first octet of the rest, a word that
--- it begins with is this one, or it is shorter and an octet follows it that may go on behind its value.
+-- The text begins with this word, and rest follows. However the text goes on after the first octet of the rest, a word that
+-- it begins with is this one, or it is shorter and an octet follows it that may go on after its value.
 pub record Reads {V : Type 0} (P : List ℕ → V → Type 0) (later : V → ℕ → Bool) (text : List ℕ) (value : V) (rest : List ℕ) : Type 0 where
   pub word : List ℕ
   pub whole : text ≡ word ++ rest
@@ -33,7 +33,7 @@ pub record Reads {V : Type 0} (P : List ℕ → V → Type 0) (later : V → ℕ
   pub only : (more a b : List ℕ) (v : V) → P a v → BeginsAlike rest more → a ++ b ≡ word ++ more → ((a ≡ word) × (v ≡ value)) ⊎ BeginsIn (later v) b
 
 -- Up to an octet the text can be completed to a word. Whatever begins with that octet too begins with no word, but one that is
--- shorter and behind which an octet follows that may go on behind its value. So many octets of the text are left there.
+-- shorter and after which an octet follows that may go on after its value. So many octets of the text are left there.
 pub record FailsAt {V : Type 0} (P : List ℕ → V → Type 0) (later : V → ℕ → Bool) (text : List ℕ) (left : ℕ) : Type 0 where
   pub front : List ℕ
   pub octet : ℕ

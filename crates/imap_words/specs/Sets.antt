@@ -12,10 +12,10 @@ IsSeqNumber = Or (Then IsNonZero (λ n. Is (Some n))) (After (IsOctet asterisk) 
 abbrev pub IsSeqRange : List ℕ → Option ℕ × Option ℕ → Type 0
 IsSeqRange = Then IsSeqNumber (λ first. Or (Is (first, first)) (After (IsOctet colon) (Then IsSeqNumber (λ last. Is (first, last)))))
 
--- sequence-set = (seq-number / seq-range) *("," sequence-set), and the SP behind it
+-- sequence-set = (seq-number / seq-range) *("," sequence-set), and the SP after it
 abbrev pub IsSetAndSpace : List ℕ → List (Option ℕ × Option ℕ) → Type 0
 IsSetAndSpace = IsList (IsOctet comma) IsSeqRange IsSpace
 
--- what may go on behind a range, or behind a number that begins one
+-- what may go on after a range, or after a number that begins one
 abbrev pub after_range : ℕ → Bool
 after_range x = is_digit x || x == colon

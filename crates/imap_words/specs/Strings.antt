@@ -154,12 +154,12 @@ IsHead utf8 kind =
 abbrev pub BeginsNoString : Kind → Type 0
 BeginsNoString kind = (passes kind left_brace ≡ false) × (passes kind quote ≡ false)
 
--- what may go on behind it: a run
+-- what may go on after it: a run
 abbrev pub after_head : Kind → HeadValue → ℕ → Bool
 after_head kind (whole v) = passes kind
 after_head kind (literal n) = λ x. false
 
--- what is left of a string behind its head
+-- what is left of a string after its head
 abbrev pub BodyOf : HeadValue → List ℕ → List ℕ → Type 0
 BodyOf (whole v) = Is v
 BodyOf (literal n) = IsCounted n

@@ -107,7 +107,7 @@ IsTag = IsRunOf is_tag_char
 unfoldable pub is_digit : ℕ → Bool
 is_digit x = nat_lt 47 x && nat_lt x 58
 
--- what digits say behind this number
+-- what digits say after this number
 abbrev pub decimal_from : ℕ → List ℕ → ℕ
 decimal_from n [] = n
 decimal_from n (x ∷ xs) = decimal_from (n * 10 + (x - 48)) xs

@@ -38,7 +38,7 @@ fn seq_range(text: &[u8]) -> Result<((Option<u32>, Option<u32>), &[u8]), Stop>
     Ok(((first, last), rest))
 }
 
-/// Reads a set of messages (`sequence-set` of RFC 3501, 9) and the space behind it. It gives the ranges in the order written:
+/// Reads a set of messages (`sequence-set` of RFC 3501, 9) and the space after it. It gives the ranges in the order written:
 /// `None` is `*`, and a number alone is the range from itself to itself.
 pub fn set_and_space(
     alloc: Global,

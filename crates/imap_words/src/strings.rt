@@ -1,4 +1,4 @@
-//! Readers of strings. A reader stops at a literal's header, and goes on behind the literal's octets.
+//! Readers of strings. A reader stops at a literal's header, and goes on after the literal's octets.
 ghost use Rattle.std.specs.Prelude.{◌≡◌, ◌≤◌, ℕ, Bool, List, None, Err, MatchResult};
 ghost use Rattle.mail_wire.specs.Lines.{first_line};
 ghost use Rattle.imap_words.specs.declared.stop.Stop.TheVariants.{More};
@@ -89,7 +89,7 @@ fn between(low: u8, high: u8, text: &[u8]) -> Result<(u8, &[u8]), Stop>
     Ok((*first, rest))
 }
 
-// From where on the second octet of a character goes, behind this one.
+// From where on the second octet of a character goes, after this one.
 fn least_second(first: u8) -> u8
     ensures { result ≡ least_second_of first }
 {
@@ -151,7 +151,7 @@ fn is_quoted_special(octet: u8) -> bool
     octet == b'"' || octet == b'\\'
 }
 
-// Reads an octet that stands behind a backslash, and puts it last.
+// Reads an octet that stands after a backslash, and puts it last.
 fn special<'a>(value: &mut Octets, text: &'a [u8]) -> Result<&'a [u8], Stop>
     ensures { MatchResult result (λ rest. PutsSaid IsSpecial text.now rest.now value.old value.new) (λ stop. StopsReading IsSpecial never text.now stop) }
 {

@@ -39,7 +39,7 @@ pub fn octet(wanted: u8, text: &[u8]) -> Result<&[u8], Stop>
     }
 }
 
-/// Reads LF, and gives what follows it. Behind a CR a text that has no octet has no line's end.
+/// Reads LF, and gives what follows it. After a CR a text that has no octet has no line's end.
 pub fn line_feed(text: &[u8]) -> Result<&[u8], Stop>
     ensures more { result ≡ Err More → text.now ≡ [] }
     ensures reads { MatchResult result (λ rest. Reads (IsOctet 10) never text.now 10 rest.now) (λ stop. StopsReading (IsOctet 10) never text.now stop) }
@@ -110,7 +110,7 @@ pub fn run(kind: Kind, text: &[u8]) -> Result<(&[u8], &[u8]), Stop>
     }
 }
 
-// The number with this digit behind it, where it is one and the number is none too large.
+// The number with this digit after it, where it is one and the number is none too large.
 #[tactic(auto, unfolding(crate::specs::Tokens::is_digit))]
 fn with_digit(value: u32, octet: u8) -> Option<u32>
     ensures { MatchOption result ((is_digit_of octet ≡ true) → ¬ (value * 10 + (octet - 48) < 2 ^ 32)) (λ next. (is_digit_of octet ≡ true) × (next ≡ value * 10 + (octet - 48)) × (next < 2 ^ 32)) }

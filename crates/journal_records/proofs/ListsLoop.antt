@@ -33,7 +33,7 @@ ends NoRecord front count i octets total lt h so_far =
     let one : with_front front (lists_at (count - i) octets) ≡ None = rw (k, h) refl in
     sym so_far ∙ one
 
--- behind the last turn
+-- after the last turn
 pub is_done : (front : List (List ℕ)) (count i : ℕ) (octets : List ℕ) (total : Option (List (List ℕ) × List ℕ)) → count ≤ i → with_front front (lists_at (count - i) octets) ≡ total → total ≡ Some (front, octets)
 unfolding lists_at
 is_done front count i octets total le so_far =

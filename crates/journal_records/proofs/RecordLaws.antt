@@ -12,7 +12,7 @@ use Rattle.journal_records.proofs.Fields.{AreOctets, AreOctets-rest, some_is, bi
 pub none_is_some : (one : Record) → None ≡ Some one → ⊥
 none_is_some one e = cc
 
--- the fields behind a kind
+-- the fields after a kind
 pub record Spells (kind : ℕ) (octets : List ℕ) (one : Record) : Type 0 where
   pub text : kind ∷ octets ≡ fields_of one
   pub fits : Fits one

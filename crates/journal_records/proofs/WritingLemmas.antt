@@ -25,7 +25,7 @@ pub first_after : (old mid new a b : List ℕ) → mid ≡ old ++ a → PutsFirs
 first_after old mid new a b at (n, is) =
     (length a + n, is ∙ ap (λ l. l ++ take n b) at ∙ append_assoc old a (take n b) ∙ ap (λ l. old ++ l) (sym (take-append-add a b n)))
 
--- a text, and what comes behind it
+-- a text, and what comes after it
 pub puts_after : {T : Type 0} (old mid new a b : List ℕ) (result : Result T Memory) → mid ≡ old ++ a → PutsText mid new result b → PutsText old new result (a ++ b)
 puts_after old mid new a b (Ok done) at is = is ∙ ap (λ l. l ++ b) at ∙ append_assoc old a b
 puts_after old mid new a b (Err memory) at is = first_after old mid new a b at is
@@ -53,7 +53,7 @@ parts_before f parts i old now at = (
   at ∙ ap (λ l. old ++ l) (sym (ap (take (length (flat_map f (take i parts)))) (sym (parts_split f parts i)) ∙ take-append_seam (flat_map f (take i parts)) (flat_map f (drop i parts)))),
 )
 
--- lists within a bound: the next one is within it too, behind those before it
+-- lists within a bound: the next one is within it too, after those before it
 pub next_within : (lists : List (List ℕ)) (list : List ℕ) (i : ℕ) → i < length lists → list ≡ get_or lists i list
     → length (flat_map octet_list (take i lists)) + (4 + length list) ≤ length (flat_map octet_list lists)
 next_within lists list i within is =

@@ -10,7 +10,7 @@ use Rattle.journal_records.specs.declared.records.Record.TheVariants as records
 abbrev pub number : ℕ → List ℕ
 number n = to_be_bytes w32 n
 
--- octets behind their length
+-- octets after their length
 abbrev pub octet_list : List ℕ → List ℕ
 octet_list octets = number (length octets) ++ octets
 
@@ -26,7 +26,7 @@ fields_of (records.Queue path addresses octets) =
     7 ∷ (octet_list path ++ (number (length addresses) ++ (flat_map octet_list addresses ++ octet_list octets)))
 fields_of (records.Settle entry index) = 8 ∷ (number entry ++ number index)
 
--- the fields behind their length
+-- the fields after their length
 abbrev pub record_text : Record → List ℕ
 record_text one = octet_list (fields_of one)
 

@@ -6,5 +6,5 @@ pub const TEXT_MAX: usize = 65_536;
 /// Octets of a folder name.
 pub const NAME_MAX: usize = 255;
 
-/// Octets of a record behind its length.
+/// Octets of a record after its length.
 pub const RECORD_MAX: usize = 67_108_864;

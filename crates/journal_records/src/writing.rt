@@ -54,7 +54,7 @@ fn push_lists(journal: &mut Octets, lists: &[Octets]) -> Result<(), Memory>
     Ok(())
 }
 
-// How many octets these lists have, each behind its length.
+// How many octets these lists have, each after its length.
 fn lists_len(lists: &[Octets]) -> usize
     requires { length (flat_map octet_list lists.now) ≤ RECORD_MAX }
     ensures { result ≡ length (flat_map octet_list lists.now) }
@@ -257,7 +257,7 @@ fn push_fields(journal: &mut Octets, one: &Record) -> Result<(), Memory>
     }
 }
 
-/// Puts a record last, behind its length. Want of memory may leave a first part of it there.
+/// Puts a record last, after its length. Want of memory may leave a first part of it there.
 pub fn push_record(journal: &mut Octets, one: &Record) -> Result<(), Memory>
     requires fits { Fits one.now }
     requires short { length (fields_of one.now) ≤ RECORD_MAX }

@@ -68,7 +68,7 @@ AreBelow-reverse end (x ∷ xs) h = subst (AreBelow end) (sym (reverse-append (x
 
 -- ---- one more message
 
--- an entry behind the end changes no chain within it
+-- an entry after the end changes no chain within it
 chain-push : (n : ℕ) (previous : List (Option ℕ)) (x last : Option ℕ) → AreBelow (length previous) (chain n previous last) → chain n (previous ++ x ∷ []) last ≡ chain n previous last
 chain-push zero previous x last h = refl
 chain-push (suc n) previous x None h = refl

@@ -57,7 +57,7 @@ IsInOrder kept (records.Queue path addresses octets) =
     × (recipient_count kept.entries + length addresses ≤ THINGS_MAX)
 IsInOrder kept (records.Settle entry index) = IsUnsettled (slice_get kept.entries entry) index
 
--- The record has a spelling within its limit, and may stand behind those that led to what is kept.
+-- The record has a spelling within its limit, and may stand after those that led to what is kept.
 pub record IsRecord (kept : Kept) (one : Record) : Type 0 where
   pub fits : Fits one
   pub short : length (fields_of one) ≤ RECORD_MAX

@@ -94,7 +94,7 @@ put_by protocol before now advance serves fine =
     let lawful = (serves.holds oracles_given.0 oracles_given.1 []).serves.lawful in
     put_last instance.spelled before.desk.store now.desk.store before.keeper.octets now.keeper.octets (met_of advance) _ _ fine lawful.done
 
--- the store has what the keeper begins with, whatever comes behind that
+-- the store has what the keeper begins with, whatever comes after that
 reads_first : (store after : StoreState) (opened new : Option (List ℕ)) (all more : List Record) → IsStoreOf store opened all → store.end ≡ length (journal all) → Follows store after opened new more
     → IfSome new (λ has. (following : List ℕ) → HasReadFirst after (has ++ following) (all ++ more))
 reads_first store after opened new all more is end follows =

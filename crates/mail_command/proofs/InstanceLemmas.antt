@@ -1,4 +1,4 @@
--- What follows of each course of a protocol.
+-- What follows of each instance of a protocol.
 use Rattle.std.proofs.Common.{ℕ, [], ◌++◌, Option}
 use Rattle.std.proofs.lemmas.List.Elements.{All-nil}
 use Rattle.session_core.specs.Moments.{IsTold}

@@ -227,7 +227,7 @@ keeper_held a b end (Err fault.Wire) observed is = absurd (omega (arith, is))
 keeper_held a b end (Err fault.Memory) observed is = absurd (omega (arith, is))
 keeper_held a b end (Err fault.Keeper) observed is = observed
 
--- the causes of what was answered behind the line
+-- the causes of what was answered after the line
 pub relay_cause : (a b : WireState) (old opened new : KeeperState) (first : Result Desk OpenFault) (relayed : Result RelayEnd Fault) (end : RelayEnd) (result : Result ℕ Fault)
     → HasKeeperCause old opened first faults.Keeper → HasKeeperCause opened new relayed fault.Keeper → TellsLine a b result (relay_status end) (relay_line end) → HasWireCause a b result fault.Wire
     → HasStatusCause a b old new (status_of result)

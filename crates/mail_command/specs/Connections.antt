@@ -26,6 +26,6 @@ pub record ServesNext (instance : Instance) (kept left : Option Desk) (limits : 
   pub left_is : IfSome left (λ desk. desk ≡ done.desk)
   pub serves : ServesFrom instance begun done advance
 
--- If the journal went on from what the kept desk had, what others put behind it goes on from what the desk has that is kept now.
+-- If the journal went on from what the kept desk had, what others put after it goes on from what the desk has that is kept now.
 abbrev pub GoesOnFrom : Option Desk → Option Desk → Option (List ℕ) → Option (List ℕ) → Type 0
 GoesOnFrom kept left old new = IfSome old (λ had. HasFirst kept had → IfSome new (λ has. (more : List ℕ) → HasFirst left (has ++ more)))

@@ -98,7 +98,7 @@ end_changed old new had has all more e c =
     ap (λ (x : StoreState). x.end) c.1 ∙ end_after-is old.end more ∙ ap (λ (n : ℕ). n + length (flat_map record_text more)) e
     ∙ sym (ap length (journal-append all more) ∙ length-append (journal all) (flat_map record_text more))
 
--- what others put behind its journal
+-- what others put after its journal
 pub after_journal : (store : StoreState) (octets : List ℕ) (all : List Record) (more : List ℕ) → IsStoreOf store (Some octets) all → store.end ≡ length (journal all) → HasReadFirst store (octets ++ more) all
 after_journal store octets all more s e = record {
   rest = more;
@@ -107,7 +107,7 @@ after_journal store octets all more s e = record {
   end_is = e;
 }
 
--- what a failed append left behind its journal
+-- what a failed append left after its journal
 pub after_failure : (old new : StoreState) (had has : Option (List ℕ)) (all more : List Record) → IsStoreOf old had all → old.end ≡ length (journal all)
     → Changes {T = Unit {0}} old new had has (Err Keeper) more → IfSome has (λ octets. HasReadFirst new octets all)
 after_failure old new had has all more s e c =

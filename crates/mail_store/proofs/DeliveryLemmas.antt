@@ -64,7 +64,7 @@ pub AreRecords-append : (kept : Kept) (all more : List Record) → AreRecords ke
 AreRecords-append kept [] more a b = b
 AreRecords-append kept (x ∷ all) more a b = (a.0, AreRecords-append (after_record kept x) all more a.1 b)
 
--- copies are put behind the messages
+-- copies are put after the messages
 pub after-copies : (kept : Kept) (date octets folders : List ℕ) → after_all kept (map (copy_for date octets) folders)
     ≡ (let new : Kept = record kept { messages = kept.messages ++ map (copied date octets) folders } in new)
 after-copies kept date octets [] = ap (λ ms. let new : Kept = record kept { messages = ms } in new) (sym (append-nil kept.messages))
@@ -128,7 +128,7 @@ copies_few kept max delivery copies small is =
     let second = length-map delivery.local (λ account. unwrap_or (inbox_of kept account) 0) in
     omega (arith, few, first, second)
 
--- the texts of addresses, each behind its length
+-- the texts of addresses, each after its length
 addresses-short : (addresses : List Address) → All IsSendable addresses → length (flat_map octet_list (map address_text addresses)) ≤ length addresses * 65540
 addresses-short [] sendable = omega arith
 addresses-short (x ∷ addresses) sendable =

@@ -11,7 +11,7 @@ use Rattle.mail_store.specs.Opening.{BeginsJournal, HasRecords, HasNoRecord, IsB
 use Rattle.journal_records.proofs.FrameLemmas.{list_no_prefix}
 use Rattle.journal_records.proofs.RecordLaws.{record_once}
 
--- the text of the first record, and what is behind it
+-- the text of the first record, and what is after it
 pub first_of : (x : Record) (a : List Record) (rest : List ℕ) → flat_map record_text (x ∷ a) ++ rest ≡ record_text x ++ (flat_map record_text a ++ rest)
 first_of x a rest = ap (λ (l : List ℕ). l ++ rest) (flat_map-cons record_text x a) ∙ append_assoc (record_text x) (flat_map record_text a) rest
 

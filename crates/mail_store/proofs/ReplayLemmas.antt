@@ -48,7 +48,7 @@ whole_journal all records = inr ([], record { text = sym (append-nil (journal al
 eqb_zero : (n : ℕ) → 8 ≤ n → eqb n 0 ≡ false
 eqb_zero n long = ne_eqb n 0 (λ (e : n ≡ 0). absurd (omega (arith, e, long)))
 
--- the octets behind one more record
+-- the octets after one more record
 text_next : (octets fields : List ℕ) (at n : ℕ) → IsWhole n (drop at octets) → fields ≡ fields_at octets at n → drop at octets ≡ octet_list fields ++ drop (at + (4 + n)) octets
 text_next octets fields at n w f =
     let place : at + 4 + n ≡ at + (4 + n) = omega arith in
@@ -113,7 +113,7 @@ told_fault told n store faults.Memory w f = tt
 told_fault None n store (faults.BadJournal place) w f = tt
 told_fault (Some octets) n store (faults.BadJournal place) w f = bad_fields octets n store place f.0 w f.1
 
--- ---- records behind those that were read
+-- ---- records after those that were read
 
 -- the store goes on having the records that the octets begin with
 pub HasReadFirst-on : (octets : List ℕ) (old new : StoreState) (all : List Record) → HasReadFirst old octets all → (r : IsReadTo (Some octets) old new) → HasReadFirst new octets (all ++ r.more)
@@ -136,7 +136,7 @@ HasReadFirst-on octets old new all h r = record {
 rest_of : (octets : List ℕ) (store : StoreState) (all : List Record) → (h : HasReadFirst store octets all) → h.rest ≡ drop store.end octets
 rest_of octets store all h = sym (ap₂ (λ (n : ℕ) (l : List ℕ). drop n l) h.end_is h.begins.text ∙ drop_at (journal all) h.rest (length (journal all)) refl)
 
--- its records are the whole ones, where what is behind them is cut short
+-- its records are the whole ones, where what is after them is cut short
 pub HasReadFirst-whole : (octets : List ℕ) (store : StoreState) (all : List Record) → HasReadFirst store octets all → IsCutShort (drop store.end octets) → HasRecords octets all
 HasReadFirst-whole octets store all h cut = inr (h.rest, h.begins, subst IsCutShort (sym (rest_of octets store all h)) cut)
 

@@ -1,4 +1,4 @@
--- What catching up does: the records that stand in a keeper behind those that a store has.
+-- What catching up does: the records that stand in a keeper after those that a store has.
 use Rattle.std.specs.Prelude.{◌≡◌, ◌⊎◌, ℕ, ◌<◌, ◌≤◌, List, ◌++◌, length, take, drop, Option, Some, IfSome}
 use Rattle.std.specs.List.{flat_map}
 use Rattle.journal_records.specs.declared.records.Record.{Record}
@@ -19,7 +19,7 @@ pub record HasReadFirst (store : StoreState) (octets : List ℕ) (all : List Rec
   pub kept_is : store.kept ≡ store_of all
   pub end_is : store.end ≡ length (journal all)
 
--- These records were put last, each read once: they are what stands in the octets behind the records that the store had, up to
+-- These records were put last, each read once: they are what stands in the octets after the records that the store had, up to
 -- where its journal ends now. All else of the store is as before, but whether it is marked as failed.
 pub record ReadsOn (told : Option (List ℕ)) (old new : StoreState) : Type 0 where
   pub more : List Record

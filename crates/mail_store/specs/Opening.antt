@@ -1,4 +1,4 @@
--- The whole records of a keeper's octets, what is cut behind them, and where a journal is bad.
+-- The whole records of a keeper's octets, what is cut after them, and where a journal is bad.
 use Rattle.std.specs.Prelude.{◌≡◌, ◌≢◌, ◌⊎◌, ℕ, List, [], ◌++◌, length}
 use Rattle.journal_records.specs.declared.records.Record.{Record}
 use Rattle.kept_mail.specs.Kept.{Kept, nothing, store_of}

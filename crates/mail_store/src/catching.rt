@@ -9,7 +9,7 @@ use crate::storing::Store;
 use mail_wire::Keeper;
 use std::alloc::Global;
 
-// Cuts off what stands behind a place.
+// Cuts off what stands after a place.
 fn cut_after<J: Keeper>(keeper: &mut J, had: u64, end: u64) -> Result<(), OpenFault>
     requires had { IfSome (J.observed keeper.old).octets (λ octets. had ≡ length octets) }
     requires within { end ≤ had }
@@ -26,7 +26,7 @@ fn cut_after<J: Keeper>(keeper: &mut J, had: u64, end: u64) -> Result<(), OpenFa
     Ok(())
 }
 
-// Puts the records last that stand behind those that the store has, and cuts off a prefix of one behind them.
+// Puts the records last that stand after those that the store has, and cuts off a prefix of one after them.
 fn read_after<J: Keeper>(alloc: Global, keeper: &mut J, store: &mut Store) -> Result<(), OpenFault>
     ensures reads { IsReadTo (J.observed keeper.old).octets store.old store.new }
     ensures catches { OnOk result (IfSome (J.observed keeper.old).octets (λ old. CatchesUp store.old old (J.observed keeper.new).octets store.new.kept)) }
@@ -48,7 +48,7 @@ fn read_after<J: Keeper>(alloc: Global, keeper: &mut J, store: &mut Store) -> Re
 }
 
 impl Store {
-    /// Puts the records last that others wrote to the keeper behind those that the store has. A prefix of a record at its end is
+    /// Puts the records last that others wrote to the keeper after those that the store has. A prefix of a record at its end is
     /// cut off. Where this is refused, the store has the records before the fault and is marked as failed: it isn't to be
     /// changed before it has caught up, which goes on where it stopped.
     pub fn catch_up<J: Keeper>(&mut self, keeper: &mut J) -> Result<(), OpenFault>

@@ -53,7 +53,7 @@ pub fn uids_stay()
     ensures next { (kept : Kept) (more : List Record) (folder : ℕ) → uid_next kept folder ≤ uid_next (after_all kept more) folder }
 {}
 
-/// A store that was opened or changed has what its keeper begins with, whatever others put behind that, and also where the keeper
+/// A store that was opened or changed has what its keeper begins with, whatever others put after that, and also where the keeper
 /// failed in a change: so it catches up with the whole records that are there.
 pub fn stores_catch_up()
     ensures changed { (old new : StoreState) (had has : Option (List ℕ)) (all more : List Record) → old.end ≡ length (journal all)

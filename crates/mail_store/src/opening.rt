@@ -99,7 +99,7 @@ fn add_at<J: Keeper>(
     }
 }
 
-/// Puts the records last, one after the other, that stand behind those that the store has.
+/// Puts the records last, one after the other, that stand after those that the store has.
 pub(crate) fn read_on<J: Keeper>(
     alloc: Global,
     keeper: &mut J,
@@ -185,7 +185,7 @@ fn read_all<J: Keeper>(
     }
 }
 
-// Cuts what is behind the records, or begins the journal.
+// Cuts what is after the records, or begins the journal.
 fn repair<J: Keeper>(keeper: &mut J, had: u64, end: u64) -> Result<(), OpenFault>
     requires had { IfSome (J.observed keeper.old).octets (λ octets. had ≡ length octets) }
     requires within { end ≤ had }

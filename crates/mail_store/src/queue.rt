@@ -81,7 +81,7 @@ pub fn open_next(
     Ok(())
 }
 
-/// Takes the count of a parcel's entry back, which wasn't written.
+/// Takes the count of a batch's entry back, which wasn't written.
 pub fn close_next(counts: &mut BTreeMap<u32, usize>, entries: &[Entry], batch: Batch)
     requires counts { counts.old.entries ≡ open_counts entries.now ++ opened (length entries.now) batch.waiting.entry }
     requires few { length entries.now ≤ THINGS_MAX }

@@ -23,7 +23,7 @@ pub struct Progress {
     pub failed: bool,
 }
 
-// Where a journal ends behind these parts. One of 2^64 octets wants more memory than there is.
+// Where a journal ends after these parts. One of 2^64 octets wants more memory than there is.
 fn end_following(end: u64, parts: &[&[u8]]) -> Result<u64, OutOfMemory>
     ensures { IfOk result (λ last. last ≡ end + length (flat_map (λ part. part.now) parts.now)) }
 {

@@ -5,7 +5,7 @@ use Rattle.std.proofs.lemmas.Bool.{and_from, and_parts}
 use Rattle.std.proofs.lemmas.List.{take-append-drop}
 use Rattle.std.proofs.lemmas.List.Folds.{list_all-append}
 
--- the same of two lists, one behind the other
+-- the same of two lists, one after the other
 pub all-append : {P : Type 0} (Fits : P → Type 0) (xs ys : List P) → AllByRecursion Fits xs → AllByRecursion Fits ys → AllByRecursion Fits (xs ++ ys)
 all-append Fits [] ys first second = second
 all-append Fits (x ∷ xs) ys first second = (first.0, all-append Fits xs ys first.1 second)
@@ -22,7 +22,7 @@ all-back Fits (x ∷ xs) ys all = all-back Fits xs ys all.1
 
 -- ---- elements that pass a test
 
--- two lists, one behind the other
+-- two lists, one after the other
 pub pass-append : {X : Type 0} (test : X → Bool) (xs ys : List X) → list_all test xs ≡ true → list_all test ys ≡ true → list_all test (xs ++ ys) ≡ true
 pass-append test xs ys first second = list_all-append test xs ys ∙ and_from (list_all test xs) (list_all test ys) first second
 

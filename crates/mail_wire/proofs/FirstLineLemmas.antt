@@ -112,13 +112,13 @@ first_line-across (x ∷ z ∷ xs) ys none across =
     first_line-other x z (xs ++ ys) parts.0
     ∙ ap (option_map (begun_with x)) (first_line-across (z ∷ xs) ys parts.1 across)
 
--- a line is cut the same with more octets behind
+-- a line is cut the same with more octets after
 pub record IsCut (octets : List ℕ) (cut : Cut) : Type 0 where
   pub parts : octets ≡ cut.line ++ cut.rest
   pub some : 2 ≤ length cut.line
   pub longer : (more : List ℕ) → first_line (octets ++ more) ≡ Some (record { line = cut.line; rest = cut.rest ++ more })
 
--- a cut behind one octet
+-- a cut after one octet
 pub unput : (x : ℕ) (cut : Cut) (found : Option Cut) → option_map (begun_with x) found ≡ Some cut
     → (next : Cut) × (found ≡ Some next) × (cut ≡ record { line = x ∷ next.line; rest = next.rest })
 unput x cut None h = cc

@@ -1,4 +1,4 @@
--- What octets begin with doesn't change with more octets behind.
+-- What octets begin with doesn't change with more octets after.
 use Rattle.std.proofs.Common.{◌≡◌, ℕ, ◌+◌, ◌<◌, ◌≤◌, List, [], ◌∷◌, ◌++◌, length, drop, Bool, true, false, arith, refl, sym, ap, ◌∙◌, subst, Some, None, Option, length-append, length-drop}
 use Rattle.std.specs.Prelude.{nat_le}
 use Rattle.std.specs.Option.{option_map}
@@ -33,7 +33,7 @@ below_of n m h = grind (arith, nat_tests)
 pub at_most_of : (n m : ℕ) → nat_le n m ≡ true → n ≤ m
 at_most_of n m h = grind (arith, nat_tests)
 
--- a line that ends only behind these octets is longer than they are
+-- a line that ends only after these octets is longer than they are
 mapped : (xs ys : List ℕ) (cut : Cut) (found : Option Cut) → first_line ys ≡ found → option_map (put xs) found ≡ Some cut → length xs < length cut.line
 mapped xs ys cut None is h = cc
 mapped xs ys cut (Some next) is h =

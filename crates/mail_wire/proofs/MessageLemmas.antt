@@ -27,7 +27,7 @@ faulty_stops octets at (inl nul) = rw (get_or_from_slice_get octets at 0 0 nul) 
 faulty_stops octets at (inr (inl cr)) = rw (get_or_from_slice_get octets at 13 0 cr.0) refl
 faulty_stops octets at (inr (inr lf)) = rw (get_or_from_slice_get octets at 10 0 lf.0) refl
 
--- a place behind others
+-- a place after others
 pub slice_get-drop : (n : ℕ) (octets : List ℕ) (k i : ℕ) → n + k ≡ i → slice_get (drop n octets) k ≡ slice_get octets i
 slice_get-drop zero octets k i at = let same : k ≡ i = omega arith in ap (λ place. slice_get octets place) same
 slice_get-drop (suc n) [] k i at = refl

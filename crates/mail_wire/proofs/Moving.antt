@@ -87,7 +87,7 @@ Gives-prefix a b c xs ys first second = record {
   gives = Gives-trans a b c xs second.given first second.gives;
 }
 
--- a prefix of octets is one of those octets with more behind them
+-- a prefix of octets is one of those octets with more after them
 pub GivesPrefix-more : (a b : WireState) (xs ys : List ℕ) → GivesPrefix a b xs → GivesPrefix a b (xs ++ ys)
 GivesPrefix-more a b xs ys first = record {
   given = first.given;

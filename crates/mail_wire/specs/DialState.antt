@@ -25,7 +25,7 @@ pub record IsDialled (dial : DialState) (wire : WireState) : Type 0 where
   pub nothing_yet : IfSome wire.transcript (λ entries. entries ≡ [])
   pub sure : IsTrue dial.server_never_fails → IsTrue wire.never_fails
 
--- the hosts that a dial was asked for, where they are told, and this one behind them
+-- the hosts that a dial was asked for, where they are told, and this one after them
 abbrev pub with_host : Option (List (List ℕ)) → List ℕ → Option (List (List ℕ))
 with_host asked host = option_map (λ hosts. hosts ++ host ∷ []) asked
 

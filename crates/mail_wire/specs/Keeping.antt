@@ -13,7 +13,7 @@ TellsLen kept result = IfOk result (λ n. IfSome kept (λ octets. n ≡ length o
 abbrev pub FillsFrom : {T : Type 0} → Option (List ℕ) → ℕ → Result T Failed → List ℕ → Type 0
 FillsFrom kept at result into = OnOk result (IfSome kept (λ octets. into ≡ take (length into) (drop at octets)))
 
--- the octets, where they are told, with more behind them
+-- the octets, where they are told, with more after them
 abbrev pub with_last : Option (List ℕ) → List ℕ → Option (List ℕ)
 with_last kept more = option_map (λ octets. octets ++ more) kept
 

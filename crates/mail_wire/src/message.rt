@@ -23,7 +23,7 @@ fn has_sound_ends(octets: &[u8]) -> bool
     !matches!(octets, [0 | b'\n', ..] | [.., b'\r'])
 }
 
-// Whether each octet and the one behind it are a sound pair.
+// Whether each octet and the one after it are a sound pair.
 fn are_pairs_sound(octets: &[u8]) -> bool
     ensures { IsTrue result ↔ ArePairsBelow octets.now (length octets.now) }
 {

@@ -16,7 +16,7 @@ use Rattle.mime_tree.specs.Tree.{IsWithInner, EntityRelation, AreParts, IsDivide
 use Rattle.mime_tree.proofs.Regions.{size-append}
 use Rattle.mime_tree.proofs.PartLemmas.{parts_of-delimiter, parts_of-on, parts_on-close, parts_on-delimiter, parts_on-on}
 
--- the lines, and an empty one behind them
+-- the lines, and an empty one after them
 abbrev pub with_empty : List (List ℕ) → List (List ℕ)
 with_empty lines = lines ++ [] ∷ []
 

@@ -74,7 +74,7 @@ sound_text text sound at (inr (inr lf)) = sound at (inr (inr (in_front text crlf
         let less = inside text at 10 lf.0 in
         let place = back.place in omega arith
 
--- a sound text is sound with a CRLF behind it
+-- a sound text is sound with a CRLF after it
 pub sound_ended : (text : List ℕ) → IsSound text → IsSound (text ++ crlf)
 sound_ended text sound at (inl nul) = elim (front_or_back text crlf at 0 nul) [ inl front ↦ sound at (inl front) | inr back ↦ no_nul back.k back.is ]
 sound_ended text sound at (inr (inl cr)) = go (front_or_back text crlf at 13 cr.0)
@@ -116,7 +116,7 @@ text_never (x ∷ y ∷ z ∷ rest) once =
 no_cr_pair : (x : ℕ) → is_crlf x 13 ≡ false
 no_cr_pair x = and_right (x == 13) (13 == 10) refl
 
--- a text with CRLF behind it
+-- a text with CRLF after it
 pub text_of-never : (text : List ℕ) → NeverEnds text → text_of (text ++ crlf) ≡ text
 text_of-never [] never = text_of-crlf 13 10 [] refl
 text_of-never (x ∷ []) never = text_of-other x 13 (10 ∷ []) (no_cr_pair x) ∙ ap (λ more. x ∷ more) (text_of-crlf 13 10 [] refl)
@@ -159,7 +159,7 @@ filled_or ((x ∷ line) ∷ rest) are = elim are.0 [ inl once ↦ on once (fille
     on once (inl filled) = inl (λ none. cc none, filled)
     on once (inr empty) = inr (record { front = (x ∷ line) ∷ empty.front; whole = ap (λ more. (x ∷ line) ∷ more) empty.whole; ended = (once, empty.ended) })
 
--- what stands between a part and the mark behind it, by the lines that have passed
+-- what stands between a part and the mark after it, by the lines that have passed
 abbrev pub gap_of : List (List ℕ) → List ℕ
 gap_of [] = []
 gap_of (line ∷ lines) = crlf

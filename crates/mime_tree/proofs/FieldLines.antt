@@ -23,7 +23,7 @@ use Rattle.utf8_fields.proofs.HaveParts.{white_is_text, name_is_text, name_octet
 use Rattle.encoded_words.proofs.WritableUnits.{ends_ascii, one_ascii, BothUtf8}
 use Rattle.mime_tree.proofs.Standing.{AreEnded}
 
--- Text, and CRLF behind it. The last line lacks it where the ending of all is empty.
+-- Text, and CRLF after it. The last line lacks it where the ending of all is empty.
 pub record IsTextOf (ending line : List ℕ) (after : List (List ℕ)) : Type 0 where
   pub text : List ℕ
   pub closing : List ℕ

@@ -47,12 +47,12 @@ fields_within octets lines at (field ∷ fields) end is are =
     All-cons (IsFieldWithin octets) field fields (field_within octets at field are.0 are.1 (lines_front octets at (are.0 ∷ are.1) are.2 all) are.4)
     (fields_within octets are.2 (at + field.raw.len) fields end following are.5)
 
--- the fields of lines stand one behind another
+-- the fields of lines stand one after another
 fields_joined : (lines : List (List ℕ)) (at : ℕ) (fields : List Field) (end : ℕ) → AreFields lines at fields end → AreFieldsJoined at fields end
 fields_joined lines at [] end are = are.1
 fields_joined lines at (field ∷ fields) end are = (are.4.raw_at, fields_joined are.2 (at + field.raw.len) fields end are.5)
 
--- the lines behind the first one of these, if there is one
+-- the lines after the first one of these, if there is one
 after_one : (octets : List ℕ) (at : ℕ) (lines : List (List ℕ)) → AreLinesAt octets at lines → AreLinesAt octets (at + size (take 1 lines)) (drop 1 lines)
 after_one octets at lines is = lines_back octets at (take 1 lines) (drop 1 lines) (subst (AreLinesAt octets at) (sym (take-append-drop 1 lines)) is)
 

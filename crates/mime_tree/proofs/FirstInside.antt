@@ -205,7 +205,7 @@ delimiter_lines b (x ∷ rest) back more mark (inr never) none =
     let nothing = none never.1 never.0 in
     ap (λ text. lines_of (x ∷ rest ++ text)) nothing ∙ ap lines_of (append-nil (x ∷ rest)) ∙ lines_of-never x rest never.0 ∙ ap (λ text. (x ∷ rest) ∷ lines_of text) (sym nothing)
 
--- nothing is made of what is behind a delimiter that is all
+-- nothing is made of what is after a delimiter that is all
 nothing_following : (IsMade : FieldRelation) (levels : ℕ) (octets b : List ℕ) (digest : Bool) (number at : ℕ) (shape : Shape) (inner : List Entity) (made : List ℕ)
     → IsDivided (IsEntity levels octets) digest number (parts_on b at [] []) shape inner → RewritesBlocks IsMade octets at at inner made → made ≡ []
 unfolding parts_on MakesNothing

@@ -67,7 +67,7 @@ front_fields at (raw ∷ raws) all =
           ap (λ text. text ∷ map (raw_of octets) later.fields) first ∙ ap (λ all. raw ∷ all) rest;
     }
 
--- A message with a tree has one too behind such fields.
+-- A message with a tree has one too after such fields.
 pub front_tree : (octets : List ℕ) (fields : List (List ℕ)) (entities : List Entity) → HasTree octets entities → AllByRecursion IsOtherField fields
     → (others : List Entity) × HasTree (concat fields ++ octets) others × (length others ≡ length entities)
 front_tree octets fields entities tree are_others =

@@ -1,4 +1,4 @@
--- One part, written anew, and the CRLF that stands between it and the mark behind it.
+-- One part, written anew, and the CRLF that stands between it and the mark after it.
 use Rattle.std.proofs.Common.{◌≡◌, ℕ, ◌+◌, ◌⊎◌, inl, inr, List, [], ◌∷◌, ◌++◌, length, Bool, arith, refl, sym, ap, ◌∙◌, Option, append-nil, append_assoc, length-append}
 use Rattle.std.specs.List.{AllByRecursion, concat}
 use Rattle.std.proofs.lemmas.List.Folds.{concat-append}
@@ -104,7 +104,7 @@ full_by IsMade levels octets new parent digest number at (line ∷ lines) entiti
       same = part.has.same;
     }
 
--- What was made of a part, of the mark behind it and of what follows.
+-- What was made of a part, of the mark after it and of what follows.
 pub record HasFirst (IsMade : FieldRelation) (levels : ℕ) (octets : List ℕ) (parent : Option ℕ) (digest : Bool) (number at : ℕ) (passed : List (List ℕ)) (line : List ℕ) (rest : List (List ℕ)) (first more : List Entity) (new : List ℕ)
     (new_at : ℕ) (made : List ℕ) : Type 0 where
   pub first_made : List ℕ
@@ -120,7 +120,7 @@ pub record HasFirst (IsMade : FieldRelation) (levels : ℕ) (octets : List ℕ) 
   pub new_sum : new_at + length first_made + length (gap_of passed ++ line) ≡ new_at + size full.full + length line
   pub made_sum : new_at + size full.full + length line + length following ≡ new_at + length made
 
--- what was made of the first entities, of the text behind them and of the further entities
+-- what was made of the first entities, of the text after them and of the further entities
 record HasCut (IsMade : FieldRelation) (octets : List ℕ) (at middle next to : ℕ) (first more : List Entity) (text made : List ℕ) : Type 0 where
   pub first_made : List ℕ
   pub following : List ℕ
@@ -144,7 +144,7 @@ is_cut IsMade octets at middle next to first more text made order next_order sta
           rewritten = copied.rewritten;
         }
 
--- the octets of a part, of what stands behind it, of the mark and of what follows
+-- the octets of a part, of what stands after it, of the mark and of what follows
 marked_text : (passed : List (List ℕ)) (line : List ℕ) (rest : List (List ℕ)) → AreEnded passed → concat (passed ++ line ∷ rest) ≡ concat (cut_last passed) ++ ((gap_of passed ++ line) ++ concat rest)
 marked_text passed line rest ended =
     concat-append passed (line ∷ rest) ∙ ap (λ front. front ++ (line ++ concat rest)) (cut_concat passed ended) ∙ append_assoc (concat (cut_last passed)) (gap_of passed) (line ++ concat rest)
@@ -203,7 +203,7 @@ pub record HasTidyLines (IsMade : FieldRelation) (octets : List ℕ) (at : ℕ) 
   pub has : HasNewLines IsMade octets at lines entities new new_at made Holds
   pub none : lines ≡ [] → has.new_lines ≡ []
 
--- a line that is copied, and the new lines behind it
+-- a line that is copied, and the new lines after it
 pub line_on : (line : List ℕ) (rest others : List (List ℕ)) → AreLines (line ∷ rest) → AreLines others → (rest ≡ [] → others ≡ []) → AreLines (line ∷ others)
 line_on line rest others are new_are none = (elim are.0 [ inl once ↦ inl once | inr never ↦ inr (never.0, none never.1) ], new_are)
 
@@ -211,7 +211,7 @@ pub no_lines : (lines : List (List ℕ)) (line : List ℕ) (rest : List (List �
 no_lines [] line rest none = cc none
 no_lines (first ∷ lines) line rest none = cc none
 
--- A part, the mark behind it and what follows are put together.
+-- A part, the mark after it and what follows are put together.
 pub joined : (IsMade : FieldRelation) (levels : ℕ) (octets new : List ℕ) (parent : Option ℕ) (digest : Bool) (number at : ℕ) (passed : List (List ℕ)) (line : List ℕ) (rest : List (List ℕ)) (first more : List Entity) (made : List ℕ)
     (new_at : ℕ) (HoldsAfter Holds : List (List ℕ) → List Entity → Type 0) → AreLines (passed ++ line ∷ rest)
     → (has : HasFirst IsMade levels octets parent digest number at passed line rest first more new new_at made)

@@ -184,7 +184,7 @@ pub in_order : (levels : ℕ) (octets : List ℕ) (parent : Option ℕ) (digest 
 unfolding PutsInOrder
 in_order levels octets = puts_in_order levels octets
 
--- what stands before a place and what stands behind it
+-- what stands before a place and what stands after it
 pub split_blocks : (IsMade : FieldRelation) (octets : List ℕ) (from middle to : ℕ) (entities more : List Entity) (made : List ℕ) → AreInOrder from middle entities → AreInOrder middle to more
     → RewritesBlocks IsMade octets from to (entities ++ more) made
     → (first : List ℕ) × (rest : List ℕ) × (made ≡ first ++ rest) × RewritesBlocks IsMade octets from middle entities first × RewritesBlocks IsMade octets middle to more rest

@@ -23,7 +23,7 @@ use Rattle.mime_tree.proofs.EmptyLast.{parts_on-end, parts_on-some}
 use Rattle.mime_tree.proofs.LinesAgain.{AreEnded-front}
 use Rattle.mime_tree.proofs.NextParts.{no_parts}
 
--- a text stands where its front stands, and its back behind that
+-- a text stands where its front stands, and its back after that
 pub stands_front : (octets : List ℕ) (at : ℕ) (a b : List ℕ) → Stands octets at (a ++ b) → Stands octets at a
 stands_front octets at a b is =
     record { before = is.before; after = b ++ is.after; whole = is.whole ∙ ap (λ text. is.before ++ text) (append_assoc a b is.after); place = is.place }
@@ -57,7 +57,7 @@ place_append : (to : ℕ) (entities more : List Entity) → next_entity_place to
 place_append to [] more = refl
 place_append to (entity ∷ entities) more = refl
 
--- places behind a block are so before further entities
+-- places after a block are so before further entities
 after_append : (to place : ℕ) (entities more : List Entity) (made_place : ℕ) (others again : List Entity) → AreAfter (next_entity_place to more) place entities made_place others
     → AreAfter to place (entities ++ more) made_place (others ++ again)
 after_append to place [] more made_place others again are = absurd are

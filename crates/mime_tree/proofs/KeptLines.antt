@@ -176,7 +176,7 @@ kept_lines at field first more new_at raw made is are whole keeps no_nul = by ke
           );
         }
 
--- a text behind another one
+-- a text after another one
 stands_on : (octets : List ℕ) (at : ℕ) (a b : List ℕ) (n : ℕ) → Stands octets at (a ++ b) → n ≡ length a → Stands octets (at + n) b
 stands_on octets at a b n stands len =
     let place = stands.place in

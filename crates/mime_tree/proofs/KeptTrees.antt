@@ -192,7 +192,7 @@ trees_are_kept IsMade octets made entities keeps tree rewrites =
           (tree_begins made got.others (length made) made_tree ∙ sym (tree_begins octets entities (length octets) tree)) kept,
     )
 
--- a message behind fields that say nothing of how it is opened
+-- a message after fields that say nothing of how it is opened
 pub fields_before : (octets : List ℕ) (fields : List (List ℕ)) (entities : List Entity) → HasTree octets entities → All IsOtherField fields → (others : List Entity) × HasTree (concat fields ++ octets) others
 fields_before octets fields entities tree others =
     let found = front_tree octets fields entities tree (recursion_from_All IsOtherField fields others) in

@@ -23,13 +23,13 @@ lines_front octets at lines others is =
     let stand : Stands octets at (concat lines ++ concat others) = rw (concat-append lines others) at is.stand in
     record { are = AreLines-front lines others is.are; stand = stands_front octets at (concat lines) (concat others) stand }
 
--- and the ones behind them stand behind
+-- and the ones after them stand after
 pub lines_back : (octets : List ℕ) (at : ℕ) (lines others : List (List ℕ)) → AreLinesAt octets at (lines ++ others) → AreLinesAt octets (at + size lines) others
 lines_back octets at lines others is =
     let stand : Stands octets at (concat lines ++ concat others) = rw (concat-append lines others) at is.stand in
     record { are = AreLines-back lines others is.are; stand = stands_back octets at (at + size lines) (concat lines) (concat others) refl stand }
 
--- the lines behind the first one
+-- the lines after the first one
 pub lines_tail : (octets : List ℕ) (at : ℕ) (line : List ℕ) (rest : List (List ℕ)) → AreLinesAt octets at (line ∷ rest) → AreLinesAt octets (at + length line) rest
 lines_tail octets at line rest is = record { are = is.are.1; stand = stands_back octets at (at + length line) line (concat rest) refl is.stand }
 

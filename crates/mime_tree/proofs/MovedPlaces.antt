@@ -24,7 +24,7 @@ joined_size octets at (field ∷ fields) end within joined =
     let size = slice_length octets field.raw.at (field.raw.at + field.raw.len) (omega arith) fits in
     omega (arith, later, size, length-append (raw_of octets field) (concat (map (raw_of octets) fields)))
 
--- A block and the made one begin as far behind the places as each other, and end behind their fields. Where the one has no octet the other has none.
+-- A block and the made one begin as far after the places as each other, and end after their fields. Where the one has no octet the other has none.
 pub record IsMoving (octets : List ℕ) (from : ℕ) (entity : Entity) (made : List ℕ) (made_from : ℕ) (other : Entity) : Type 0 where
   pub low : from ≤ entity.at
   pub gap : other.at + from ≡ entity.at + made_from
@@ -38,7 +38,7 @@ AreMoving octets from [] made made_from (other ∷ others) = ⊥
 AreMoving octets from (entity ∷ entities) made made_from [] = ⊥
 AreMoving octets from (entity ∷ entities) made made_from (other ∷ others) = IsMoving octets from entity made made_from other × AreMoving octets entity.block.end entities made other.block.end others
 
--- The made place is as far behind as the place is, and by what the blocks before it have more.
+-- The made place is as far after as the place is, and by what the blocks before it have more.
 abbrev pub Meets : List ℕ → ℕ → List Entity → List ℕ → ℕ → List Entity → ℕ → ℕ → Type 0
 Meets octets from entities made made_from others place made_place =
     made_place + sizes_before entities (blocks_of octets entities) place + from ≡ place + sizes_before entities (blocks_of made others) place + made_from
@@ -78,7 +78,7 @@ none_yet octets from (entity ∷ entities) made made_from (other ∷ others) pla
       new = omega (arith, rest.new, uncounted entity (raws_of made other.block) place (λ past. are.0.none (empty past)));
     }
 
--- none behind a place that the next entity isn't before
+-- none after a place that the next entity isn't before
 none_following : (octets : List ℕ) (from to : ℕ) (entities : List Entity) (made : List ℕ) (made_from : ℕ) (others : List Entity) (place : ℕ) → AreMoving octets from entities made made_from others
     → place ≤ next_entity_place to entities → CountsNone octets entities made others place
 none_following octets from to [] made made_from [] place are less = record { old = refl; new = refl }
@@ -95,7 +95,7 @@ record IsMet (octets : List ℕ) (from : ℕ) (entities : List Entity) (made : L
   low : from ≤ place
   meets : Meets octets from entities made made_from others place made_place
 
--- what is met behind a block is met before it
+-- what is met after a block is met before it
 met_before : (octets : List ℕ) (from : ℕ) (entity : Entity) (entities : List Entity) (made : List ℕ) (made_from : ℕ) (other : Entity) (others : List Entity) (place made_place : ℕ)
     → IsMoving octets from entity made made_from other → IsMet octets entity.block.end entities made other.block.end others place made_place
     → IsMet octets from (entity ∷ entities) made made_from (other ∷ others) place made_place

@@ -1,4 +1,4 @@
--- The same lines at another place, and behind further fields, have a tree of the same number of entities.
+-- The same lines at another place, and after further fields, have a tree of the same number of entities.
 use Rattle.std.proofs.Common.{◌≡◌, ℕ, suc, zero, ◌+◌, List, [], ◌∷◌, ◌++◌, Bool, true, false, length, take, drop, map, Option, Some, inl, inr, refl, sym, ap, ◌∙◌, subst, append_assoc, append-nil, length-append}
 use Rattle.std.specs.Prelude.{codes}
 use Rattle.std.specs.List.{AllByRecursion, concat}
@@ -218,7 +218,7 @@ content_stands octets at header rest stands =
     let back = subst (Stands octets (at + size header)) (rest-split rest) (Stands-back octets at (concat header) (concat rest) stands) in
     Stands-back octets (at + size header) (concat (take 1 rest)) (concat (drop 1 rest)) back
 
--- an entity at another place, behind further fields
+-- an entity at another place, after further fields
 record HasMovedEntity (octets new : List ℕ) (parent : Option ℕ) (depth new_at : ℕ) (lines : List (List ℕ)) (fields : List Field) (entity : Entity) (content : List (List ℕ)) : Type 0 where
   other : Entity
   alone : IsAlone parent depth new_at lines other content
@@ -272,7 +272,7 @@ moved_with octets new parent depth at lines entities is front fields middle new_
       new_stands = subst (λ content. Stands new (moved.end + size (take 1 rest)) (concat content)) (sym head.content_is) new_content;
     }
 
--- a value is looked for behind fields of other names
+-- a value is looked for after fields of other names
 IsNamedOther : List ℕ → List ℕ → Type 0
 IsNamedOther name raw = (f : FieldParts) × HasParts raw f × (same_name f.name name ≡ false)
 
@@ -299,7 +299,7 @@ no_encoding_named raw is = (is.f, is.is_field, is.no_encoding)
 by_fields_after : (digest : Bool) (front raws : List (List ℕ)) (opening : Opening) → AllByRecursion IsOtherField front → OpensByFields digest raws opening → OpensByFields digest (front ++ raws) opening
 by_fields_after digest front raws opening others is = (is.0, value_after (codes "Content-Type") front raws is.0 (all_named (codes "Content-Type") no_type_named front others) is.1, is.2)
 
--- an entity is opened so behind fields of other names too
+-- an entity is opened so after fields of other names too
 opens_after : (digest : Bool) (front raws : List (List ℕ)) (opening : Opening) → AllByRecursion IsOtherField front → Opens digest raws opening → Opens digest (front ++ raws) opening
 opens_after digest front raws opening others is = record {
   encoding = is.encoding;
@@ -314,7 +314,7 @@ opened_there : (levels : ℕ) (new : List ℕ) (opening : Opening) (number body 
     → IsOpened (IsEntity levels new) opening number body content shape inner → IsOpened (IsEntity levels new) opening number body content same inner
 opened_there levels new opening number body content shape same inner shape_is is = rw shape_is is
 
--- an entity, behind further fields at another place
+-- an entity, after further fields at another place
 pub front_entity : (levels : ℕ) (octets new : List ℕ) (front : List (List ℕ)) (fields : List Field) (middle : ℕ) (parent : Option ℕ) (digest : Bool) (number at new_at : ℕ) (lines : List (List ℕ)) (entities : List Entity)
     → AreFields front new_at fields middle → AllByRecursion IsOtherField (map (raw_of new) fields) → IsEntity levels octets parent digest number at lines entities → Stands octets at (concat lines) → Stands new middle (concat lines)
     → HasMoved (IsEntity levels new) parent digest number new_at (front ++ lines) entities

@@ -26,7 +26,7 @@ use Rattle.mime_tree.proofs.LinesAgain.{AreEnded-front, AreLines-ended, Stands-f
 use Rattle.mime_tree.proofs.InPlace.{slice_none, order_from}
 use Rattle.mime_tree.proofs.FieldsWithin.{stands_within}
 
--- the lines behind a header, with another content
+-- the lines after a header, with another content
 pub new_rest : List (List ℕ) → List (List ℕ) → List (List ℕ)
 new_rest [] content = []
 new_rest (line ∷ rest) content = line ∷ content
@@ -232,7 +232,7 @@ next_after : (from to : ℕ) (entities : List Entity) → AreInOrder from to ent
 next_after from to [] order = order
 next_after from to (entity ∷ entities) order = order.0
 
--- what stands behind a block, up to the next entity
+-- what stands after a block, up to the next entity
 following_by : (octets new : List ℕ) (end body next new_end new_body new_next : ℕ) → end ≤ body → body ≤ next → new_end ≤ new_body → new_body ≤ new_next
     → slice_range new new_end new_body ≡ slice_range octets end body → slice_range new new_body new_next ≡ slice_range octets body next → slice_range new new_end new_next ≡ slice_range octets end next
 following_by octets new end body next new_end new_body new_next a b c d first second =
@@ -253,7 +253,7 @@ leaf_by IsMade octets new body to new_body new_to (entity ∷ inner) others none
 pub slice_length : (octets : List ℕ) (from to : ℕ) → from ≤ to → to ≤ length octets → length (slice_range octets from to) ≡ to - from
 slice_length octets from to order fits = length-take-le (to - from) (drop from octets) (omega (arith, length-drop from octets))
 
--- where all ends both are as far behind the last blocks
+-- where all ends both are as far after the last blocks
 after_last : (IsMade : FieldRelation) (octets : List ℕ) (to : ℕ) (entity : Entity) (inner : List Entity) (new : List ℕ) (new_to : ℕ) (other : Entity) (others : List Entity) → to ≤ length octets → new_to ≤ length new
     → AreInOrder entity.block.end to inner → AreInOrder other.block.end new_to others → slice_range new other.block.end (next_entity_place new_to others) ≡ slice_range octets entity.block.end (next_entity_place to inner)
     → AreKept IsMade octets to inner new new_to others → AreAfter to to (entity ∷ inner) new_to (other ∷ others)

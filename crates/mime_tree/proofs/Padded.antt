@@ -67,7 +67,7 @@ pub mark_by-steps : (boundary text : List ℕ) (s t w u v : Bool) → starts_wit
     → starts_with nat_eq (drop (length boundary) (drop 2 text)) dashes ≡ u → list_all is_white (drop 2 (drop (length boundary) (drop 2 text))) ≡ v → mark_by boundary text ≡ steps s t w u v
 mark_by-steps boundary text s t w u v s_is t_is w_is u_is v_is = rw (delimiter_steps boundary text, close_steps boundary text, s_is, t_is, w_is, u_is, v_is) refl
 
--- what the reader has found of a text: what stands behind the hyphens, and behind the boundary
+-- what the reader has found of a text: what stands after the hyphens, and after the boundary
 pub record HasTail (boundary text dashed tail : List ℕ) : Type 0 where
   pub dashes_first : starts_with nat_eq text dashes ≡ true
   pub dashed_is : dashed ≡ drop 2 text

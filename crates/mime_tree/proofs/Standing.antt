@@ -48,19 +48,19 @@ abbrev pub AreInOrder : ℕ → ℕ → List Entity → Type 0
 AreInOrder from to [] = from ≤ to
 AreInOrder from to (entity ∷ entities) = (from ≤ entity.at) × (entity.at ≤ entity.block.end) × AreInOrder entity.block.end to entities
 
--- Between the entity's block and the next entity, a place of the octets and one of the made octets are as far behind their blocks.
+-- Between the entity's block and the next entity, a place of the octets and one of the made octets are as far after their blocks.
 pub record IsAfter (entity : Entity) (place next : ℕ) (other : Entity) (made_place : ℕ) : Type 0 where
   pub low : entity.block.end ≤ place
   pub high : place ≤ next
   pub same : made_place + entity.block.end ≡ place + other.block.end
 
--- The places are behind the block of one of these entities.
+-- The places are after the block of one of these entities.
 abbrev pub AreAfter : ℕ → ℕ → List Entity → ℕ → List Entity → Type 0
 AreAfter to place [] made_place others = ⊥
 AreAfter to place (entity ∷ entities) made_place [] = ⊥
 AreAfter to place (entity ∷ entities) made_place (other ∷ others) = IsAfter entity place (next_entity_place to entities) other made_place ⊎ AreAfter to place entities made_place others
 
--- An entity and the made one are the same, and their contents and ends are as far behind blocks.
+-- An entity and the made one are the same, and their contents and ends are as far after blocks.
 pub record IsKept (IsMade : FieldRelation) (octets : List ℕ) (to : ℕ) (entity : Entity) (entities : List Entity) (made : List ℕ) (made_to : ℕ) (other : Entity) (others : List Entity) : Type 0 where
   pub same : IsSameEntity IsMade octets entity (next_entity_place to entities) made other (next_entity_place made_to others)
   pub body : IsAfter entity entity.body (next_entity_place to entities) other other.body

@@ -135,7 +135,7 @@ pub record Opens (digest : Bool) (raws : List (List ℕ)) (opening : Opening) : 
 abbrev pub AreFieldsWithin : List ℕ → List Field → Type 0
 AreFieldsWithin octets fields = All (λ field. (field.raw.at + field.raw.len ≤ length octets) × IsField (raw_of octets field)) fields
 
--- the fields stand one behind another between these places
+-- the fields stand one after another between these places
 abbrev pub AreFieldsJoined : ℕ → List Field → ℕ → Type 0
 AreFieldsJoined at [] end = at ≡ end
 AreFieldsJoined at (field ∷ fields) end = (field.raw.at ≡ at) × AreFieldsJoined (at + field.raw.len) fields end

@@ -77,7 +77,7 @@ IsSameAt text changed token = octets_at text token.span ≡ octets_at changed to
 abbrev pub AreSameAt : List ℕ → List ℕ → List Token → Type 0
 AreSameAt text changed tokens = AllByRecursion (IsSameAt text changed) tokens
 
--- the same tokens behind fronts of one length have the same octets
+-- the same tokens after fronts of one length have the same octets
 pub same_places : (a b x y text changed : List ℕ) (ts : List TokenValue) (at : ℕ) → text ≡ a ++ (octets_of ts ++ x) → changed ≡ b ++ (octets_of ts ++ y) → at ≡ length a → at ≡ length b
     → AreSameAt text changed (tokens_from at ts)
 same_places a b x y text changed [] at e f p q = tt

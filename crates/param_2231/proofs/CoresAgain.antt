@@ -95,7 +95,7 @@ pub record IsCore (core : List TokenValue) (piece : Piece) : Type 0 where
   pub number_is : piece.number ≡ parts.number
   pub written_is : piece.written ≡ octets_of core
 
--- tokens that can stand between semicolons, and may have anything behind them
+-- tokens that can stand between semicolons, and may have anything after them
 pub record CanStand (core : List TokenValue) : Type 0 where
   pub are_tokens : AreTokens Mime core (octets_of core)
   pub kept : AreKept core

@@ -127,7 +127,7 @@ gives_param lead pieces number is_ascii doubled role old new is ascii e adds =
 
 -- ---- all pieces
 
--- What the pieces before this number gave was put: what those behind give completes it.
+-- What the pieces before this number gave was put: what those after give completes it.
 abbrev pub PiecesLeft : List ℕ → List ℕ → Placed → ℕ → List ℕ → List ℕ → Type 0
 PiecesLeft lead text placed number old mid = (all : List Piece) → HasPlaced text placed all → (given : List (List ℕ))
     → PiecesGive all (params_of all) (take number all) (drop number all) given → AddsAfter lead (PiecesGive all (params_of all) [] all) old (mid ++ lines_after lead given)

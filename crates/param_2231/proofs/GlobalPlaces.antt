@@ -31,7 +31,7 @@ solid-words at (t ∷ ts) = elim (cases_Bool (is_blank t.kind)) [
   | inr kept ↦ rw (kept) (ap suc (solid-words (at + length t.octets) ts))
 ]
 
--- the word behind so many others
+-- the word after so many others
 pub record HasWord (ts : List TokenValue) (n : ℕ) : Type 0 where
   pub front : List TokenValue
   pub rest : List TokenValue
@@ -85,7 +85,7 @@ Reaches first tail tf tr t = (mid : List Token) × (first ≡ tf ++ t ∷ mid) �
 reaches_more : (f x : Token) (first tail tf tr : List Token) (t : Token) → f ≡ x → Reaches first tail tf tr t → Reaches (f ∷ first) tail (x ∷ tf) tr t
 reaches_more f x first tail tf tr t here rest = (rest.0, ap (λ r. f ∷ r) rest.1 ∙ ap (λ y. y ∷ (tf ++ t ∷ rest.0)) here, rest.2)
 
--- a front with more words than another reaches over the token behind that
+-- a front with more words than another reaches over the token after that
 reaches : (first tail tf tr : List Token) (t : Token) → first ++ tail ≡ tf ++ t ∷ tr → length (solid tf) < length (solid first) → Reaches first tail tf tr t
 reaches [] tail tf tr t e below = absurd (omega (arith, below))
 reaches (f ∷ first) tail [] tr t e below =

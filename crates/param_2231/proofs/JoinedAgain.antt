@@ -26,7 +26,7 @@ pub record IsSeries (base : List ℕ) (unit : UnitValue) (made : List Piece) : T
   pub are_numbered : AreNumbered made
   pub joined : joined_unit made ≡ unit
 
--- what stands for a piece, behind those before it: itself, nothing, one whole parameter, or a series
+-- what stands for a piece, after those before it: itself, nothing, one whole parameter, or a series
 pub data StandsFor (all before : List Piece) (piece : Piece) (made : List Piece) : Type 0 where
   Copied : is_ascii_parameter all piece ≡ true → made ≡ piece ∷ [] → StandsFor all before piece made
   Nothing : is_ascii_parameter all piece ≡ false → goes_on before piece ≡ true → made ≡ [] → StandsFor all before piece made
@@ -187,7 +187,7 @@ go_on_at : (b : List ℕ) (before xs : List Piece) (p : Piece) (ys : List Piece)
 go_on_at b before [] p ys all e = rw (append-nil before) (all.0 e)
 go_on_at b before (x ∷ xs) p ys all e = rw (append_assoc before (x ∷ []) xs) at (go_on_at b (before ++ x ∷ []) xs p ys all.1 e)
 
--- behind no part of this name, pieces that go on don't have it
+-- after no part of this name, pieces that go on don't have it
 none_named : (b : List ℕ) (before xs : List Piece) → list_any (is_part_of b) before ≡ false → GoOn b before xs → NoneNamed b xs
 none_named b before [] h all = tt
 none_named b before (x ∷ xs) h all = elim (decide_same x.base b) [
@@ -203,7 +203,7 @@ none_at : (b : List ℕ) (xs : List Piece) (p : Piece) (ys : List Piece) → Non
 none_at b [] p ys all e = all.0 e
 none_at b (x ∷ xs) p ys all e = none_at b xs p ys all.1 e
 
--- Where a name isn't doubled, no piece before the one that begins has it, and those behind go on.
+-- Where a name isn't doubled, no piece before the one that begins has it, and those after go on.
 record IsAlone (b : List ℕ) (before : List Piece) (q : Piece) (following : List Piece) : Type 0 where
   before_none : NoneNamed b before
   after_on : GoOn b (before ++ q ∷ []) following
@@ -318,7 +318,7 @@ record AreSeries (b : List ℕ) (made front series : List Piece) : Type 0 where
 none_ascii : (b : List ℕ) (all xs : List Piece) → parts_named b xs ≡ [] → parts_named b (filter (is_ascii_parameter all) xs) ≡ []
 none_ascii b all xs none = ascii_named all b xs ∙ ap (λ r. cond (ascii_parts all b) r []) none ∙ sym (nothing_either [] (ascii_parts all b))
 
--- behind the piece that a series stands for, no part of the name is ASCII
+-- after the piece that a series stands for, no part of the name is ASCII
 quiet_after : (b : List ℕ) (all x : List Piece) (q : Piece) (y : List Piece) → NoneNamed b x → GoOn b (x ++ q ∷ []) y → is_ascii_parameter all q ≡ false → q.base ≡ b
     → parts_named b (filter (is_ascii_parameter all) y) ≡ []
 quiet_after b all x q y none on high named = elim (cases_Bool (is_some q.number)) [
@@ -413,7 +413,7 @@ any_there b (x ∷ xs) = elim (cases_Bool (is_part_of b x)) [
 any_same : (b : List ℕ) (xs ys : List Piece) → parts_named b xs ≡ parts_named b ys → list_any (is_part_of b) xs ≡ list_any (is_part_of b) ys
 any_same b xs ys e = any_there b xs ∙ ap there e ∙ sym (any_there b ys)
 
--- parts behind the first go on
+-- parts after the first go on
 parts_go_on : (base : List ℕ) (made before os rest : List Piece) → list_any (is_part_of base) before ≡ true → AllByRecursion (λ (m : Piece). (m.base ≡ base) × (is_some m.number ≡ true)) os
     → params_after made before (os ++ rest) ≡ params_after made (before ++ os) rest
 parts_go_on base made before [] rest h all = rw (append-nil before) refl

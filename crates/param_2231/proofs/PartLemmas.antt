@@ -159,7 +159,7 @@ IsPartOf-cut unit octets fits end some can f is =
           omega (arith, over, longer)
     ]
 
--- what is left is shorter behind a part
+-- what is left is shorter after a part
 pub part_shortens : (unit : UnitValue) (rest part after : List ℕ) → rest ≡ part ++ after → IsPartOf unit part after → length after < length rest
 part_shortens unit rest part after whole is = let some = is.some in omega (arith, some, ap length whole, length-append part after)
 

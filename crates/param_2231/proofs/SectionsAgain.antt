@@ -30,7 +30,7 @@ use Rattle.param_2231.proofs.GlobalLemmas.{solid_append}
 abbrev pub semicolon : TokenValue
 semicolon = record { kind = Special; octets = 59 ∷ [] }
 
--- parameters behind others, each behind a semicolon and a space, and what stands behind the last
+-- parameters after others, each after a semicolon and a space, and what stands after the last
 abbrev pub following : List (List TokenValue) → List TokenValue → List TokenValue
 following [] tail = tail
 following (core ∷ cores) tail = semicolon ∷ space ∷ (core ++ following cores tail)

@@ -43,7 +43,7 @@ line piece = crlf ++ 32 ∷ piece
 one_line : (piece : List ℕ) → lines_of (piece ∷ []) ≡ line piece
 one_line piece = append-nil (line piece)
 
--- a semicolon is put behind each piece but the last where the next one begins
+-- a semicolon is put after each piece but the last where the next one begins
 given_lines : (main : List ℕ) (given : List (List ℕ)) → lines_of (with_semicolons (main ∷ given)) ≡ lines_of (main ∷ []) ++ lines_after (codes ";") given
 given_lines main [] = sym (append-nil (lines_of (main ∷ [])))
 given_lines main (piece ∷ given) =

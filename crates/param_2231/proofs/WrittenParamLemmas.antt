@@ -1,4 +1,4 @@
--- The pieces of one parameter of some text are read as that parameter behind any main part.
+-- The pieces of one parameter of some text are read as that parameter after any main part.
 use Rattle.std.proofs.Common.{◌≡◌, ◌≤◌, slice_index_or, ℕ, Bool, true, false, ◌&&◌, nat_lt, if◌then◌else◌, inl, inr, List, [], ◌∷◌, ◌++◌, length, map, None, All, refl, sym, ap, ◌∙◌, subst, arith}
 use Rattle.std.proofs.lemmas.Bool.{cases_Bool, true≢false, and_parts, cond-true, cond-false}
 use Rattle.std.proofs.lemmas.Slice.Eq.{bytes_eq-Decides}
@@ -166,7 +166,7 @@ ParamPieces-reads name unit pieces comes are kind main is =
 pub adds_reads : (name : List ℕ) (unit : UnitValue) (old new : List ℕ) → ComesInParams name unit → AddsLines (ParamPieces false name unit) old new → AddsLines (ReadsAsOne name unit) old new
 adds_reads name unit old new comes adds = record { pieces = adds.pieces; holds = ParamPieces-reads name unit adds.pieces comes adds.holds; added = adds.added }
 
--- lines behind nothing
+-- lines after nothing
 pub after_nothing : (P : List (List ℕ) → Type 0) (old new : List ℕ) → AddsAfter [] P old new → AddsLines P old new
 after_nothing P old new adds = record { pieces = adds.pieces; holds = adds.holds; added = adds.added }
 

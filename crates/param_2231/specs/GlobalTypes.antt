@@ -7,7 +7,7 @@ use Rattle.field_tokens.specs.Comments.{CommentValue}
 use Rattle.param_grammar.specs.declared.ParamKind.TheVariants.{Content}
 use Rattle.param_grammar.specs.Joining.{ParamValue, SaysParams}
 
--- the atom behind the slash of a Content-Type's main part stands at this place
+-- the atom after the slash of a Content-Type's main part stands at this place
 pub record HasSubtype (text : List ℕ) (at : ℕ) : Type 0 where
   pub front : List TokenValue
   pub rest : List TokenValue

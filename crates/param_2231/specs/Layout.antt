@@ -43,7 +43,7 @@ abbrev pub AreSectionTexts : UnitValue → List (List ℕ) → Type 0
 AreSectionTexts unit [] = ⊤
 AreSectionTexts unit (part ∷ parts) = IsPartOf unit part (concat parts) × AreSectionTexts unit parts
 
--- `''` behind the charset: no language is given
+-- `''` after the charset: no language is given
 abbrev pub charset_part : UnitValue → List ℕ
 charset_part unit = charset_of unit ++ codes "''"
 
@@ -90,13 +90,13 @@ abbrev pub PieceGives : List Piece → List ParamValue → List Piece → Piece 
 PieceGives all params before piece pieces =
     GivesWhere (is_ascii_parameter all piece) (goes_on before piece) (is_doubled params piece.base) piece.written piece.base (unit_at all piece) pieces
 
--- what the pieces behind those before give
+-- what the pieces after those before give
 abbrev pub PiecesGive : List Piece → List ParamValue → List Piece → List Piece → List (List ℕ) → Type 0
 PiecesGive all params before [] pieces = pieces ≡ []
 PiecesGive all params before (piece ∷ more) pieces = (first others : List (List ℕ)) × (pieces ≡ first ++ others) × PieceGives all params before piece first
     × PiecesGive all params (before ++ piece ∷ []) more others
 
--- a semicolon behind each piece but the last
+-- a semicolon after each piece but the last
 abbrev pub with_semicolons : List (List ℕ) → List (List ℕ)
 with_semicolons [] = []
 with_semicolons (piece ∷ []) = piece ∷ []

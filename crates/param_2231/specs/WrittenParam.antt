@@ -29,7 +29,7 @@ pub record IsMainText (kind : ParamKind) (main : List ℕ) : Type 0 where
   pub has_tokens : HasTokens Mime main tokens
   pub is_main_part : is_main kind main tokens ≡ true
 
--- Behind any main part, with a semicolon behind each but the last and a space between any two, the pieces are this one parameter.
+-- After any main part, with a semicolon after each but the last and a space between any two, the pieces are this one parameter.
 abbrev pub ReadsAsOne : List ℕ → UnitValue → List (List ℕ) → Type 0
 ReadsAsOne name unit pieces = (kind : ParamKind) (main : List ℕ) → IsMainText kind main
     → SaysParams kind (join_with_byte space (with_semicolons (main ∷ pieces))) (str_to_ascii_lowercase main) (record { name = name; unit = unit } ∷ []) []

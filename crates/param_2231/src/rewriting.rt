@@ -25,7 +25,7 @@ use param_grammar::{
 };
 use std::alloc::Global;
 
-// Puts the piece at a place last as it is written, on a line behind a semicolon.
+// Puts the piece at a place last as it is written, on a line after a semicolon.
 fn push_copy(text: &[u8], place: Place, made: &mut Octets) -> Result<(), Memory>
     ensures { (piece : Piece) → IsPlaced text.now place piece → OnOk result (made.new ≡ made.old ++ line_after (codes ";") piece.written) }
 {
@@ -107,7 +107,7 @@ fn push_given(
     }
 }
 
-// Puts what the pieces give last, each line behind a semicolon.
+// Puts what the pieces give last, each line after a semicolon.
 fn push_all_given(
     alloc: Global,
     text: &[u8],
@@ -180,7 +180,7 @@ fn write_all(
     Ok(true)
 }
 
-/// Puts the pieces of a text in ASCII last, each on a line of its own behind a space: its main part, its parameters and its
+/// Puts the pieces of a text in ASCII last, each on a line of its own after a space: its main part, its parameters and its
 /// comments. `open_global` says that the type of messages whose headers are UTF-8 becomes the type of other messages. After
 /// want of memory a front of these lines was put.
 pub fn rewrite_params(

@@ -86,7 +86,7 @@ fn last_end(unit: &Unit, octets: &[u8], at: usize) -> usize
     }
 }
 
-// The first part of octets, and the octets behind it.
+// The first part of octets, and the octets after it.
 fn split_part<'a>(unit: &Unit, octets: &'a [u8]) -> (&'a [u8], &'a [u8])
     requires some { 0 < length octets.now }
     requires text { IsCuttable (value_of unit.now) octets.now }
@@ -105,7 +105,7 @@ fn push_charset(made: &mut Octets, unit: &Unit) -> Result<(), Memory>
     made.push_slice(b"''")
 }
 
-// Begins a line, with this put behind the line before.
+// Begins a line, with this put after the line before.
 pub(crate) fn begin_line(made: &mut Octets, lead: &[u8]) -> Result<(), Memory>
     ensures { OnOk result (made.new ≡ made.old ++ line_after lead.now []) }
 {
@@ -222,7 +222,7 @@ pub(crate) fn push_param(
     push_parts(name, unit, lead, made)
 }
 
-/// Puts the pieces of a parameter last, each on a line of its own behind a space. After want of memory a front of these lines
+/// Puts the pieces of a parameter last, each on a line of its own after a space. After want of memory a front of these lines
 /// was put.
 pub fn write_param(name: &[u8], value: &Unit, made: &mut Octets) -> Result<(), Memory>
     requires { ComesInParams name.now (value_of value.now) }

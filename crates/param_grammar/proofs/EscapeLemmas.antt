@@ -90,7 +90,7 @@ IsEscaped-once text a b p q =
     ended [] e = refl
     ended (i ∷ items) e = absurd (no_items i (flat_map item_spelling items) (sym e))
 
--- texts that spell octets spell them one behind the other
+-- texts that spell octets spell them one after the other
 pub IsEscaped-append : (s t a b : List ℕ) → IsEscaped s a → IsEscaped t b → IsEscaped (s ++ t) (a ++ b)
 IsEscaped-append s t a b p q = record {
   items = p.items ++ q.items;

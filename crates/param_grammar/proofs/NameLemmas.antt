@@ -36,7 +36,7 @@ pub not-HasSuffix : (suffix digits : List ℕ) (e : Bool) → 0 < length suffix 
 not-HasSuffix suffix digits e some p none other None f has = omega (arith, ap length has.0)
 not-HasSuffix suffix digits e some p none other (Some ds) f has = other (subst IsNumber (sym (suffix_digits suffix digits ds e f p none has.0 has.1)) has.1)
 
--- what stands behind the base of a name with these parts
+-- what stands after the base of a name with these parts
 pub after_name : (number : Option (List ℕ)) (f : Bool) → IfSome number IsNumber
     → (following : Option (List ℕ)) × HasAfter following number f × (number_suffix number ++ star_suffix f ≡ language_suffix following)
 after_name None false h = (None, (refl, refl), refl)
@@ -55,7 +55,7 @@ HasNameParts-made name base following number f cut first is has =
     let parts = after_parts following number f has in
     record { spelled = cut ∙ ap (λ s. base ++ s) parts.0; base = is; first = first; number = parts.1 }
 
--- A name that is cut at its first star has its base before that, and the rest behind.
+-- A name that is cut at its first star has its base before that, and the rest after.
 pub parts_cut : (name base : List ℕ) (following : Option (List ℕ)) (p : NameParts) → name ≡ base ++ language_suffix following → lacks 42 base ≡ true → HasNameParts name p
     → (p.base ≡ base) × HasAfter following p.number p.is_extended
 parts_cut name base following p cut first has =

@@ -1,4 +1,4 @@
--- Pieces in the order of their names: those of a name stand behind one another.
+-- Pieces in the order of their names: those of a name stand after one another.
 use Rattle.std.proofs.Common.{◌≡◌, ℕ, zero, suc, ◌+◌, ◌<◌, ◌≤◌, ◌==◌, ◌&&◌, ◌||◌, Bool, true, false, not, List, [], ◌∷◌, ◌++◌, length, get_or, take, drop, map, filter, All, refl, sym, ap, ◌∙◌, subst, arith, inl, inr}
 use Rattle.std.specs.Cmp.Lexicographic.{slice_cmp, nat_list_cmp_total, nat_list_eq_equiv}
 use Rattle.mail_wire.specs.Spans.{Stops, IsSpan}
@@ -91,7 +91,7 @@ pieces_passing p q pieces (suc n) l same =
     single true is e = rw (is, sym e ∙ is) refl
     single false is e = rw (is, sym e ∙ is) refl
 
--- ---- the pieces of a name behind one another
+-- ---- the pieces of a name after one another
 
 module _ (name : ℕ → List ℕ) where
   abbrev pub is_of : ℕ → ℕ → Bool
@@ -102,7 +102,7 @@ module _ (name : ℕ → List ℕ) where
       let by_ties : (y : ℕ) → is_of x y ≡ ties (λ a b. is_lt (order_of (name a) (name b))) x y = λ y. sym (ties_named (name x) (name y)) in
       filter_as (is_of x) _ by_ties order ∙ o.stable x ∙ filter_as _ (is_of x) (λ y. sym (by_ties y)) (numbers_below count)
 
-  -- what stands behind an element isn't below it
+  -- what stands after an element isn't below it
   after_up : (order pre post : List ℕ) (x : ℕ) → IsSortedByKey name order_of order → order ≡ pre ++ x ∷ post → All (λ y. is_lt (order_of (name y) (name x)) ≡ false) post
   after_up order pre post x sorted cut = All-from_get_or (λ y. is_lt (order_of (name y) (name x)) ≡ false) post 0 (λ k l.
       let here : get_or order (length pre) 0 ≡ x = ap (λ xs. get_or xs (length pre) 0) cut ∙ get_or_at pre x post 0 (length pre) refl in

@@ -51,7 +51,7 @@ params_in test param params e = rw e (omega arith)
 params_out : (test : ParamValue → Bool) (param : ParamValue) (params : List ParamValue) → test param ≡ false → length (filter test (param ∷ params)) ≡ length (filter test params)
 params_out test param params e = rw e refl
 
--- one piece more: whether it is numbered, goes on, and has the name, and whether a part of the name stands before and behind
+-- one piece more: whether it is numbered, goes on, and has the name, and whether a part of the name stands before and after
 count_step : (test : ParamValue → Bool) (param : ParamValue) (params : List ParamValue) (piece : Piece) (wholes : List Piece) (n g b before more : Bool) → test param ≡ b
     → (b ≡ true → g ≡ before) → length (filter test params) ≡ length wholes + joined (before || ((n && b) || false)) more
     → length (filter test (if n && g then params else param ∷ params)) ≡ length (if not n && b then piece ∷ wholes else wholes) + joined before ((n && b) || more)

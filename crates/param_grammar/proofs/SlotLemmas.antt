@@ -164,7 +164,7 @@ module _ (at : ℕ → Piece) where
   pub count_of : (parts : List ℕ) → length parts ≡ length (map at parts)
   count_of parts = sym (length-map parts at)
 
-  -- the parts before one, it, and those behind
+  -- the parts before one, it, and those after
   parted : (parts : List ℕ) (i : ℕ) → i < length parts → map at parts ≡ map at (take i parts) ++ at (get_or parts i 0) ∷ map at (drop (i + 1) parts)
   parted parts i l = ap (map at) (sym (take-append-drop i parts) ∙ ap (λ rs. take i parts ++ rs) (drop_more parts i 0 l)) ∙ map-append at (take i parts) (get_or parts i 0 ∷ drop (i + 1) parts)
 

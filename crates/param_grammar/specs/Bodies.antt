@@ -1,4 +1,4 @@
--- The body of a field with parameters (RFC 2045, 5.1; RFC 2183, 2): a main part, and parameters, each behind a semicolon.
+-- The body of a field with parameters (RFC 2045, 5.1; RFC 2183, 2): a main part, and parameters, each after a semicolon.
 use Rattle.std.specs.Prelude.{◌≡◌, ℕ, ◌⊎◌, ◌++◌, ◌+◌, ◌-◌, ◌<◌, ◌==◌, Bool, true, false, not, ◌&&◌, ◌||◌, if◌then◌else◌, List, [], ◌∷◌, length, take, drop, codes, Option, Some, None, filter}
 use Rattle.std.specs.List.{list_all, list_any, slice_split}
 use Rattle.std.specs.Str.{bytes_eq, str_to_ascii_lowercase}
@@ -59,12 +59,12 @@ is_main Disposition text (a ∷ b ∷ more) = false
 abbrev pub is_plain_token : List ℕ → Token → Bool
 is_plain_token text token = is_atom_kind token.kind || list_any (λ mark. is_mark_at text mark token) (codes "/[]?=")
 
--- no other token, or the next one stands directly behind the token
+-- no other token, or the next one stands directly after the token
 abbrev pub touches_first : Token → List Token → Bool
 touches_first token [] = true
 touches_first token (next ∷ more) = token.span.at + token.span.len == next.span.at
 
--- each token stands directly behind the one before it
+-- each token stands directly after the one before it
 abbrev pub touch : List Token → Bool
 touch [] = true
 touch (token ∷ more) = touches_first token more && touch more
@@ -139,7 +139,7 @@ pub record IsPiece (text : List ℕ) (section : List Token) (piece : Piece) : Ty
 abbrev pub is_filled : List Token → Bool
 is_filled section = list_any (λ token. not (is_blank token.kind)) section
 
--- The tokens are a section and what is behind its semicolon, where there is one. Where there is none, no filled section follows.
+-- The tokens are a section and what is after its semicolon, where there is one. Where there is none, no filled section follows.
 pub record SplitsSection (text : List ℕ) (tokens section following : List Token) : Type 0 where
   pub others : List (List Token)
   pub first : sections_of text tokens ≡ section ∷ others

@@ -21,7 +21,7 @@ use Rattle.param_grammar.specs.declared.role.Role.{Role}
 use Rattle.param_grammar.specs.declared.role.Role.TheVariants.{GoesOn, Begins}
 use Rattle.param_grammar.specs.Bodies.{HasBody, IsBody}
 
--- the number that decimal digits go on to, behind those of this number
+-- the number that decimal digits go on to, after those of this number
 abbrev pub decimal_onward : ℕ → List ℕ → ℕ
 decimal_onward number [] = number
 decimal_onward number (digit ∷ digits) = decimal_onward (10 * number + digit_value digit) digits
@@ -72,7 +72,7 @@ unit_at pieces piece = if is_some piece.number then joined_unit (parts_named pie
 abbrev pub goes_on : List Piece → Piece → Bool
 goes_on before piece = is_some piece.number && list_any (is_part_of piece.base) before
 
--- the parameters that begin behind the pieces before
+-- the parameters that begin after the pieces before
 abbrev pub params_after : List Piece → List Piece → List Piece → List ParamValue
 params_after pieces before [] = []
 params_after pieces before (piece ∷ more) =
@@ -121,7 +121,7 @@ is_ascii_parameter pieces piece = list_all (λ own. list_all is_ascii own.writte
 abbrev pub is_doubled : List ParamValue → List ℕ → Bool
 is_doubled params name = nat_lt 1 (length (filter (λ param. bytes_eq param.name name) params))
 
--- the role of a piece behind those before it
+-- the role of a piece after those before it
 abbrev pub IsRole : List Piece → List Piece → Piece → Role → Type 0
 IsRole pieces before piece (GoesOn is_ascii) = (goes_on before piece ≡ true) × (is_ascii ≡ is_ascii_parameter pieces piece)
 IsRole pieces before piece (Begins is_ascii is_doubled_name) = (goes_on before piece ≡ false) × (is_ascii ≡ is_ascii_parameter pieces piece)

@@ -31,7 +31,7 @@ abbrev pub number_suffix : Option (List ℕ) → List ℕ
 number_suffix None = []
 number_suffix (Some digits) = asterisk ∷ digits
 
--- The star behind the name of an extended value (RFC 2231, 4).
+-- The star after the name of an extended value (RFC 2231, 4).
 abbrev pub star_suffix : Bool → List ℕ
 star_suffix false = []
 star_suffix true = asterisk ∷ []
@@ -53,12 +53,12 @@ pub record HasNameParts (name : List ℕ) (p : NameParts) : Type 0 where
   pub first : lacks asterisk p.base ≡ true
   pub number : IfSome p.number IsNumber
 
--- What stands behind the first star of a name: nothing, or a number, with a star where the value is extended.
+-- What stands after the first star of a name: nothing, or a number, with a star where the value is extended.
 abbrev pub HasSuffix : List ℕ → Option (List ℕ) → Bool → Type 0
 HasSuffix suffix None is_extended = (suffix ≡ []) × (is_extended ≡ true)
 HasSuffix suffix (Some digits) is_extended = (suffix ≡ digits ++ star_suffix is_extended) × IsNumber digits
 
--- what stands behind a base: nothing, or the first star and what stands behind that
+-- what stands after a base: nothing, or the first star and what stands after that
 abbrev pub HasAfter : Option (List ℕ) → Option (List ℕ) → Bool → Type 0
 HasAfter None number is_extended = (number ≡ None) × (is_extended ≡ false)
 HasAfter (Some suffix) number is_extended = HasSuffix suffix number is_extended

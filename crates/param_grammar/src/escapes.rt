@@ -9,7 +9,7 @@ use mail_wire::{Memory, Octets};
 use percent_encoding::percent_encode_byte;
 use std::alloc::Global;
 
-// The first octet that a text spells, and the text behind it.
+// The first octet that a text spells, and the text after it.
 fn first_octet(text: &[u8]) -> Option<(u8, &[u8])>
     requires { 0 < length text.now }
     ensures found { IfSome result (λ x. BeginsEscaped text.now x.0 x.1.now) }
@@ -35,7 +35,7 @@ fn first_octet(text: &[u8]) -> Option<(u8, &[u8])>
     }
 }
 
-/// The octets that a text spells, and nothing exactly where a `%` in it has no two hexadecimal digits behind it.
+/// The octets that a text spells, and nothing exactly where a `%` in it has no two hexadecimal digits after it.
 pub fn read_escaped(alloc: Global, text: &[u8]) -> Result<Option<Octets>, Memory>
     ensures found { IfOk result (λ o. IfSome o (IsEscaped text.now)) }
     ensures none { IfOk result (λ o. IfNone o ((octets : List ℕ) → ¬ IsEscaped text.now octets)) }

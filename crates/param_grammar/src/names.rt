@@ -19,7 +19,7 @@ pub struct Name<'a> {
     pub is_extended: bool,
 }
 
-// What stands before the first star, and what stands behind it.
+// What stands before the first star, and what stands after it.
 fn cut_name(name: &[u8]) -> (&[u8], Option<&[u8]>)
     ensures spelled { name.now ≡ result.0.now ++ language_suffix (option_copied result.1) }
     ensures first { lacks 42 result.0.now ≡ true }
@@ -55,7 +55,7 @@ fn cut_star(suffix: &[u8]) -> (&[u8], bool)
     }
 }
 
-// What stands behind a name's first star.
+// What stands after a name's first star.
 fn read_suffix(suffix: &[u8]) -> Option<(Option<&[u8]>, bool)>
     ensures found { IfSome result (λ x. HasSuffix suffix.now (option_copied x.0) x.1) }
     ensures none { IfNone result ((number : Option (List ℕ)) (is_extended : Bool) → ¬ HasSuffix suffix.now number is_extended) }
@@ -70,7 +70,7 @@ fn read_suffix(suffix: &[u8]) -> Option<(Option<&[u8]>, bool)>
     Some((Some(digits), is_extended))
 }
 
-// The number of a piece and the mark of extended values, as they stand behind a name's base.
+// The number of a piece and the mark of extended values, as they stand after a name's base.
 fn read_after(following: Option<&[u8]>) -> Option<(Option<&[u8]>, bool)>
     ensures found { IfSome result (λ x. HasAfter (option_copied following.entry) (option_copied x.0) x.1) }
     ensures none { IfNone result ((number : Option (List ℕ)) (is_extended : Bool)

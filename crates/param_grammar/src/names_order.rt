@@ -31,7 +31,7 @@ impl<'a> Named<'a> {
     }
 }
 
-// The numbers of the pieces, those of a name behind one another and in order.
+// The numbers of the pieces, those of a name after one another and in order.
 pub(crate) fn in_name_order(alloc: Global, named: Named<'_>) -> Result<Vec<u32>, Memory>
     ensures { IfOk result (λ order. InNameOrder (name_in named.entry.lower.now named.entry.places.now) (length named.entry.places.now) order.items) }
 {
@@ -53,7 +53,7 @@ fn find_other(named: Named<'_>, name: &[u8], order: &[u32]) -> Option<usize>
     order.iter().position(|number| name != named.name(*number))
 }
 
-// The first pieces that have a name, and those behind them.
+// The first pieces that have a name, and those after them.
 fn split_named<'b>(named: Named<'_>, name: &[u8], order: &'b [u32]) -> (&'b [u32], &'b [u32])
     ensures { IsSpan (λ number. bytes_eq name.now (name_in named.entry.lower.now named.entry.places.now number)) order.now result.0.now result.1.now }
 {
@@ -63,7 +63,7 @@ fn split_named<'b>(named: Named<'_>, name: &[u8], order: &'b [u32]) -> (&'b [u32
     }
 }
 
-// The first pieces that have the name of a piece, and those behind them.
+// The first pieces that have the name of a piece, and those after them.
 pub(crate) fn split_run<'b>(
     named: Named<'_>,
     first: u32,

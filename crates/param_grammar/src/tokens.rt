@@ -72,7 +72,7 @@ impl<'a> Tokens<'a> {
         self.split_first().is_none()
     }
 
-    /// The first token, and those behind it.
+    /// The first token, and those after it.
     pub fn split_first(self) -> Option<(Token, Tokens<'a>)>
         ensures found { IfSome result (λ x. tokens_of self.entry ≡ x.0 ∷ tokens_of x.1) }
         ensures within { IfSome result (λ x. x.0.span.at + x.0.span.len < 2 ^ 64) }
@@ -123,7 +123,7 @@ fn cut(len: usize, left: usize) -> usize
     if left < len { left } else { len }
 }
 
-// The tokens before the first semicolon, and those behind it.
+// The tokens before the first semicolon, and those after it.
 pub(crate) fn split_section<'a>(text: &[u8], tokens: Tokens<'a>) -> (Tokens<'a>, Tokens<'a>)
     ensures { SplitsSection text.now (tokens_of tokens.entry) (tokens_of result.0) (tokens_of result.1) }
 {
@@ -137,7 +137,7 @@ pub(crate) fn split_section<'a>(text: &[u8], tokens: Tokens<'a>) -> (Tokens<'a>,
     (tokens, rest)
 }
 
-/// The first token that is no gap and no comment, and those behind it.
+/// The first token that is no gap and no comment, and those after it.
 pub fn next_solid(tokens: Tokens<'_>) -> Option<(Token, Tokens<'_>)>
     ensures found { IfSome result (λ x. solid_of (tokens_of tokens.entry) ≡ x.0 ∷ solid_of (tokens_of x.1)) }
     ensures within { IfSome result (λ x. x.0.span.at + x.0.span.len < 2 ^ 64) }
@@ -182,7 +182,7 @@ pub(crate) fn first_solid(alloc: Global, tokens: Tokens<'_>) -> Result<Vec<Token
     Ok(found)
 }
 
-// The octets of tokens, one behind another.
+// The octets of tokens, one after another.
 pub(crate) fn run_octets(alloc: Global, text: &[u8], tokens: &[Token]) -> Result<Octets, Memory>
     ensures { IfOk result (λ made. made ≡ run_octets_of text.now tokens.now) }
 {
@@ -233,7 +233,7 @@ fn goes_on(text: &[u8], end: usize, token: Token) -> bool
     end == token.span.at && is_plain_token(text, token)
 }
 
-// The place of the unquoted value that a token and those behind it are, but for gaps and comments.
+// The place of the unquoted value that a token and those after it are, but for gaps and comments.
 fn plain_span(text: &[u8], first: Token, others: Tokens<'_>) -> Option<Span>
     requires within { first.span.at + first.span.len < 2 ^ 64 }
     ensures found { IfSome result (λ span. IsPlainAt text.now (first ∷ solid_of (tokens_of others.entry)) span) }
@@ -257,7 +257,7 @@ fn plain_span(text: &[u8], first: Token, others: Tokens<'_>) -> Option<Span>
     })
 }
 
-// Whether a token is a quoted string, and all behind it are gaps and comments.
+// Whether a token is a quoted string, and all after it are gaps and comments.
 fn is_quoted_alone(first: Token, others: Tokens<'_>) -> bool
     ensures { result ≡ are_quoted_of (first ∷ solid_of (tokens_of others.entry)) }
 {

@@ -27,7 +27,7 @@ pub top_numbers-no_space : (text : List ℕ) → None ≡ position is_space text
 unfolding top_numbers_of
 top_numbers-no_space text found = rw (← found) refl
 
--- with a space they stand before and behind the first one
+-- with a space they stand before and after the first one
 top_numbers-space : (text front rest lines : List ℕ) (at : ℕ) → Some at ≡ position is_space text → front ≡ take at text → rest ≡ drop at text → lines ≡ drop 1 rest
     → both_numbers (number_of front) (number_of lines) ≡ top_numbers_of text
 unfolding top_numbers_of
@@ -53,7 +53,7 @@ pub top_numbers-no_first : (text front rest lines : List ℕ) (at : ℕ) → Som
 top_numbers-no_first text front rest lines at found before following back none =
     rw (← top_numbers-space text front rest lines at found before following back) (first-none (number_of front) (number_of lines) none)
 
--- behind the space stands no number
+-- after the space stands no number
 pub top_numbers-no_second : (text front rest lines : List ℕ) (at : ℕ) → Some at ≡ position is_space text → front ≡ take at text → rest ≡ drop at text → lines ≡ drop 1 rest
     → None ≡ capped (number_of lines) → None ≡ option_map saturated (top_numbers_of text)
 top_numbers-no_second text front rest lines at found before following back none =

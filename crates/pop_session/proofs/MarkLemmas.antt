@@ -1,4 +1,4 @@
--- Which messages are marked behind commands after a login.
+-- Which messages are marked after commands after a login.
 use Rattle.std.proofs.Common.{◌≡◌, ℕ, zero, suc, ◌+◌, ◌<◌, List, [], ◌∷◌, Bool, true, false, arith, refl, sym, ap, ◌∙◌, Some, None, Option}
 use Rattle.std.specs.Prelude.{map, length, ◌==◌, ◌||◌, ◌↔◌}
 use Rattle.std.proofs.lemmas.Bool.Decides.{nat_tests}

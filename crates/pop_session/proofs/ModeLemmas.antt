@@ -1,4 +1,4 @@
--- Which mode a session is in behind commands, and behind the lines of a stream.
+-- Which mode a session is in after commands, and after the lines of a stream.
 use Rattle.std.proofs.Common.{◌≡◌, ◌≢◌, ℕ, zero, suc, List, [], ◌∷◌, Bool, true, false, refl, sym, ap, subst, ◌∙◌, ◌⊎◌, inl, inr, Some, None, Option, arith}
 use Rattle.std.specs.Prelude.{◌||◌, ◌↔◌, IsTrue}
 use Rattle.std.specs.Option.{option_map_or}
@@ -148,16 +148,16 @@ commands_keep oracles machine (command ∷ commands) goes_on =
 
 -- ---- a stream
 
--- What is left of a stream: the machine behind its commands, or one that a line too long has ended.
+-- What is left of a stream: the machine after its commands, or one that a line too long has ended.
 pub record IsLeft (oracles : Oracles) (machine : Machine) (commands : List Command) (left : Machine) : Type 0 where
   pub store : left.store ≡ (after_commands oracles machine commands).store
   pub state : (left.state ≡ (after_commands oracles machine commands).state) ⊎ (left.state ≡ ended)
 
--- the machine behind so many turns
+-- the machine after so many turns
 abbrev pub left_by : Oracles → ℕ → Machine → List ℕ → Machine
 left_by oracles n machine octets = (turns (pop_protocol.next oracles) n machine octets).after
 
--- the machine behind this turn and so many more
+-- the machine after this turn and so many more
 abbrev pub left_following : Oracles → ℕ → Machine → List ℕ → Option (Turn Machine (Act ReplyPart)) → Machine
 left_following oracles n machine octets first =
     (option_map_or (λ turn. following turn.parts (turns (pop_protocol.next oracles) n turn.after turn.rest)) first (stay machine octets)).after
@@ -196,7 +196,7 @@ mode_as : (mode : Mode) (state left : State) → IsOfMode mode state → (left �
 mode_as mode state left is (inl same) = subst (IsOfMode mode) (sym same) is
 mode_as mode state left is (inr end) = subst (IsOfMode mode) (sym end) tt
 
--- a session is enabled behind a stream where one of its commands was UTF8 before login
+-- a session is enabled after a stream where one of its commands was UTF8 before login
 pub stream_mode : (oracles : Oracles) (store : StoreState) (octets : List ℕ)
     → IsOfMode (mode_after (some_enables oracles (start_of store) (commands_in octets)) legacy) (turns_of oracles (start_of store) octets).after.state
 stream_mode oracles store octets =

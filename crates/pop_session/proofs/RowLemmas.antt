@@ -110,7 +110,7 @@ takes_as a b result asked taken other same takes = record {
   known = takes.known;
 }
 
--- the session behind a step stands for what it leaves
+-- the session after a step stands for what it leaves
 stands_after : (a b : Around) (found : Option PopState) (taken : Step) (more : List Moment) → state_or_ended found ≡ taken.state → b.desk.store ≡ with_records a.desk.store (records_of taken.changes)
     → StandsNext pop_grammar PopStands more found b.desk (after_step a.desk.store taken)
 stands_after a b None taken more next store = rw (← next) refl

@@ -9,7 +9,7 @@ use Rattle.pop_session.specs.declared.stuffing.Place.TheVariants.{LineStart, Aft
 use Rattle.pop_session.specs.private.Stuffing.{is_start, is_after_cr, next_place, place_after, needs_dot, stuffed_octet, stuffed_from, begins_with_dot, dot_before, HasNoLfDot}
 use Rattle.pop_session.proofs.StuffingLemmas.{stuffed_from-append, place_after-append}
 
--- ---- the place behind octets
+-- ---- the place after octets
 
 forget_by : (b c d e : Bool) → cond d AfterCr (cond (is_after_cr (cond b AfterCr (cond c LineStart Within)) && e) LineStart Within)
     ≡ cond d AfterCr (cond (is_after_cr (cond b AfterCr Within) && e) LineStart Within)
@@ -23,7 +23,7 @@ last_two place front x y = sym (place_after-append place front (x ∷ y ∷ []) 
 
 -- ---- octets in which no dot follows an LF
 
--- behind an octet that isn't LF no line starts
+-- after an octet that isn't LF no line starts
 no_start : (place : Place) (x : ℕ) (b c : Bool) → (x == 13) ≡ b → (x == 10) ≡ c → is_start (next_place place x) ≡ true → x ≡ 10
 no_start place x true c p q starts = absurd (differ (rw p at starts))
   where
@@ -66,7 +66,7 @@ dot_of_run : (place : Place) (octets others : List ℕ) → 0 < length octets �
 dot_of_run place [] others some = absurd (omega arith)
 dot_of_run place (x ∷ octets) others some = refl
 
--- a run, and what is behind it
+-- a run, and what is after it
 pub run_first : (place : Place) (run others : List ℕ) → 0 < length run → HasNoLfDot run
     → stuffed_from place (run ++ others) ≡ dot_before place (run ++ others) ++ (run ++ stuffed_from (place_after place run) others)
 run_first place run others some none =
@@ -118,7 +118,7 @@ run_last xs none = none_before xs (length xs) (λ place lt stands. none place (o
 
 -- ---- one turn of the loop
 
--- a run with its dot, and what is behind it
+-- a run with its dot, and what is after it
 pub run_split : (place after : Place) (rest run others : List ℕ) (n : ℕ) → run ≡ take n rest → others ≡ drop n rest → length run ≡ n → 0 < n → HasNoLfDot (take n rest) → after ≡ place_after place run
     → (dot_before place rest ++ run) ++ stuffed_from after others ≡ stuffed_from place rest
 run_split place after rest run others n front back long some none following =

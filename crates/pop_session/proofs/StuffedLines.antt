@@ -28,7 +28,7 @@ crlf_after octets =
     ap (λ front. front ++ crlf) (stuffed-from octets) ∙ ap (λ back. stuffed_from LineStart octets ++ back) (sym (stuffed-crlf (place_after LineStart octets)))
     ∙ sym (stuffed_from-append LineStart octets crlf) ∙ sym (stuffed-from (octets ++ crlf))
 
--- the last line is complete before or behind stuffing
+-- the last line is complete before or after stuffing
 multi_line-stuffed : (octets : List ℕ) → multi_line octets ≡ stuffed (octets ++ missing_end octets)
 multi_line-stuffed octets = by (are_complete octets) refl
   where
@@ -72,7 +72,7 @@ lines_back octets =
 
 -- ---- the end of the reply
 
--- behind a CRLF with which complete octets begin
+-- after a CRLF with which complete octets begin
 complete_after : (x y : ℕ) (rest : List ℕ) → is_crlf x y ≡ true → are_complete (x ∷ y ∷ rest) ≡ true → are_complete rest ≡ true
 unfolding are_complete
 complete_after x y [] both complete = refl
@@ -82,7 +82,7 @@ complete_after x y (z ∷ []) both complete =
     cc
 complete_after x y (z ∷ w ∷ rest) both complete = complete
 
--- behind another octet
+-- after another octet
 complete_next : (x y : ℕ) (rest : List ℕ) → is_crlf x y ≡ false → are_complete (x ∷ y ∷ rest) ≡ true → are_complete (y ∷ rest) ≡ true
 unfolding are_complete
 complete_next x y [] apart complete = cc
@@ -100,7 +100,7 @@ following_by x y rest more complete next after false is =
     lines_of-other x y (rest ++ more) is ∙ ap (put_before x) here
     ∙ ap (λ (lines : List (List ℕ)). lines ++ lines_of more) (sym (lines_of-other x y rest is ∙ ap (put_before x) first.split))
 
--- behind complete octets a line begins
+-- after complete octets a line begins
 after_complete : (octets more : List ℕ) → are_complete octets ≡ true → lines_of (octets ++ more) ≡ lines_of octets ++ lines_of more
 unfolding lines_of are_complete
 after_complete [] more complete = refl
@@ -108,14 +108,14 @@ after_complete (x ∷ []) more complete = cc
 after_complete (x ∷ y ∷ rest) more complete =
     following_by x y rest more complete (λ next. after_complete (y ∷ rest) more next) (λ after. after_complete rest more after) (is_crlf x y) refl
 
--- the place behind stuffed octets that begin a line
+-- the place after stuffed octets that begin a line
 place_by : (x : ℕ) (rest : List ℕ) → place_after Within (stuffed_from Within rest) ≡ place_after Within rest
     → place_after (next_place LineStart x) (stuffed_from (next_place LineStart x) rest) ≡ place_after (next_place LineStart x) rest → (b : Bool) → (x == 46) ≡ b
     → place_after LineStart (stuffed_from LineStart (x ∷ rest)) ≡ place_after LineStart (x ∷ rest)
 place_by x rest dotted plain true is = let dot : x ≡ 46 = grind (arith, nat_tests) in rw dot dotted
 place_by x rest dotted plain false is = rw is plain
 
--- a line begins behind stuffed octets where one begins behind the octets
+-- a line begins after stuffed octets where one begins after the octets
 place_stuffed : (place : Place) (octets : List ℕ) → place_after place (stuffed_from place octets) ≡ place_after place octets
 place_stuffed place [] = refl
 place_stuffed LineStart (x ∷ rest) = place_by x rest (place_stuffed Within rest) (place_stuffed (next_place LineStart x) rest) (x == 46) refl
@@ -139,6 +139,6 @@ end_line : lines_of (codes ".\r\n") ≡ codes ".\r\n" ∷ []
 unfolding lines_of
 end_line = refl
 
--- the line that ends the reply stands behind the message's lines
+-- the line that ends the reply stands after the message's lines
 pub line_after : (octets : List ℕ) → lines_of (multi_line octets ++ codes ".\r\n") ≡ lines_of (multi_line octets) ++ codes ".\r\n" ∷ []
 line_after octets = after_complete (multi_line octets) (codes ".\r\n") (complete_multi_line octets) ∙ ap (λ (lines : List (List ℕ)). lines_of (multi_line octets) ++ lines) end_line

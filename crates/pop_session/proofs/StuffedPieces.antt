@@ -73,7 +73,7 @@ next_of_range shown run piece at len given count stands low cut is =
     ∙ sym (ap (take count) (range_rest shown at len given low) ∙ take_first (drop (at + given) shown) count (len - given) (omega arith)) in
     ap (λ xs. xs ++ drop (given + count) octets) front ∙ ap (λ xs. take count (drop given octets) ++ xs) (sym (drop-drop count given octets)) ∙ take-append-drop count (drop given octets)
 
--- a piece and what is behind it
+-- a piece and what is after it
 pub piece_split : (place after : Place) (rest piece others : List ℕ) → piece ++ others ≡ rest → after ≡ place_after place piece → stuffed_from place piece ++ stuffed_from after others ≡ stuffed_from place rest
 piece_split place after rest piece others split following = rw following (sym (stuffed_from-append place piece others) ∙ ap (stuffed_from place) split)
 
@@ -83,7 +83,7 @@ range_end octets len given end = drop_all given (take len octets) (let size = le
 
 -- ---- the end of a reply
 
--- the last two of some octets tell the place behind them
+-- the last two of some octets tell the place after them
 two_last : (front two : List ℕ) → length two ≡ 2 → place_after LineStart two ≡ place_after LineStart (front ++ two)
 two_last front [] long = absurd (omega arith)
 two_last front (x ∷ []) long = absurd (omega arith)
@@ -115,7 +115,7 @@ last_place shown old buffer piece (suc (suc m)) count low two read filled is =
     let long : length (take 2 (drop m shown)) ≡ 2 = length-take 2 (drop m shown) ∙ omega arith in
     ap (place_after LineStart) ends ∙ two_last (take m shown) (take 2 (drop m shown)) long ∙ ap (place_after LineStart) (sym (take_cut m shown))
 
--- behind the stuffed lines the end is given
+-- after the stuffed lines the end is given
 pub end_given : {T E : Type 0} (a b c : WireState) (result : Result T E) (octets end : List ℕ) (place : Place) → Gives a b (stuffed octets) → place ≡ place_after LineStart octets
     → end ≡ cond (is_start place) [] crlf ++ codes ".\r\n" → GivesOrFails b c result end → GivesOrFails a c result (ended_lines octets)
 end_given a b c result octets end place gave here is gives =

@@ -23,7 +23,7 @@ lines_put : (x : ℕ) (lines : List (List ℕ)) → flat_map stuffed_line (put_b
 lines_put x [] = dot_by x [] [] (x == 46) refl ∙ ap (λ more. stuffed_octet LineStart x ++ more) refl
 lines_put x (line ∷ lines) = dot_by x line (flat_map stuffed_line lines) (x == 46) refl
 
--- an octet that isn't LF stands the same behind a CR
+-- an octet that isn't LF stands the same after a CR
 not_lf : (y : ℕ) (rest : List ℕ) → (y == 10) ≡ false → stuffed_from AfterCr (y ∷ rest) ≡ stuffed_from Within (y ∷ rest)
 not_lf y rest other = rw other refl
 
@@ -83,7 +83,7 @@ last_two place x y false c p q = rw p (not_after (is_after_cr place && x == 10) 
     not_after false true c = refl
     not_after false false c = refl
 
--- octets are complete where a line starts behind them
+-- octets are complete where a line starts after them
 complete_by : (place : Place) (x y : ℕ) (rest : List ℕ) → is_start (place_after place (x ∷ y ∷ rest)) ≡ are_complete (x ∷ y ∷ rest)
 unfolding are_complete
 complete_by place x y [] = last_two place x y (x == 13) (y == 10) refl refl

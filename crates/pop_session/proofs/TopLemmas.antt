@@ -30,12 +30,12 @@ read_piece octets buffer old piece at n count read is =
     let front : piece ≡ take n (drop at octets) = is ∙ (rw read (take_at (take n (drop at octets)) (drop n old) n len)) in
     record { len = rw front len; parts = rw front (sym (take-append-drop n (drop at octets))) }
 
--- nothing is shown behind the end
+-- nothing is shown after the end
 pub count_ended : (scan : Scan) (octets : List ℕ) → is_ended scan ≡ true → count_from scan octets ≡ 0
 count_ended scan [] ended = refl
 count_ended scan (x ∷ octets) ended = rw ended refl
 
--- nothing is read behind the end
+-- nothing is read after the end
 pub after_ended : (scan : Scan) (octets : List ℕ) → is_ended scan ≡ true → all_after scan octets ≡ scan
 after_ended scan [] ended = refl
 after_ended scan (x ∷ octets) ended = rw ended refl
@@ -79,11 +79,11 @@ abbrev not_at_first : ℕ → List (List ℕ) → ℕ
 not_at_first n [] = 0
 not_at_first n (line ∷ lines) = length line + sum_by length (top_lines n lines)
 
--- reading, in the header or behind it
+-- reading, in the header or after it
 abbrev standing : Bool → ℕ → Place → Bool → Scan
 standing in_header n place second = record { place = place; is_second = second; in_header = in_header; lines = n }
 
--- What is shown of octets, from a line's start and from within one, in the header and behind it.
+-- What is shown of octets, from a line's start and from within one, in the header and after it.
 record AreShown (n : ℕ) (octets : List ℕ) : Type 0 where
   start : (second : Bool) → count_from (standing true n LineStart second) octets ≡ top_length n octets
   within : (second : Bool) → count_from (standing true n Within second) octets ≡ not_at_first n (lines_of octets)
@@ -103,7 +103,7 @@ some_of-nil (suc m) = refl
 top_lines-other : (n : ℕ) (line : List ℕ) (lines : List (List ℕ)) → bytes_eq line crlf ≡ false → sum_by length (top_lines n (line ∷ lines)) ≡ not_at_first n (line ∷ lines)
 top_lines-other n line lines other = rw other (sum_by-cons length line (top_lines n lines))
 
--- an octet that isn't LF stands the same behind a CR
+-- an octet that isn't LF stands the same after a CR
 not_lf : (in_header second : Bool) (n y : ℕ) (rest : List ℕ) → (y == 10) ≡ false → (b : Bool) → (y == 13) ≡ b
     → count_from (standing in_header n AfterCr second) (y ∷ rest) ≡ count_from (standing in_header n Within second) (y ∷ rest)
 not_lf in_header second n y rest other true is = rw (other, is) refl
@@ -130,7 +130,7 @@ one_other : (x : ℕ) (b : Bool) → (x == 13) ≡ b → bytes_eq (x ∷ []) crl
 one_other x true is = rw is refl
 one_other x false is = rw is refl
 
--- one octet, behind the header
+-- one octet, after the header
 one_after : (m x : ℕ) (second : Bool) → count_from (standing false m LineStart second) (x ∷ []) ≡ some_of m ((x ∷ []) ∷ [])
 one_after zero x second = refl
 one_after (suc m) x second = rw (not_zero m) (omega (arith, some_of-suc m (x ∷ []) [], some_of-nil m))
@@ -145,7 +145,7 @@ shown_one n x = record {
   within_after = λ m second. rw (not_zero m) (omega (arith, some_of-suc m (x ∷ []) [], some_of-nil m));
 }
 
--- behind the header, with CRLF first
+-- after the header, with CRLF first
 crlf_after : (m : ℕ) (place : Place) (second : Bool) (rest : List ℕ) → count_from (standing false m LineStart false) rest ≡ some_of m (lines_of rest)
     → count_from (standing false (suc m) place second) (13 ∷ 10 ∷ rest) ≡ some_of (suc m) (crlf ∷ lines_of rest)
 crlf_after m place second rest after =
@@ -176,7 +176,7 @@ two_other x y line apart false is = rw is refl
 longer_after : (m x y : ℕ) (line : List ℕ) (lines : List (List ℕ)) → some_of (suc m) ((x ∷ y ∷ line) ∷ lines) ≡ suc (some_of (suc m) ((y ∷ line) ∷ lines))
 longer_after m x y line lines = omega (arith, some_of-suc m (x ∷ y ∷ line) lines, some_of-suc m (y ∷ line) lines)
 
--- from a line's start behind the header, with a line that isn't empty
+-- from a line's start after the header, with a line that isn't empty
 start_by : (m x y : ℕ) (second : Bool) (rest line : List ℕ) (lines : List (List ℕ)) → is_crlf x y ≡ false
     → ((k : ℕ) → count_from (standing false (suc k) Within true) (y ∷ rest) ≡ some_of (suc k) ((y ∷ line) ∷ lines))
     → count_from (standing false m LineStart second) (x ∷ y ∷ rest) ≡ some_of m ((x ∷ y ∷ line) ∷ lines)

@@ -9,7 +9,7 @@ use Rattle.pop_session.specs.declared.command.Keyword.{Keyword}
 use Rattle.pop_session.specs.declared.command.TopNumbers.{TopNumbers}
 use Rattle.pop_session.specs.declared.command.Keyword.TheVariants as keyword
 
--- a command: its keyword, and what stands behind the first space, where there is one
+-- a command: its keyword, and what stands after the first space, where there is one
 pub record Command : Type 0 where
   pub keyword : Keyword
   pub argument : Option (List ℕ)

@@ -21,16 +21,16 @@ use Rattle.pop_session.specs.Session.{Machine, after_step}
 
 -- ---- the commands that are done
 
--- the machine behind a command
+-- the machine after a command
 abbrev pub after_command : Oracles → Machine → Command → Machine
 after_command oracles machine command = after_step machine.store (step oracles machine.state machine.store command)
 
--- the machine behind these commands
+-- the machine after these commands
 abbrev pub after_commands : Oracles → Machine → List Command → Machine
 after_commands oracles machine [] = machine
 after_commands oracles machine (command ∷ commands) = after_commands oracles (after_command oracles machine command) commands
 
--- the command of a line, and more behind it
+-- the command of a line, and more after it
 abbrev pub commands_by : (List ℕ → List Command) → Framed → List Command
 commands_by more waiting = []
 commands_by more (whole line rest) = command_of line ∷ more rest
@@ -69,7 +69,7 @@ abbrev pub some_enables : Oracles → Machine → List Command → Bool
 some_enables oracles machine [] = false
 some_enables oracles machine (command ∷ commands) = enables machine.state command || some_enables oracles (after_command oracles machine command) commands
 
--- the mode behind commands one of which asks for UTF-8, or none does
+-- the mode after commands one of which asks for UTF-8, or none does
 abbrev pub mode_after : Bool → Mode → Mode
 mode_after true mode = enabled
 mode_after false mode = mode
@@ -102,13 +102,13 @@ abbrev pub marks_by_number : List Listed → List ℕ → Option ℕ → List �
 marks_by_number listing marks None = marks
 marks_by_number listing marks (Some number) = marks_found number marks (listed_at (with_marks 1 marks listing) number)
 
--- the numbers of the marked messages behind a command: DELE marks one, and RSET takes all marks away
+-- the numbers of the marked messages after a command: DELE marks one, and RSET takes all marks away
 abbrev pub marks_by : List Listed → List ℕ → Keyword → Option (List ℕ) → List ℕ
 marks_by listing marks keyword.Dele (Some text) = marks_by_number listing marks (number_of text)
 marks_by listing marks keyword.Rset None = []
 marks_by listing marks word argument = marks
 
--- The messages that are marked behind these commands.
+-- The messages that are marked after these commands.
 abbrev pub marks_after : List Listed → List ℕ → List Command → List ℕ
 marks_after listing marks [] = marks
 marks_after listing marks (command ∷ commands) = marks_after listing (marks_by listing marks command.keyword command.argument) commands

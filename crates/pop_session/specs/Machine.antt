@@ -38,7 +38,7 @@ pub data State : Type 0 where
   -- the session has ended
   ended : State
 
--- What a command does: the changes that it makes of the store, the records of one call each; its reply; and the state behind it.
+-- What a command does: the changes that it makes of the store, the records of one call each; its reply; and the state after it.
 pub record Step : Type 0 where
   pub changes : List (List Record)
   pub reply : List ReplyPart
@@ -86,7 +86,7 @@ listed_octets store one = stored_octets store one.id
 abbrev pub size_of : Oracles → Mode → StoreState → Listed → ℕ
 size_of oracles mode store one = length (served_by oracles.surrogate mode (listed_octets store one))
 
--- two numbers behind a word
+-- two numbers after a word
 abbrev pub two_numbers : List ℕ → ℕ → ℕ → List ℕ
 two_numbers word n m = word ++ decimal n ++ codes " " ++ decimal m
 
@@ -127,7 +127,7 @@ abbrev pub stat_reply : Oracles → Mode → StoreState → List MaildropMessage
 stat_reply oracles mode store maildrop =
     says (two_numbers (codes "+OK ") (length (left_of maildrop)) (sum_by (size_of oracles mode store) (left_of maildrop)))
 
--- what UIDL tells of a message, behind its number; LIST tells its size
+-- what UIDL tells of a message, after its number; LIST tells its size
 abbrev pub uid_row : Listed → ℕ
 uid_row one = one.uid
 
@@ -151,7 +151,7 @@ abbrev pub retr_reply : Oracles → Mode → StoreState → ℕ → Listed → L
 retr_reply oracles mode store number one =
     line (codes "+OK") ∷ shown (listed_octets store one) mode 0 (size_of oracles mode store one) ∷ line (codes ".") ∷ []
 
--- the lines up to the first empty one, and so many lines behind it
+-- the lines up to the first empty one, and so many lines after it
 abbrev pub top_lines : ℕ → List (List ℕ) → List (List ℕ)
 top_lines n [] = []
 top_lines n (first ∷ lines) = if bytes_eq first crlf then first ∷ take n lines else first ∷ top_lines n lines

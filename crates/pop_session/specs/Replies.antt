@@ -13,7 +13,7 @@ use Rattle.pop_session.specs.Machine.{ReplyPart, line, shown}
 abbrev pub multi_line : List ℕ → List ℕ
 multi_line octets = stuffed octets ++ missing_end octets
 
--- A text in a reply of many lines, with the line behind it that ends the reply (RFC 1939, 3).
+-- A text in a reply of many lines, with the line after it that ends the reply (RFC 1939, 3).
 abbrev pub ended_lines : List ℕ → List ℕ
 ended_lines octets = multi_line octets ++ codes ".\r\n"
 

@@ -1,4 +1,4 @@
-//! Laws of what is sent of a message, of the mode of a session, of what QUIT takes out, of the store behind a stream, and of what is asked for.
+//! Laws of what is sent of a message, of the mode of a session, of what QUIT takes out, of the store after a stream, and of what is asked for.
 ghost use Rattle.std.specs.Prelude.{◌≡◌, ◌≢◌, ◌++◌, ◌∷◌, ◌↔◌, [], ℕ, List, Option, None, Some, codes, map, IsTrue};
 ghost use Rattle.std.specs.List.{All, flat_map};
 ghost use Rattle.mail_wire.specs.Lines.{lines_of};
@@ -28,7 +28,7 @@ pub fn stuffed_lines_are_no_dots()
     ensures back { (text : List ℕ) → flat_map unstuffed_line (lines_of (multi_line text)) ≡ text ++ missing_end text }
 {}
 
-/// Only UTF8 that is accepted changes the mode, and every other command leaves it. So behind a stream a session is enabled
+/// Only UTF8 that is accepted changes the mode, and every other command leaves it. So after a stream a session is enabled
 /// where one of its commands was such, and else it is legacy, or it has ended.
 pub fn only_utf8_changes_the_mode()
     ensures accepted { (oracles : Oracles) (state : State) (store : StoreState) (argument : Option (List ℕ))
@@ -62,7 +62,7 @@ pub fn quit_takes_out_what_is_marked()
         → (turns_of oracles machine octets).after.store ≡ machine.store }
 {}
 
-/// Behind a stream the machine's store is the one before it with the changes that its commands make.
+/// After a stream the machine's store is the one before it with the changes that its commands make.
 pub fn the_store_has_the_changes()
     ensures { (oracles : Oracles) (machine : Machine) (octets : List ℕ) → let turn = turns_of oracles machine octets in
         turn.after.store ≡ with_records machine.store (records_of (changes_in turn.parts)) }

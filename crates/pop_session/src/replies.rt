@@ -166,7 +166,7 @@ pub fn retr<V: View, W: Wire, J: Keeper, C: Clock>(
     give_lines(one.id, &lines, outside)
 }
 
-/// The header of a message, and so many lines behind its empty line.
+/// The header of a message, and so many lines after its empty line.
 pub fn top<V: View, W: Wire, J: Keeper, C: Clock>(
     one: &Listed,
     lines: u64,

@@ -28,7 +28,7 @@ fn needs_dot(place: Place, octets: &[u8]) -> bool
     matches!(place, Place::LineStart) && matches!(octets, [b'.', ..])
 }
 
-/// The place behind an octet.
+/// The place after an octet.
 pub fn next_place(place: Place, octet: u8) -> Place
     ensures { result ≡ place_by place octet }
 {
@@ -39,7 +39,7 @@ pub fn next_place(place: Place, octet: u8) -> Place
     }
 }
 
-// The place behind octets that stand from a place on. Only the last two tell it.
+// The place after octets that stand from a place on. Only the last two tell it.
 fn place_following(place: Place, octets: &[u8]) -> Place
     ensures { result ≡ place_after place octets.now }
 {
@@ -81,7 +81,7 @@ fn give_dot<W: Wire>(place: Place, octets: &[u8], wire: &mut W) -> Result<(), Fa
     Ok(())
 }
 
-// Gives octets that stand from a place on, with a dot more before each line that begins with one, and answers the place behind them.
+// Gives octets that stand from a place on, with a dot more before each line that begins with one, and answers the place after them.
 fn give_stuffed<W: Wire>(place: Place, octets: &[u8], wire: &mut W) -> Result<Place, Failed>
     ensures place { IfOk result (λ following. following ≡ place_after place octets.now) }
     ensures gives { GivesOrFails (W.observed wire.old) (W.observed wire.new) result (stuffed_from place octets.now) }
@@ -129,7 +129,7 @@ pub fn give_dotted<W: Wire>(
     Ok(())
 }
 
-// The place behind the first octets, so many, of what is shown of a message.
+// The place after the first octets, so many, of what is shown of a message.
 fn place_at(shown: &Shown, msg: &[u8], len: usize) -> Place
     requires shown { IsShownOf msg.now shown.now }
     requires len { len ≤ length (shown_octets msg.now shown.now) }

@@ -8,7 +8,7 @@ use crate::stuffing::{Place, next_place};
 use mail_wire::PIECE;
 use surrogate_rope::Shown;
 
-/// What is known of a message behind the octets that were read.
+/// What is known of a message after the octets that were read.
 #[derive(Clone, Copy, Debug)]
 pub struct Scan {
     /// Where in its line the next octet stands.
@@ -17,7 +17,7 @@ pub struct Scan {
     pub is_second: bool,
     /// Whether no empty line has ended yet.
     pub in_header: bool,
-    /// How many lines behind the header are left.
+    /// How many lines after the header are left.
     pub lines: u64,
 }
 
@@ -74,7 +74,7 @@ impl Scan {
     }
 }
 
-/// How many octets the header, its empty line and so many lines behind it have, of what is shown of a message.
+/// How many octets the header, its empty line and so many lines after it have, of what is shown of a message.
 pub fn top_length(shown: &Shown, msg: &[u8], lines: u64) -> usize
     requires { IsShownOf msg.now shown.now }
     ensures length { result ≡ top_length_of lines (shown_octets msg.now shown.now) }

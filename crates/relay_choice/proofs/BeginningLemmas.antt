@@ -20,7 +20,7 @@ use Rattle.relay_choice.proofs.TurnLemmas.{after_followed, letter_first}
 pub addressed_at : (mail_objects : List MailObject) (at : ℕ) (x : MailObject) → All IsAddressed mail_objects → at < length mail_objects → x ≡ get_or mail_objects at x → IsAddressed x
 addressed_at mail_objects at x all lt is = subst IsAddressed (sym is) (all at x lt)
 
--- where acts are put behind others, the run goes on behind all of them
+-- where acts are put after others, the run goes on after all of them
 after_more : (old made more : List Act) (run : Run) → after_acts old (after_acts made (after_acts more run)) ≡ after_acts ((old ++ made) ++ more) run
 after_more old made more run = ap (λ (l : List Act). record { acts = l; end = run.end }) (sym (append_assoc old made (more ++ run.acts)) ∙ sym (append_assoc (old ++ made) more run.acts))
 

@@ -17,7 +17,7 @@ use Rattle.relay_choice.specs.private.Runs.{begins_with_dot, dot_before}
 abbrev pub crlf_dot : List ℕ
 crlf_dot = 13 ∷ 10 ∷ 46 ∷ []
 
--- a line that begins with a dot stands behind CRLF at place k
+-- a line that begins with a dot stands after CRLF at place k
 record IsDottedAt (xs : List ℕ) (k : ℕ) : Type 0 where
   fits : suc (suc (suc k)) ≤ length xs
   cr : get_or xs k 0 ≡ 13
@@ -74,7 +74,7 @@ others_put : (x : ℕ) (lines : List (List ℕ)) → others_stuffed (put_before 
 others_put x [] = refl
 others_put x (line ∷ lines) = refl
 
--- the octets of a text from within a line on, where no dot is put before these so many, and one is behind them
+-- the octets of a text from within a line on, where no dot is put before these so many, and one is after them
 abbrev HasRun : List ℕ → Type 0
 HasRun xs = (k : ℕ) → IsDottedAt xs k → ((j : ℕ) → j < k → IsDottedAt xs j → ⊥)
     → others_stuffed (lines_of xs) ≡ take (suc (suc k)) xs ++ stuffed (drop (suc (suc k)) xs)
@@ -83,7 +83,7 @@ HasRun xs = (k : ℕ) → IsDottedAt xs k → ((j : ℕ) → j < k → IsDottedA
 abbrev HasNoDot : List ℕ → Type 0
 HasNoDot xs = ((j : ℕ) → IsDottedAt xs j → ⊥) → others_stuffed (lines_of xs) ≡ xs
 
--- behind CRLF, over octets at which no line begins with a dot
+-- after CRLF, over octets at which no line begins with a dot
 not_dotted : (x y : ℕ) (rest : List ℕ) → is_crlf x y ≡ true → (IsDottedAt (x ∷ y ∷ rest) 0 → ⊥) → begins_with_dot rest ≡ false
 not_dotted x y [] is none = refl
 not_dotted x y (z ∷ rest) is none =

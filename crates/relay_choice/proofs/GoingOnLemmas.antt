@@ -119,7 +119,7 @@ transaction_on offer number mail_object (recipient ∷ recipients) replies more 
 
 -- ---- a run
 
--- acts behind acts
+-- acts after acts
 after_both : (acts more : List Act) (run : Run) → after_acts acts (after_acts more run) ≡ after_acts (acts ++ more) run
 after_both acts more run = ap (λ (l : List Act). record { acts = l; end = run.end }) (sym (append_assoc acts more run.acts))
 

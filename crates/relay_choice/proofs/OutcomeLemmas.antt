@@ -38,7 +38,7 @@ at_place : (f : Recipient → Plan) (xs : List Recipient) (i : ℕ) (x : Recipie
 at_place f xs i x outcomes lt is = at_drop_more (λ (l : List Recipient). merged (map f l) outcomes) xs i x lt
     ∙ ap (λ (y : Recipient). merged (f y ∷ map f (drop (i + 1) xs)) outcomes) (sym is)
 
--- one recipient more, behind those with these outcomes
+-- one recipient more, after those with these outcomes
 put_last : (made rest : List Outcome) (one : Outcome) → made ++ one ∷ rest ≡ (made ++ one ∷ []) ++ rest
 put_last made rest one = sym (append_assoc made (one ∷ []) rest)
 

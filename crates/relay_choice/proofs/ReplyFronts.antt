@@ -31,7 +31,7 @@ joins_after [] y ys zs = refl
 joins_after (x ∷ []) y ys zs = refl
 joins_after (x ∷ z ∷ xs) y ys zs = joins_after (z ∷ xs) y ys zs
 
--- an octet behind these makes no CRLF with them
+-- an octet after these makes no CRLF with them
 pub octet_apart : (xs : List ℕ) (x : ℕ) → (x ≡ 10 → ends_by_cr xs ≡ false) → joins xs (x ∷ []) ≡ false
 octet_apart [] x differs = refl
 octet_apart (y ∷ []) x differs = is_crlf_false y x (λ cr lf. let no_cr : is_crlf y 10 ≡ false = differs lf in let both = is_crlf_true y 10 cr refl in cc)
@@ -69,7 +69,7 @@ code_apart (x ∷ y ∷ z ∷ []) [] is = refl
 code_apart (x ∷ y ∷ z ∷ []) (w ∷ ys) is = let digit : 48 ≤ z = grind (arith, nat_tests) in is_crlf_false z w (λ cr lf. omega (arith, digit, cr))
 code_apart (x ∷ y ∷ z ∷ w ∷ more) ys is = cc
 
--- behind the code: a sign, and a text that may go on
+-- after the code: a sign, and a text that may go on
 pub record IsTextFront (code : List ℕ) (n : ℕ) (front : List ℕ) : Type 0 where
   pub sign : ℕ
   pub text : List ℕ
@@ -135,7 +135,7 @@ line_front own n front line later x is signed unended reaches = elim (splits own
           short = left_room;
         })
 
--- the octet behind a front, by what is there already
+-- the octet after a front, by what is there already
 
 code_octet : (front left : List ℕ) (x : ℕ) → is_code (front ++ x ∷ left) ≡ true → first_code_fits (length front) x ≡ true
 code_octet [] [] x is = cc
@@ -191,7 +191,7 @@ same_code_by code front n x small some at =
     let found = within_code code n front x small at in
     ap (λ (l : List ℕ). get_or l (length front) 0) (sym (at.same some) ∙ found.1) ∙ get_or_at front x found.0 0 (length front) refl
 
--- behind the code
+-- after the code
 pub sign_by : (code front : List ℕ) (n x : ℕ) → length front ≡ 3 → IsWithin code n front x → sign_fits n x ≡ true
 sign_by code front n x three at =
     let both = same_fronts at.own (at.signed.sign ∷ at.signed.following) front (x ∷ at.later) 3 (code_length at.own at.is_code_of) three (sym at.signed.spelled ∙ at.reaches) in

@@ -10,7 +10,7 @@ use Rattle.relay_choice.specs.Relay.{after_act, after_acts, data_transaction, do
 use Rattle.relay_choice.specs.Standing.{ClientState, first_run, mail_object_run, rest_by, run_from}
 use Rattle.relay_choice.proofs.TurnLemmas.{mail_object_acts, letter_first, same_run, stops_run}
 
--- a mail object that is done is settled, and then those behind it come
+-- a mail object that is done is settled, and then those after it come
 pub mail_object_settled : (client : ClientState) (x : MailObject) (outcomes : List Outcome) (left : List Reply) → client.at < length client.mail_objects → x ≡ get_or client.mail_objects client.at x
     → mail_object_run client (λ mail_object. done [] outcomes left) ≡ after_acts (settled client.offer client.at x outcomes ∷ []) (run_from client (client.at + 1) left)
 mail_object_settled client x outcomes left lt is = ap (first_run client (λ mail_object. done [] outcomes left)) (letter_first client.mail_objects client.at x lt is)

@@ -44,7 +44,7 @@ not_last code own text last_text line last is own_is further is_last same =
       | inr e ↦ let signs = (same_codes code own _ _ is own_is (sym further.spelled ∙ same ∙ e.1)).1 in cc
     ]
 
--- the rest of a reply behind so many lines, which have this code if there are any
+-- the rest of a reply after so many lines, which have this code if there are any
 pub record IsRest (code : List ℕ) (n : ℕ) (rest : List ℕ) : Type 0 where
   pub own : List ℕ
   pub is_code_of : is_code own ≡ true
@@ -100,7 +100,7 @@ rest_by code own n text line rest is own_is is_further (other_text ∷ texts) la
       is_last = is_last;
     }
 
--- behind one line more
+-- after one line more
 rest_after : (code : List ℕ) (n : ℕ) (text line rest : List ℕ) → is_code code ≡ true → IsFurtherLine code text line → IsRest code n (line ++ rest) → IsRest code (n + 1) rest
 rest_after code n text line rest is is_further of =
     rest_by code of.own n text line rest is of.is_code_of is_further of.texts of.text of.further of.last of.few of.whole of.are_further of.is_last
@@ -115,7 +115,7 @@ rest_after_all code n (text ∷ texts) further rest is are of =
     let count : n + 1 + length texts ≡ n + suc (length texts) = omega arith in
     subst (λ k. IsRest code k rest) count (rest_after_all code (n + 1) texts others rest is are.4 (rest_after code n text line (others ++ rest) is are.3 from))
 
--- what a line is behind its code, and that it has CRLF at its end
+-- what a line is after its code, and that it has CRLF at its end
 pub record HasSign (n : ℕ) (code line : List ℕ) : Type 0 where
   pub sign : ℕ
   pub following : List ℕ

@@ -197,7 +197,7 @@ read_once octets (read.NotReply used) (read.NotReply other) one two = elim (case
   | inr (inr gt) ↦ absurd (none_below octets other used one.0 two.1 one.1 gt)
 ]
 
--- the beginning of a reply, and the octets behind which none goes on
+-- the beginning of a reply, and the octets after which none goes on
 
 pub nothing_begun : IsReplyFront [] (record { start = 0; lines = 0 })
 nothing_begun = front_of [] (record { start = 0; lines = 0 }) (record {

@@ -157,7 +157,7 @@ begun_by : (octets tail : List ℕ) → 0 < length tail → AreReply (octets ++ 
 begun_by octets [] some are = absurd (omega (arith, some))
 begun_by octets (x ∷ more) some are = (x, more, are)
 
--- a line that came to its end, with a last line behind it where another one has to follow
+-- a line that came to its end, with a last line after it where another one has to follow
 ended_begun : (code : List ℕ) (texts : List (List ℕ)) (further front : List ℕ) (sign : ℕ) → is_code code ≡ true → length texts < REPLY_LINES → AreFurtherLines code texts further
     → IsEndedLine code (length texts) sign (front ++ 10 ∷ []) → (tail : List ℕ) × AreReply (further ++ (front ++ 10 ∷ tail))
 ended_begun code texts further front sign is few are ended = elim ended.1 [

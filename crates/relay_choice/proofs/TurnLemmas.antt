@@ -73,7 +73,7 @@ answered_reset client at none left =
     ap (λ (b : Bool). mail_object_run client (λ mail_object. if b then says data_line (data_transaction client.at client.answers left) else says reset_line (reset_transaction (map (outcome_by None) client.answers) left))) none
     ∙ mail_object_says client reset_line (λ mail_object. reset_transaction (map (outcome_by None) client.answers) left) at
 
--- what stands at a place comes first behind it
+-- what stands at a place comes first after it
 pub letter_first : (mail_objects : List MailObject) (at : ℕ) (x : MailObject) → at < length mail_objects → x ≡ get_or mail_objects at x → drop at mail_objects ≡ x ∷ drop (at + 1) mail_objects
 letter_first mail_objects at x lt is = at_drop_more (λ (l : List MailObject). l) mail_objects at x lt ∙ ap (λ (y : MailObject). y ∷ drop (at + 1) mail_objects) (sym is)
 

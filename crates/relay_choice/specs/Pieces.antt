@@ -22,7 +22,7 @@ pub record BeginsBy (before piece : List ℕ) (reader : ReplyReader) : Type 0 wh
   pub octets_are : reader.octets ≡ before ++ piece
   pub begun : HasBegunReply reader
 
--- what came of a piece behind these octets of a reply
+-- what came of a piece after these octets of a reply
 abbrev pub TakesReplyPiece : (before piece : List ℕ) → Taken → Type 0
 TakesReplyPiece before piece (taken.Begun reader) = BeginsBy before piece reader
 TakesReplyPiece before piece (taken.Decided octets used) = DecidesBy before piece octets used

@@ -119,12 +119,12 @@ answered_transaction number answers replies =
 abbrev pub is_answer : (code : ℕ) → Bool
 is_answer code = is_completed code || is_permanent code
 
--- the reply to RCPT, behind these answers, and what follows
+-- the reply to RCPT, after these answers, and what follows
 abbrev pub answer_transaction : (List ℕ → List Reply → Transaction) → (answers : List ℕ) → List Reply → Transaction
 answer_transaction next answers [] = ended [] waits
 answer_transaction next answers (reply ∷ left) = if is_answer reply.code then next (answers ++ reply.code ∷ []) left else ended [] (stopped reply)
 
--- RCPT for each of these recipients, behind those with these answers
+-- RCPT for each of these recipients, after those with these answers
 unfoldable pub rcpt_transaction : Offer → (number : ℕ) (recipients : List Recipient) (answers : List ℕ) → List Reply → Transaction
 rcpt_transaction offer number [] answers replies = answered_transaction number answers replies
 rcpt_transaction offer number (recipient ∷ recipients) answers replies =
@@ -155,7 +155,7 @@ abbrev pub followed : Offer → (number : ℕ) → MailObject → Transaction �
 followed offer number mail_object (done acts outcomes left) next = after_acts (acts ++ settled offer number mail_object outcomes ∷ []) (next left)
 followed offer number mail_object (ended acts end) next = record { acts = acts; end = end }
 
--- the mail objects in order, the first of which has this number, and QUIT behind them
+-- the mail objects in order, the first of which has this number, and QUIT after them
 unfoldable pub mail_objects_run : Offer → (number : ℕ) → List MailObject → List Reply → Run
 mail_objects_run offer number [] replies = record { acts = act.Say quit_line ∷ []; end = finished }
 mail_objects_run offer number (mail_object ∷ mail_objects) replies =

@@ -44,7 +44,7 @@ abbrev pub first_run : ClientState → (MailObject → Transaction) → List Mai
 first_run client exchange [] = record { acts = []; end = waits }
 first_run client exchange (mail_object ∷ mail_objects) = followed client.offer client.at mail_object (exchange mail_object) (mail_objects_run client.offer (client.at + 1) mail_objects)
 
--- what comes of the mail object that a client is at, and of those behind it
+-- what comes of the mail object that a client is at, and of those after it
 abbrev pub mail_object_run : ClientState → (MailObject → Transaction) → Run
 mail_object_run client exchange = first_run client exchange (drop client.at client.mail_objects)
 

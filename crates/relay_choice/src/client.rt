@@ -108,7 +108,7 @@ impl Client {
         Ok(Turn::Goes { client, acts })
     }
 
-    // Settles the mail object, which a reply with this code refuses, if one does, and goes on with those behind it.
+    // Settles the mail object, which a reply with this code refuses, if one does, and goes on with those after it.
     fn settle(self, code: Option<u16>) -> Result<Turn, Memory>
         requires { self.at < length self.mail_objects }
         ensures runs { IfOk result (RunsOn (λ left. mail_object_run (standing_of self) (λ mail_object. done [] (map (outcome_by code) self.answers) left))) }

@@ -18,7 +18,7 @@ pub const REPLY_LINE_MAX: usize = 2_048;
 /// The texts of a reply's lines.
 pub type Texts = Items<Octets>;
 
-/// A reply: its code, and what each line says behind the code.
+/// A reply: its code, and what each line says after the code.
 #[derive(Debug, Drop)]
 pub struct Reply {
     pub code: u16,
@@ -46,7 +46,7 @@ fn code_of(octets: &[u8]) -> u16
     hundreds * 100 + tens * 10 + u16::from(octets[2] - b'0')
 }
 
-// What a line says behind the code.
+// What a line says after the code.
 fn text_of_line(line: &[u8]) -> &[u8]
     ensures { result.now ≡ text_of_line line.now }
 {

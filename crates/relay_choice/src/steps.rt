@@ -42,14 +42,14 @@ fn code_fits(before: &[u8], place: Place, octet: u8) -> bool
     }
 }
 
-// Whether an octet may stand behind the code. Another line may follow, unless this is the last that a reply may have.
+// Whether an octet may stand after the code. Another line may follow, unless this is the last that a reply may have.
 fn sign_fits(place: Place, octet: u8) -> bool
     ensures { result ≡ sign_fits place.lines octet }
 {
     octet == b' ' || octet == b'\r' || (octet == b'-' && place.lines < REPLY_LINES - 1)
 }
 
-// Whether an octet may stand behind these octets of a line, which has to end by CRLF. A CR behind the code ends it.
+// Whether an octet may stand after these octets of a line, which has to end by CRLF. A CR after the code ends it.
 fn text_fits(line: &[u8], octet: u8) -> bool
     requires { 4 ≤ length line.now }
     ensures { result ≡ text_fits line.now octet }

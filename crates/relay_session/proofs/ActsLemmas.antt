@@ -115,7 +115,7 @@ CanCount-first tally front back can =
 
 -- ---- how acts end
 
--- acts behind others that were done
+-- acts after others that were done
 pub ActsBy-then : (path_of : List ℕ → Option (Option Address)) (a b c : Around) (queue : List Queued) (front back : List ClientAct) (old mid new : Tally)
     → Keeps a b None → messages_of b.desk.store.kept queue ≡ messages_of a.desk.store.kept queue
     → ActsBy path_of a b queue front old mid None → ActsBy path_of b c queue back mid new None → ActsBy path_of a c queue (front ++ back) old new None
@@ -159,7 +159,7 @@ in_part_after path_of a b c queue front back rest old mid new xs m keeps same on
   tally = two.tally ∙ ap (λ (tally : Tally). tallied tally two.front two.count) mid_is ∙ sym (tallied-append old front two.front m two.count);
 }
 
--- a fault in acts behind others that were done, and before others
+-- a fault in acts after others that were done, and before others
 pub ActsBy-between : (path_of : List ℕ → Option (Option Address)) (a b c : Around) (queue : List Queued) (front back rest : List ClientAct) (old mid new : Tally) (met : Fault)
     → Keeps a b None → messages_of b.desk.store.kept queue ≡ messages_of a.desk.store.kept queue
     → ActsBy path_of a b queue front old mid None → ActsBy path_of b c queue back mid new (Some met) → ActsBy path_of a c queue (front ++ (back ++ rest)) old new (Some met)

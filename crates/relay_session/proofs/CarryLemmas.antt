@@ -19,7 +19,7 @@ use Rattle.relay_session.specs.private.Acting.{settled_count}
 
 -- ---- one report
 
--- the moments that a report uses, and that it is the same with others behind them
+-- the moments that a report uses, and that it is the same with others after them
 pub record ReportsOnward (path_of : List ℕ → Option (Option Address)) (store : StoreState) (queued : Queued) (message : List ℕ) (outcomes : List Outcome)
     (told later : List Moment) (made : List (List Record)) (count : ℕ) : Type 0 where
   pub used : List Moment
@@ -46,21 +46,21 @@ Reports-one path_of store queued message outcomes told later made count (nobody 
 Reports-one path_of store queued message outcomes told later made count (unsigned null left no_changes no_count) = omega (arith, no_count)
 Reports-one path_of store queued message outcomes told later made count (told_once moment path text delivery signed some once report to changes_are count_is) = if_one _ count count_is
 
--- ---- acts behind others
+-- ---- acts after others
 
 -- changes, and what follows them
 pub changes_in-map : (made : List (List Record)) (others : List (Act (List ℕ))) → changes_in (map changes made ++ others) ≡ made ++ changes_in others
 changes_in-map [] others = refl
 changes_in-map (records ∷ made) others = ap (λ (l : List (List Record)). records ∷ l) (changes_in-map made others)
 
--- the store behind the changes of an entry and what follows them
+-- the store after the changes of an entry and what follows them
 store_after : (store : StoreState) (acts : List (Act (List ℕ))) (made : List (List Record)) (others : List (Act (List ℕ))) → acts ≡ map changes made ++ others
     → with_records store (records_of (changes_in acts)) ≡ with_records (with_records store (records_of made)) (records_of (changes_in others))
 store_after store acts made others is =
     ap (λ (l : List (Act (List ℕ))). with_records store (records_of (changes_in l))) is ∙ ap (λ (l : List (List Record)). with_records store (records_of l)) (changes_in-map made others)
     ∙ ap (with_records store) (records_of-append made (changes_in others)) ∙ sym (with_records-append store (records_of made) (records_of (changes_in others)))
 
--- The moments that acts use, and what they come to with others behind them.
+-- The moments that acts use, and what they come to with others after them.
 pub record Onward (path_of : List ℕ → Option (Option Address)) (store : StoreState) (queue : List Queued) (messages : List (List ℕ)) (told : List Moment) (first : List ClientAct)
     (acts : List (Act (List ℕ))) (count : ℕ) : Type 0 where
   pub used : List Moment

@@ -136,7 +136,7 @@ settled_few before bag replies =
 
 -- ---- acts that are due
 
--- A reply came behind others, and these acts are due to it.
+-- A reply came after others, and these acts are due to it.
 pub record IsDue (before : Around) (bag : Mailbag before.desk.store.kept) (replies : List Reply) (reply : Reply) (acts : List ClientAct) : Type 0 where
   pub codes : All HasCode (replies ++ reply ∷ [])
   pub run_acts : (run_of before bag.mail_objects (replies ++ reply ∷ [])).acts ≡ (run_of before bag.mail_objects replies).acts ++ acts

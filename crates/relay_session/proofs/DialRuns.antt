@@ -126,7 +126,7 @@ dialled_by path_of before now result end told (begun bag some relays) why =
     let answers = subst (λ (r : Result RelayEnd Fault). AnswersRelay path_of before now bag relays.entries relays.replies relays.following r) told relays.answers in
     subst (λ (why : Option LeftCause). EndsRun path_of before now bag relays.entries relays.replies relays.following end why) why answers
 
--- the dial is no cause behind a connection
+-- the dial is no cause after a connection
 never_dial : (before now : Around) (end : RelayEnd) → Relays before now (Ok end) → end.cause ≡ Some cause.Dial → ⊥
 never_dial before now end relays is = dialled_by oracles_given.0.path_of before now (Ok end) end refl (relays oracles_given.0.path_of oracles_given.1.paths) is
 

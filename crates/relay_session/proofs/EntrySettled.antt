@@ -29,7 +29,7 @@ use Rattle.relay_session.proofs.TallyLemmas.{counted-reported}
 abbrev report_count : (kept : Bool) → ℕ
 report_count kept = if kept then 1 else 0
 
--- ---- behind the report
+-- ---- after the report
 
 module _ (path_of : List ℕ → Option (Option Address)) (before mid : Around) (queued : Queued) (outcomes : List Outcome) (count : ℕ) (report : MadeReport path_of before mid queued outcomes count None) where
   kept_is : mid.desk.store.kept ≡ after_all before.desk.store.kept (records_of report.changes)

@@ -71,7 +71,7 @@ some_replies client = some_by client.awaited (standing_of client) client.within
 fewer_left : (m n r q t : ℕ) → n < m → t ≤ REPLY_LINES * REPLY_LINE_MAX → q ≡ 0 → n * (REPLY_LINES * REPLY_LINE_MAX) - r + t ≤ m * (REPLY_LINES * REPLY_LINE_MAX) - q
 fewer_left m n r q t less few none = omega (arith, less, few, none)
 
--- behind a reply, of which a reader had nothing yet
+-- after a reply, of which a reader had nothing yet
 pub reply_short : (client next : Client) (reader : ReplyReader) (octets : List ℕ) (reply : Reply) → replies_left (standing_of next) < replies_left (standing_of client) → reader.octets ≡ [] → IsReply octets reply
     → replies_left (standing_of next) * (REPLY_LINES * REPLY_LINE_MAX) - length reader.octets + length octets ≤ replies_left (standing_of client) * (REPLY_LINES * REPLY_LINE_MAX) - length reader.octets
 reply_short client next reader octets reply less anew is =
@@ -81,7 +81,7 @@ reply_short client next reader octets reply less anew is =
 front_left : (m r p q : ℕ) → 0 < m → r ≤ REPLY_LINES * REPLY_LINE_MAX → r ≡ q + p → m * (REPLY_LINES * REPLY_LINE_MAX) - r + p ≤ m * (REPLY_LINES * REPLY_LINE_MAX) - q
 front_left m r p q some few parts = omega (arith, some, few, parts)
 
--- behind a piece that belongs to one reply
+-- after a piece that belongs to one reply
 pub front_short : (client : Client) (reader next : ReplyReader) (piece : List ℕ) → next.octets ≡ reader.octets ++ piece → HasBegunReply next
     → replies_left (standing_of client) * (REPLY_LINES * REPLY_LINE_MAX) - length next.octets + length piece ≤ replies_left (standing_of client) * (REPLY_LINES * REPLY_LINE_MAX) - length reader.octets
 front_short client reader next piece is begun =

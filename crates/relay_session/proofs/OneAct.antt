@@ -167,7 +167,7 @@ ActsBy-settles path_of a b queue number queued outcomes old new (Some fault.Memo
 ActsBy-settles path_of a b queue number queued outcomes old new (Some fault.Memory) there (inr does) =
     nothing_done path_of a b queue (act.Settle number outcomes ∷ []) fault.Memory does
 
--- what is kept behind the changes
+-- what is kept after the changes
 kept_after : (a b : Around) (made : List (List Record)) → DoesActs a b None (map changes made) → b.desk.store.kept ≡ after_all a.desk.store.kept (records_of made)
 kept_after a b made does =
     let alone : changes_in {P = List ℕ} (map changes made) ≡ made =
@@ -188,7 +188,7 @@ settles_kept path_of a b queue number queued outcomes old new known there (count
           (open_after path_of a.desk.store queue place queued outcomes made.told [] made.made count known (rw at at there) made.settled are_open);
     }
 
--- the entries behind it are open as before
+-- the entries after it are open as before
 pub KeepsQueue-settles : (path_of : List ℕ → Option (Option Address)) (a b : Around) (queue : List Queued) (number : ℕ) (queued : Queued) (outcomes : List Outcome) (old new : Tally) (met : Option Fault)
     → AreKnown a.desk.store.kept queue → slice_get queue number ≡ Some queued → Settles path_of a b queued outcomes old new met → met ≡ None → KeepsQueue a b queue (act.Settle number outcomes ∷ [])
 KeepsQueue-settles path_of a b queue number queued outcomes old new met known there settles none = settles_kept path_of a b queue number queued outcomes old new known there (rw none at settles)

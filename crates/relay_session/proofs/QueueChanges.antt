@@ -132,7 +132,7 @@ one_fewer P [] (suc place) holds = tt
 one_fewer P (x ∷ xs) zero holds = holds.1
 one_fewer P (x ∷ xs) (suc place) holds = one_fewer P xs place holds
 
--- the entries behind it are open as before
+-- the entries after it are open as before
 pub open_after : (path_of : List ℕ → Option (Option Address)) (store : StoreState) (queue : List Queued) (place : ℕ) (queued : Queued) (outcomes : List Outcome) (told later : List Moment)
     (made : List (List Record)) (count : ℕ) → AreKnown store.kept queue → slice_get queue place ≡ Some queued → IsSettled path_of store queued outcomes told later made count
     → AreOpenFrom store.kept queue place → AreOpenFrom (after_all store.kept (records_of made)) queue (place + 1)

@@ -103,7 +103,7 @@ of_queue path_of a b queue other acts old new met same by = subst (λ (l : List 
 kept_queue : (a b : Around) (queue other : List Queued) (acts : List ClientAct) → other ≡ queue → KeepsQueue a b queue acts → KeepsQueue a b other acts
 kept_queue a b queue other acts same keeps = subst (λ (l : List Queued). KeepsQueue a b l acts) (sym same) keeps
 
--- the client and the tally behind a reply
+-- the client and the tally after a reply
 abbrev pub run_after : Run → Client → Tally → Run
 run_after run client tally = record { client = client; reader = run.reader; tally = tally }
 

@@ -57,7 +57,7 @@ places_pass {T = T} test P at (x ∷ xs) holds =
       | inr other ↦ rw other rest
     ]
 
--- ---- numbers behind others
+-- ---- numbers after others
 
 pub increasing_tail : (n : ℕ) (ns : List ℕ) → IsStrictlyIncreasing (n ∷ ns) → IsStrictlyIncreasing ns
 increasing_tail n ns rising = λ k less.
@@ -76,7 +76,7 @@ above_first f n (x ∷ xs) rising =
     let first : n < f x = rising 0 (omega arith) in
     (first, above_lower f n (f x) xs first (above_first f (f x) xs (increasing_tail n (f x ∷ map f xs) rising)))
 
--- all others behind a place are above what stands there
+-- all others after a place are above what stands there
 pub above_place : {T : Type 0} (f : T → ℕ) (xs : List T) (place : ℕ) (x : T) → IsStrictlyIncreasing (map f xs) → slice_get xs place ≡ Some x → AllByRecursion (λ y. f x < f y) (drop (suc place) xs)
 above_place f [] place x rising there = absurd (none-some x there)
 above_place f (y ∷ xs) zero x rising there =

@@ -1,4 +1,4 @@
--- How a run ends behind a reply, or octets in its place.
+-- How a run ends after a reply, or octets in its place.
 use Rattle.std.proofs.Common.{◌≡◌, ℕ, ◌+◌, ◌-◌, List, [], ◌∷◌, ◌++◌, length, map, filter, Option, Some, Ok, Err, refl, sym, ap, subst, ◌∙◌, arith, append-nil, append_assoc}
 use Rattle.std.specs.Prelude.{All, flat_map}
 use Rattle.std.proofs.lemmas.List.Elements.{All-append, All-nil}
@@ -160,7 +160,7 @@ record BrokenOff (path_of : List ℕ → Option (Option Address)) (before a b : 
   given_on : Gives a.wire b.wire given
   done : IsDone (λ (octets : List ℕ). octets) a.desk.store b.desk.store a.keeper.octets b.keeper.octets (Some met) xs given
 
--- the entries behind them, and what was broken off
+-- the entries after them, and what was broken off
 record BreaksAfter (path_of : List ℕ → Option (Option Address)) (before b : Around) (bag : Mailbag before.desk.store.kept) (replies : List Reply) (taken : List ℕ) (first : List ClientAct) (count : ℕ) (met : Fault) : Type 0 where
   entries : List Entry
   given : List ℕ

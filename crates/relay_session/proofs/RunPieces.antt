@@ -138,7 +138,7 @@ running_taken path_of before a b bag run n into piece leaves keeps running =
 abbrev pub end_of : Tally → Option LeftCause → RelayEnd
 end_of tally cause = record { sent = tally.sent; reported = tally.reported; left = tally.left; cause = cause }
 
--- all these acts were done, and nothing behind them
+-- all these acts were done, and nothing after them
 pub stopped_after : (old new : StoreState) (had has : Option (List ℕ)) (acts : List (Act (List ℕ))) (given : List ℕ) → IsDone (λ octets. octets) old new had has None acts given
     → StopsIn (λ octets. octets) old new had has acts given
 stopped_after old new had has acts given done = record {

@@ -1,4 +1,4 @@
--- A run goes on behind a reply: the acts that are due to it are a part of the acts of a run of the client over one reply more.
+-- A run goes on after a reply: the acts that are due to it are a part of the acts of a run of the client over one reply more.
 use Rattle.std.proofs.Common.{◌≡◌, ℕ, ◌+◌, ◌-◌, ◌≤◌, List, [], ◌∷◌, ◌++◌, length, map, Option, None, Some, refl, sym, ap, subst, ◌∙◌, arith, append-nil, append_assoc}
 use Rattle.std.specs.Prelude.{All, flat_map}
 use Rattle.std.specs.List.{AllZip, concat}
@@ -88,7 +88,7 @@ pub record Entered (before now : Around) (bag : Mailbag before.desk.store.kept) 
   pub given_is : given_of entries ≡ given
   pub taken_is : taken_of entries ≡ taken
 
--- octets were given behind them
+-- octets were given after them
 pub entered_more : (before a b : Around) (bag : Mailbag before.desk.store.kept) (entries : List Entry) (octets : List ℕ) → Moves before.wire a.wire entries → SpeaksInTurn before bag entries
     → (more : Gives a.wire b.wire octets) → Entered before b bag (entries ++ more.entries) (given_of entries ++ octets) (taken_of entries)
 entered_more before a b bag entries octets moves in_turn more = record {
@@ -233,7 +233,7 @@ does_more path_of before a b bag replies all back ys n given does messages clock
     } in
     (more, refl)
 
--- ---- at work behind a reply
+-- ---- at work after a reply
 
 -- the run with another reply, and with entries in which acts were given
 pub record GoesOn (before now : Around) (bag : Mailbag before.desk.store.kept) (run : Run) (pending : List ℕ) (replies : List Reply) (given : List ℕ) : Type 0 where

@@ -35,7 +35,7 @@ same_first text other following rest reply one same is are =
       rests = sym (drop_at text following (length text) refl) ∙ ap (λ (l : List ℕ). drop (length text) l) same ∙ drop_at other rest (length text) long;
     }
 
--- replies with octets behind them are the first of all
+-- replies with octets after them are the first of all
 front_of_all : (texts others : List (List ℕ)) (replies all : List Reply) (more following : List ℕ) → AllZip IsReply texts replies → AllZip IsReply others all → concat texts ++ more ≡ concat others ++ following
     → ((text rest : List ℕ) (reply : Reply) → following ≡ text ++ rest → IsReply text reply → ⊥) → (left : List Reply) × (all ≡ replies ++ left)
 front_of_all [] others [] all more following are every same none = (all, refl)

@@ -137,7 +137,7 @@ module _ (before now : Around) (entry : ℕ) (unsettled left : List Unsettled) (
       (DoesFirst-between (λ octets. octets) before now after met (takes entry t.done t.told) (changes (records.Settle entry one.index ∷ []) ∷ []) (takes entry others more) t.does
       (Does-made (λ octets. octets) now after (Some met) ((records.Settle entry one.index ∷ []) ∷ []) makes))
 
-  -- whoever stands behind him waits when he is settled
+  -- whoever stands after him waits when he is settled
   others_wait : (kept : Kept) (us : List Unsettled) → AllByRecursion (λ (u : Unsettled). one.index < u.index) us → Waits kept entry us → Waits (after_record kept (records.Settle entry one.index)) entry us
   others_wait kept [] above still = tt
   others_wait kept (u ∷ us) above still =

@@ -1,4 +1,4 @@
--- What acts of a client count for, of one list behind another.
+-- What acts of a client count for, of one list after another.
 use Rattle.std.proofs.Common.{◌≡◌, ℕ, ◌+◌, ◌-◌, ◌≤◌, List, [], ◌∷◌, ◌++◌, length, filter, append-nil, refl, sym, ap, ◌∙◌, arith}
 use Rattle.std.specs.List.{flat_map}
 use Rattle.std.proofs.lemmas.List.{length-append}
@@ -119,7 +119,7 @@ tallied-is tally (act.Settle number outcomes ∷ acts) count =
 pub tallied-nothing : (tally : Tally) → tally ≡ tallied tally [] 0
 tallied-nothing tally = same_tally tally.sent tally.reported tally.left tally.sent (tally.reported + 0) tally.left refl (omega arith) refl
 
--- acts behind others
+-- acts after others
 pub tallied-append : (tally : Tally) (xs ys : List Act) (m n : ℕ) → tallied tally (xs ++ ys) (m + n) ≡ tallied (tallied tally xs m) ys n
 tallied-append tally xs ys m n =
     let mid = tallied tally xs m in

@@ -63,7 +63,7 @@ pub record Carried (path_of : List ℕ → Option (Option Address)) (before : Ar
 abbrev pub Done : (before now : Around) → Option Fault → List (Act (List ℕ)) → (given : List ℕ) → Type 0
 Done before now met acts given = IsDone (λ octets. octets) before.desk.store now.desk.store before.keeper.octets now.keeper.octets met acts given
 
--- A run was broken off in the last of these acts, or behind them.
+-- A run was broken off in the last of these acts, or after them.
 pub record BreaksRunOff (path_of : List ℕ → Option (Option Address)) (before now : Around) (bag : Mailbag before.desk.store.kept) (replies : List Reply) (given : List ℕ) (met : Fault) : Type 0 where
   pub first : List ClientAct
   pub acts : List (Act (List ℕ))
@@ -109,7 +109,7 @@ pub record Finishes (path_of : List ℕ → Option (Option Address)) (before now
   pub leaves : LeavesServer path_of before now bag replies given
   pub counts : HasNumbers bag.mail_objects (run_of before bag.mail_objects replies).acts leaves.count end
 
--- Why octets in a reply's place stop the run: they are a reply that does, which stands behind the others in what was taken, or the
+-- Why octets in a reply's place stop the run: they are a reply that does, which stands after the others in what was taken, or the
 -- least that begin none, or nothing more comes.
 pub data StopsRun (now : Around) (run : Run) (taken : List ℕ) (replies : List Reply) (following octets : List ℕ) : Type 0 where
   by_reply : (reply : Reply) (front : List Reply) → replies ≡ front ++ reply ∷ [] → IsReply octets reply → AreReplies taken front (octets ++ following) → run.end ≡ stopped reply → StopsRun now run taken replies following octets

@@ -4,7 +4,7 @@ use Rattle.std.specs.List.{AllZip, concat}
 use Rattle.relay_choice.specs.Replies.{IsBegun, IsReply}
 use Rattle.relay_choice.specs.declared.replies.Reply.{Reply}
 
--- The octets are these replies, and what stands behind them.
+-- The octets are these replies, and what stands after them.
 pub record AreReplies (octets : List ℕ) (replies : List Reply) (following : List ℕ) : Type 0 where
   pub texts : List (List ℕ)
   pub are : AllZip IsReply texts replies
@@ -14,7 +14,7 @@ pub record AreReplies (octets : List ℕ) (replies : List Reply) (following : Li
 abbrev pub IsUndecided : List ℕ → Type 0
 IsUndecided octets = (octets ≡ []) ⊎ IsBegun octets
 
--- They are these replies, and what stands behind them begins with none.
+-- They are these replies, and what stands after them begins with none.
 pub record AreAllReplies (octets : List ℕ) (replies : List Reply) : Type 0 where
   pub following : List ℕ
   pub are : AreReplies octets replies following

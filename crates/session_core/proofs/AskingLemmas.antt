@@ -78,7 +78,7 @@ AsksAndReplies-then a b c met asked more octets others one two = record {
   fine = two.fine;
 }
 
--- ---- acts behind the messages that are asked for
+-- ---- acts after the messages that are asked for
 
 asks_none : {P : Type 0} (spelled : P → List ℕ) (a b : Around) (asked : List Asked) → Asks a b None asked → DoesAll {P = P} spelled a b (asking asked [])
 asks_none {P = P} spelled a b asked asks = record {
@@ -91,7 +91,7 @@ asks_none {P = P} spelled a b asked asks = record {
 pub DoesAll-asks : {P : Type 0} (spelled : P → List ℕ) (a b : Around) (asked : List Asked) → Asks a b None asked → DoesAll {P = P} spelled a b (map asks_for asked)
 DoesAll-asks {P = P} spelled a b asked asks = subst (λ (acts : List (Act P)). DoesAll spelled a b acts) (append-nil (map asks_for asked)) (asks_none spelled a b asked asks)
 
--- and acts behind them were done, or broken off
+-- and acts after them were done, or broken off
 pub Does-asking : {P : Type 0} (spelled : P → List ℕ) (a b c : Around) (met : Option Fault) (asked : List Asked) (acts : List (Act P)) → Asks a b None asked → Does spelled b c met acts
     → Does spelled a c met (asking asked acts)
 Does-asking spelled a b c met asked acts asks does = Does-then spelled a b c met (map asks_for asked) acts (DoesAll-asks spelled a b asked asks) does

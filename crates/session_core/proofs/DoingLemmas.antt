@@ -30,7 +30,7 @@ DoesAll-then spelled a b c xs ys one two = record {
   fetched = rw (asked_in-append xs ys) (Fetched-append (asked_in xs) (asked_in ys) a.desk.cache b.desk.cache c.desk.cache one.fetched two.fetched);
 }
 
--- some of these acts were done behind others, and before others
+-- some of these acts were done after others, and before others
 pub DoesFirst-between : {P : Type 0} (spelled : P → List ℕ) (a b c : Around) (met : Fault) (xs ys more : List (Act P)) → DoesAll spelled a b xs → DoesFirst spelled b c met ys
     → DoesFirst spelled a c met (xs ++ (ys ++ more))
 DoesFirst-between spelled a b c met xs ys more one two = record {
@@ -39,7 +39,7 @@ DoesFirst-between spelled a b c met xs ys more one two = record {
   done = IsDone-more spelled a.desk.store b.desk.store c.desk.store a.keeper.octets b.keeper.octets c.keeper.octets met xs ys more two.given one.follows two.done;
 }
 
--- a fault in acts behind others that were done
+-- a fault in acts after others that were done
 pub DoesFirst-following : {P : Type 0} (spelled : P → List ℕ) (a b c : Around) (met : Fault) (xs ys : List (Act P)) → DoesAll spelled a b xs → DoesFirst spelled b c met ys → DoesFirst spelled a c met (xs ++ ys)
 DoesFirst-following spelled a b c met xs ys one two = rw append-nil at (DoesFirst-between spelled a b c met xs ys [] one two)
 
@@ -47,7 +47,7 @@ DoesFirst-following spelled a b c met xs ys one two = rw append-nil at (DoesFirs
 pub DoesFirst-before : {P : Type 0} (spelled : P → List ℕ) (a b : Around) (met : Fault) (xs ys : List (Act P)) → DoesFirst spelled a b met xs → DoesFirst spelled a b met (xs ++ ys)
 DoesFirst-before spelled a b met xs ys first = DoesFirst-between spelled a a b met [] xs ys (DoesAll-nil spelled a) first
 
--- acts behind others
+-- acts after others
 pub Does-then : {P : Type 0} (spelled : P → List ℕ) (a b c : Around) (met : Option Fault) (xs ys : List (Act P)) → DoesAll spelled a b xs → Does spelled b c met ys → Does spelled a c met (xs ++ ys)
 Does-then spelled a b c None xs ys one two = DoesAll-then spelled a b c xs ys one two
 Does-then spelled a b c (Some met) xs ys one two = DoesFirst-following spelled a b c met xs ys one two

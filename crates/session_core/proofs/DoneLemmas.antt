@@ -64,11 +64,11 @@ asked_in-acts (records ∷ made) reply = asked_in-acts made reply
 pub given_by-append : {P : Type 0} (spelled : P → List ℕ) (xs ys : List (Act P)) → given_by spelled (xs ++ ys) ≡ given_by spelled xs ++ given_by spelled ys
 given_by-append spelled xs ys = flat_map-append (act_octets spelled) xs ys
 
--- the records of acts behind others
+-- the records of acts after others
 pub records_in-append : {P : Type 0} (xs ys : List (Act P)) → records_of (changes_in (xs ++ ys)) ≡ records_of (changes_in xs) ++ records_of (changes_in ys)
 records_in-append xs ys = ap (λ (l : List (List Record)). records_of l) (changes_in-append xs ys) ∙ records_of-append (changes_in xs) (changes_in ys)
 
--- ---- acts behind the messages that are asked for
+-- ---- acts after the messages that are asked for
 
 pub asked_in-asking : {P : Type 0} (asked : List Asked) (acts : List (Act P)) → asked_in (asking asked acts) ≡ asked ++ asked_in acts
 asked_in-asking [] acts = refl
@@ -105,7 +105,7 @@ StopsIn-reply {P = P} spelled old new had has made reply given missing follows w
   follows = rw (changes_alone P made) follows;
 }
 
--- of a reply behind the messages that are asked for a prefix was given
+-- of a reply after the messages that are asked for a prefix was given
 pub StopsIn-asked : {P : Type 0} (spelled : P → List ℕ) (old : StoreState) (had : Option (List ℕ)) (asked : List Asked) (reply : List P) (given missing : List ℕ) → given ++ missing ≡ flat_map spelled reply
     → StopsIn spelled old old had had (asking asked (acts_of [] reply)) given
 StopsIn-asked spelled old had asked reply given missing whole = record {
@@ -121,7 +121,7 @@ StopsIn-asked spelled old had asked reply given missing whole = record {
   follows = Follows-nil old had;
 }
 
--- ---- acts behind others, and before others
+-- ---- acts after others, and before others
 
 after_and_before : {A : Type 0} (front done mid left more : List A) → front ++ ((done ++ (mid ++ left)) ++ more) ≡ (front ++ done) ++ (mid ++ (left ++ more))
 after_and_before front done mid left more =

@@ -19,7 +19,7 @@ pub fit_acts : {P : Type 0} (Fits : P → Type 0) (made : List (List Record)) (r
 fit_acts Fits [] reply fit = fit_reply Fits reply fit
 fit_acts Fits (records ∷ made) reply fit = (tt, fit_acts Fits made reply fit)
 
--- acts behind the messages that are asked for
+-- acts after the messages that are asked for
 pub fit_asking : {P : Type 0} (Fits : P → Type 0) (asked : List Asked) (acts : List (Act P)) → AllByRecursion (IsFitAct Fits) acts → AllByRecursion (IsFitAct Fits) (asking asked acts)
 fit_asking Fits [] acts fit = fit
 fit_asking Fits (one ∷ asked) acts fit = (tt, fit_asking Fits asked acts fit)

@@ -46,7 +46,7 @@ count_never (suc n) kept piece none low = absurd (apart (sym none ∙ count_cut-
     apart : {a b : List ℕ} → waiting ≡ whole a b → ⊥
     apart h = cc
 
--- nothing is kept behind a unit
+-- nothing is kept after a unit
 pub none_kept : (want : Wants) → cut_by want [] ≡ waiting
 unfolding first_line
 none_kept wants.Line = refl

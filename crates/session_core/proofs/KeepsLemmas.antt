@@ -43,7 +43,7 @@ Keeps-nil a = record {
   loans = refl;
 }
 
--- a call behind others
+-- a call after others
 pub Keeps-then : (a b c : Around) (met : Option Fault) → Keeps a b None → Keeps b c met → Keeps a c met
 Keeps-then a b c met one two = record {
   wire = HasWireCause-after a.wire b.wire c.wire (answer_of met) fault.Wire (GoesOn-of a.wire b.wire (answer_of None) fault.Wire one.wire) two.wire;
@@ -56,7 +56,7 @@ Keeps-then a b c met one two = record {
   loans = two.loans ∙ one.loans;
 }
 
--- want of memory behind calls that answered no fault
+-- want of memory after calls that answered no fault
 pub Keeps-memory : (a b : Around) → Keeps a b None → Keeps a b (Some fault.Memory)
 Keeps-memory a b kept = record {
   wire = HasWireCause-fine a.wire b.wire (answer_of (Some fault.Memory)) fault.Wire (GoesOn-of a.wire b.wire (answer_of None) fault.Wire kept.wire) (λ bad. cc);

@@ -63,9 +63,9 @@ ended_state : (protocol : Protocol) {M : Type 0} (stands : Standing protocol M) 
 ended_state protocol stands more (session.Open reading) desk state rest stood is = absurd is
 ended_state protocol stands more session.Ended desk state rest stood is = stood
 
--- ---- a stream and a piece behind it
+-- ---- a stream and a piece after it
 
--- the turns of a piece behind a stream
+-- the turns of a piece after a stream
 abbrev pub piece_turn : (instance : Instance) → StoreState → List ℕ → List ℕ → Turn instance.S (Act instance.P)
 piece_turn instance store octets piece = all_turns instance.next (turns_for instance store octets).after ((turns_for instance store octets).rest ++ piece)
 

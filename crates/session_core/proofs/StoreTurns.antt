@@ -1,4 +1,4 @@
--- What a machine's store is behind its turns: that of the changes that they make.
+-- What a machine's store is after its turns: that of the changes that they make.
 use Rattle.std.proofs.Common.{◌≡◌, ℕ, zero, suc, List, length, Option, Some, None, refl, sym, ap, ◌∙◌}
 use Rattle.mail_store.specs.Following.{records_of}
 use Rattle.mail_store.specs.StoreState.{StoreState, with_records}
@@ -8,7 +8,7 @@ use Rattle.session_core.specs.Turns.{Turn, turns, all_turns}
 use Rattle.session_core.proofs.DoneLemmas.{records_in-append}
 use Rattle.session_core.proofs.TurnsLemmas.{turns-zero, turns-stop, turns-go}
 
--- the store behind a turn is that of its changes
+-- the store after a turn is that of its changes
 abbrev pub Tracks : {S P : Type 0} → (S → StoreState) → S → Turn S (Act P) → Type 0
 Tracks store_in s turn = store_in turn.after ≡ with_records (store_in s) (records_of (changes_in turn.parts))
 

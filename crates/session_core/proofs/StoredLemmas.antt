@@ -97,7 +97,7 @@ dated_get (message ∷ messages) (suc id) all = dated_get messages id all.1
 pub dated_at : (store : StoreState) (id : ℕ) → AreStored store.kept.messages → list_all is_ascii (stored_date store id) ≡ true
 dated_at store id are = dated_get store.kept.messages id (recursion_from_All (λ (message : Message). IsDate message.date) store.kept.messages are.dated)
 
--- so it is behind messages that were taken out
+-- so it is after messages that were taken out
 pub stored-expunged : (kept : Kept) (ids : List ℕ) → AreStored kept.messages → AreStored (after_all kept (expunged ids)).messages
 stored-expunged kept [] are = are
 stored-expunged kept (id ∷ ids) are =

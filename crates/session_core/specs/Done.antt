@@ -13,7 +13,7 @@ use Rattle.journal_records.specs.declared.records.Record.{Record}
 abbrev pub given_by : {P : Type 0} → (P → List ℕ) → List (Act P) → List ℕ
 given_by spelled acts = flat_map (act_octets spelled) acts
 
--- These acts were done. Of what is given behind them, with no change in between, a prefix was given, and nothing of what is left was given or changed.
+-- These acts were done. Of what is given after them, with no change in between, a prefix was given, and nothing of what is left was given or changed.
 pub record StopsIn {P : Type 0} (spelled : P → List ℕ) (old new : StoreState) (had has : Option (List ℕ)) (acts : List (Act P)) (given : List ℕ) : Type 0 where
   pub done : List (Act P)
   pub cut : List (Act P)
@@ -26,7 +26,7 @@ pub record StopsIn {P : Type 0} (spelled : P → List ℕ) (old new : StoreState
   pub given_is : given ≡ given_by spelled done ++ begun
   pub follows : Follows old new had has (records_of (changes_in done))
 
--- These acts were done. In the change behind them the keeper failed, and nothing of what is left was done.
+-- These acts were done. In the change after them the keeper failed, and nothing of what is left was done.
 pub record FailsIn {P : Type 0} (spelled : P → List ℕ) (old new : StoreState) (had has : Option (List ℕ)) (acts : List (Act P)) (given : List ℕ) : Type 0 where
   pub done : List (Act P)
   pub failing : List Record

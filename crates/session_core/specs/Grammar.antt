@@ -86,7 +86,7 @@ IsUnit (wants.Count n) unit = length unit ≡ n
 abbrev pub StandingRows : Grammar → Type 0 → Type 1
 StandingRows grammar R = List Moment → R → Desk → grammar.S → Type 0
 
--- what the rows behind an answer stand for; none stands for an end
+-- what the rows after an answer stand for; none stands for an end
 abbrev pub StandsNext : (grammar : Grammar) {R : Type 0} → StandingRows grammar R → List Moment → Option R → Desk → grammar.S → Type 0
 StandsNext grammar stands more None desk state = grammar.wants state ≡ None
 StandsNext grammar stands more (Some rows) desk state = stands more rows desk state

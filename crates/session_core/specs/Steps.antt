@@ -22,7 +22,7 @@ pub record Begins (protocol : Protocol) {M : Type 0} (stands : Standing protocol
   pub does : WithOracles (λ oracles. Does (protocol.spelled oracles) before now (fault_of result) (protocol.opening before.desk.store))
   pub stands_for : IfOk result (λ machine. (moments : List Moment) → stands moments machine [] now.desk (protocol.start moments before.desk.store) [])
 
--- what the machine behind a step stands for; none stands for an end
+-- what the machine after a step stands for; none stands for an end
 abbrev pub StandsAfter : (protocol : Protocol) {M : Type 0} → Standing protocol M → List Moment → Option M → List ℕ → Desk → protocol.S → List ℕ → Type 0
 StandsAfter protocol stands more None kept desk state rest = protocol.HasEnded state
 StandsAfter protocol stands more (Some machine) kept desk state rest = stands more machine kept desk state rest
@@ -36,7 +36,7 @@ IsReadyNext is_ready (Some machine) kept desk = is_ready machine kept desk
 abbrev pub IsReadyAfter : {M : Type 0} → (M → List ℕ → Desk → Type 0) → Advance M → List ℕ → Desk → Type 0
 IsReadyAfter is_ready advance kept desk = IsReadyNext is_ready advance.next kept desk
 
--- a state and a rest that what is behind a step stands for, and which bring these turns with what was not used
+-- a state and a rest that what is after a step stands for, and which bring these turns with what was not used
 pub record Stays (protocol : Protocol) {M : Type 0} (stands : Standing protocol M) (oracles : Oracles) (now : Around) (advance : Advance M) (kept piece : List ℕ) (more : List Moment) (turn : Turn protocol.S (Act protocol.P)) : Type 0 where
   pub state : protocol.S
   pub rest : List ℕ

@@ -16,7 +16,7 @@ stay s octets = record { parts = []; after = s; rest = octets }
 abbrev pub following : {S P : Type 0} → List P → Turn S P → Turn S P
 following parts turn = record { parts = parts ++ turn.parts; after = turn.after; rest = turn.rest }
 
--- more octets stand behind those of the turn
+-- more octets stand after those of the turn
 abbrev pub followed_by : {S P : Type 0} → List ℕ → Turn S P → Turn S P
 followed_by more turn = record { parts = turn.parts; after = turn.after; rest = turn.rest ++ more }
 
@@ -29,7 +29,7 @@ turns next (suc n) s octets = option_map_or (λ turn. following turn.parts (turn
 abbrev pub all_turns : {S P : Type 0} → (S → List ℕ → Option (Turn S P)) → S → List ℕ → Turn S P
 all_turns next s octets = turns next (length octets) s octets
 
--- A turn takes an octet at least, and doesn't depend on what comes behind the octets that it takes.
+-- A turn takes an octet at least, and doesn't depend on what comes after the octets that it takes.
 pub record IsFramed {S P : Type 0} (next : S → List ℕ → Option (Turn S P)) : Type 0 where
   pub shorter : (s : S) (octets : List ℕ) (turn : Turn S P) → next s octets ≡ Some turn → length turn.rest < length octets
   pub stays : (s : S) (octets more : List ℕ) (turn : Turn S P) → next s octets ≡ Some turn → next s (octets ++ more) ≡ Some (followed_by more turn)

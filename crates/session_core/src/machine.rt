@@ -13,7 +13,7 @@ ghost use Rattle.session_core.specs.Steps.{Begins, IsReadyAfter, Steps};
 use crate::outside::Outside;
 use mail_wire::{Clock, Fault, Keeper, Octets, Wire};
 
-/// What came of a piece: the machine behind it, none where the session has ended, and how many octets were used.
+/// What came of a piece: the machine after it, none where the session has ended, and how many octets were used.
 #[derive(Debug, Drop)]
 pub struct Advance<M> {
     pub next: Option<M>,
@@ -53,7 +53,7 @@ pub trait Machine: Drop {
         ensures ready { IfOk result (λ advance. IsReadyAfter is_ready advance kept.new outside.new.desk) }
         ensures keeps { Keeps outside.old outside.new (fault_of result) };
 
-    /// A turn takes an octet at least, and doesn't depend on what comes behind it.
+    /// A turn takes an octet at least, and doesn't depend on what comes after it.
     ghost framed: { (oracles : Oracles) → AreOracles oracles → IsFramed (protocol.next oracles) };
 
     /// What was kept brings no turn.

@@ -61,7 +61,7 @@ fn say<W: Wire, J: Keeper, C: Clock>(
     Ok(Some(Echo::Saying(said)))
 }
 
-// A literal, behind which the command goes on.
+// A literal, after which the command goes on.
 fn say_literal<W: Wire, J: Keeper, C: Clock>(
     mut said: Octets,
     n: usize,

@@ -41,7 +41,7 @@ fn journal(alloc: Global, entry: &[u8]) -> Result<Octets, Fail> {
     Ok(joined(alloc, &[BEGUN, entry])?)
 }
 
-// What a run came to: its end, what was given, and what is kept behind the journal.
+// What a run came to: its end, what was given, and what is kept after the journal.
 #[derive(Drop)]
 struct Advance {
     end: RelayEnd,
@@ -49,7 +49,7 @@ struct Advance {
     kept: Octets,
 }
 
-// What a keeper keeps behind what it began with.
+// What a keeper keeps after what it began with.
 fn kept_following(alloc: Global, keeper: &MemKeeper, begun: usize) -> Result<Octets, Fail> {
     let kept = keeper.octets().get(begun..).unwrap_or(b"");
     Ok(Octets::from_slice(alloc, kept)?)
@@ -91,7 +91,7 @@ fn relayed(
     Ok(Advance { end, given, kept })
 }
 
-// What is kept behind the journal where the keeper fails at a call within the run.
+// What is kept after the journal where the keeper fails at a call within the run.
 fn kept_by_failing(alloc: Global, call: u64) -> Result<Octets, Fail> {
     let before = journal(alloc, FROM_ACCOUNT)?;
     let begun = before.len();

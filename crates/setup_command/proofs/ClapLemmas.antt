@@ -54,7 +54,7 @@ fault_turned s h position (x ∷ xs) plain =
     let is = not-true (x == 45) plain in
     ap₂ (λ kinds met. or_else kinds (step_fault s position met.0 met.1)) (plain_fault s x xs h is) (plain_met s.rules position x xs h is)
 
--- the faults of a plain word and of the words behind it
+-- the faults of a plain word and of the words after it
 pub faults_on : (s : Shape) (h : Held) (position : ℕ) (word : Text) (rest : List Text) → is_plain_word word ≡ true
     → walk_fault s [] (standing h position) (word ∷ rest)
     ≡ or_else (step_fault s position h value) (walk_fault s [] (to_positional s.rules (arg_by_index s.rules position) word (standing h position) h) rest)

@@ -33,7 +33,7 @@ true_is plain is = is
 all_plain : (rest : List (Bor (List ℕ))) → list_all is_plain_word (map (λ s. s.now) rest) ≡ list_all (λ (s : Bor (List ℕ)). is_plain_word s.now) rest
 all_plain rest = list_all-map is_plain_word (λ (s : Bor (List ℕ)). s.now) rest
 
--- the words behind one list's name are those behind the other's
+-- the words after one list's name are those after the other's
 pub following : (name other : List ℕ) (a b : List (List ℕ)) → name ∷ a ≡ other ∷ b → a ≡ b
 following name other a b same = cc
 

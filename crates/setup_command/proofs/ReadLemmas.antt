@@ -1,4 +1,4 @@
--- What the commands of `clap` read behind their names.
+-- What the commands of `clap` read after their names.
 use Rattle.std.proofs.Common.{ap, ap₂, refl, codes, true, List, ℕ, Some, None, [], ◌∷◌, ◌≡◌, ◌∙◌}
 use Rattle.clap.specs.Walk.{Row, Text, Held, first_of, nothing_held, reading_by, walk, walked, walk_from, finished}
 use Rattle.clap.specs.declared.parser.matches.ValueSource.TheVariants.{CommandLine}

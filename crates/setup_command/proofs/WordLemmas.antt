@@ -1,4 +1,4 @@
--- What a command of `clap` tells of the words behind its name.
+-- What a command of `clap` tells of the words after its name.
 use Rattle.std.proofs.Common.{ap, ap₂, sym, refl, codes, true, List, Option, Some, None, [], ◌∷◌, ◌≡◌, ◌∙◌, inl, inr, subst, Bor}
 use Rattle.std.specs.Prelude.{IfSome, IfNone, option_map}
 use Rattle.std.specs.Option.{option_zip}
@@ -24,7 +24,7 @@ first_plain word rest all = and_left (is_plain_word word) (list_all is_plain_wor
 rest_plain : (word : Text) (rest : List Text) → list_all is_plain_word (word ∷ rest) ≡ true → list_all is_plain_word rest ≡ true
 rest_plain word rest all = and_right (is_plain_word word) (list_all is_plain_word rest) all
 
--- the words behind one list's name are those behind the other's
+-- the words after one list's name are those after the other's
 following : (name : Text) (a b : List Text) → name ∷ a ≡ name ∷ b → a ≡ b
 following name a b same = cc
 
@@ -44,7 +44,7 @@ taken_refused kinds e none (inr among) other = rw none at among
 
 -- ---- one argument
 
--- the words behind the name that are taken are one
+-- the words after the name that are taken are one
 domain_word : (rest : List Text) → list_all is_plain_word rest ≡ true → fault_of domain_app (codes "domain" ∷ rest) ≡ [] → (word : Text) × (rest ≡ word ∷ []) × (is_plain_word word ≡ true)
 domain_word [] plain faultless = let differs = sym domain_none ∙ faultless in absurd (cc differs)
 domain_word (word ∷ []) plain faultless = (word, refl, first_plain word [] plain)
@@ -84,7 +84,7 @@ domain_refused app words e app_is called refused other =
 
 -- ---- two arguments
 
--- the words behind the name that are taken are two
+-- the words after the name that are taken are two
 account_words : (rest : List Text) → list_all is_plain_word rest ≡ true → fault_of account_app (codes "account" ∷ rest) ≡ []
     → (address password : Text) × (rest ≡ address ∷ password ∷ []) × (is_plain_word address ≡ true) × (is_plain_word password ≡ true)
 account_words [] plain faultless = let differs = sym account_none ∙ faultless in absurd (cc differs)

@@ -8,7 +8,7 @@ abbrev pub is_plain_word : List ℕ → Bool
 is_plain_word [] = false
 is_plain_word (x ∷ word) = not (x == dash)
 
--- The words are this name, and behind it only words that aren't empty and don't begin with `-`.
+-- The words are this name, and after it only words that aren't empty and don't begin with `-`.
 pub record IsCalled (name : List ℕ) (words : List (List ℕ)) : Type 0 where
   pub rest : List (List ℕ)
   pub words_are : words ≡ name ∷ rest

@@ -1,4 +1,4 @@
-//! What `clap` reads behind the name of a command.
+//! What `clap` reads after the name of a command.
 ghost use Rattle.std.specs.Prelude.{◌≡◌, ◌≢◌, ◌↔◌, ℕ, List, [], ◌∷◌, map, codes, IfOk, IfSome, IfNone, IsTrue};
 ghost use Rattle.clap.specs.Words.{app_of, kind_of, rule_of};
 ghost use Rattle.setup_command.specs.private.Apps.{account_app, domain_app, word_rule};
@@ -39,7 +39,7 @@ fn is_want_of_memory(error: &Error) -> bool
     matches!(error.kind(), ErrorKind::OutOfMemory)
 }
 
-/// The one word behind `domain`, or none where there are fewer or more.
+/// The one word after `domain`, or none where there are fewer or more.
 pub fn one_value<'a>(alloc: Global, words: &'a [&'a str]) -> Result<Option<&'a str>, Memory>
     requires { IsCalled (codes "domain") (map (λ s. s.now) words.now) }
     ensures some { IfOk result (λ found. IfSome found (λ value. map (λ s. s.now) words.now ≡ codes "domain" ∷ value.now ∷ [])) }
@@ -57,7 +57,7 @@ pub fn one_value<'a>(alloc: Global, words: &'a [&'a str]) -> Result<Option<&'a s
     }
 }
 
-/// The two words behind `account`, or none where there are fewer or more.
+/// The two words after `account`, or none where there are fewer or more.
 pub fn two_values<'a>(
     alloc: Global,
     words: &'a [&'a str],

@@ -52,7 +52,7 @@ ends_here-append octets more some = rw (take-append-le 5 octets more some) refl
 
 -- ---- the parts
 
--- The octets up to the end, the last of which are a CRLF, the line that ends the data, and what follows, also with more octets behind.
+-- The octets up to the end, the last of which are a CRLF, the line that ends the data, and what follows, also with more octets after.
 pub record IsEndCut (octets : List ℕ) (cut : Cut) : Type 0 where
   pub front : List ℕ
   pub line_is : cut.line ≡ front ++ crlf
@@ -74,7 +74,7 @@ parts_here octets cut h is =
       longer = λ more. ap (λ all. end_cut (all ++ more)) is ∙ end_cut-here (drop 5 octets ++ more);
     })
 
--- the parts where the end comes behind the first octet
+-- the parts where the end comes after the first octet
 parts_later : (x : ℕ) (rest : List ℕ) (next : Cut) → ends_here (x ∷ rest) ≡ false → IsEndCut rest next → IsEndCut (x ∷ rest) (record { line = x ∷ next.line; rest = next.rest })
 parts_later x rest next other is =
     let long : length rest ≡ length (is.front ++ crlf ++ (46 ∷ 13 ∷ 10 ∷ next.rest)) = rw is.line_is at (ap length is.parts) in
@@ -104,12 +104,12 @@ end_cut-parts (x ∷ rest) cut h = parts_by x rest cut h (λ next found. end_cut
 
 -- ---- the data
 
--- what the end of the data, behind the CRLF of the command, shows of them
+-- what the end of the data, after the CRLF of the command, shows of them
 record IsDataOf (octets : List ℕ) (cut whole : Cut) : Type 0 where
   found : end_cut (13 ∷ 10 ∷ octets) ≡ Some whole
   cut_is : following_command whole ≡ cut
 
--- data have a cut behind the CRLF of the command
+-- data have a cut after the CRLF of the command
 data_of : (octets : List ℕ) (cut : Cut) → data_cut octets ≡ Some cut → (whole : Cut) × IsDataOf octets cut whole
 data_of octets cut h = unmapped (end_cut (13 ∷ 10 ∷ octets)) refl h
   where
@@ -131,7 +131,7 @@ after_front octets (x ∷ y ∷ front) rest h =
     let lf : y ≡ 10 = cc in
     record { begins = rw (cr, lf) refl; ended = inr (front, refl) }
 
--- The data end with CRLF, where there are any, and the line that ends them follows, also with more octets behind.
+-- The data end with CRLF, where there are any, and the line that ends them follows, also with more octets after.
 pub record IsData (octets : List ℕ) (cut : Cut) : Type 0 where
   pub ended : IsEnded cut.line
   pub whole : end_cut (13 ∷ 10 ∷ octets) ≡ Some (record { line = 13 ∷ 10 ∷ cut.line; rest = cut.rest })
@@ -155,7 +155,7 @@ data_cut-parts octets cut h =
       longer = λ more. ap (option_map following_command) (found.longer more);
     })
 
--- more octets stay behind the data
+-- more octets stay after the data
 pub data_cut-stays : (octets more : List ℕ) (cut : Cut) → data_cut octets ≡ Some cut → data_cut (octets ++ more) ≡ Some (record { line = cut.line; rest = cut.rest ++ more })
 data_cut-stays octets more cut h = (data_cut-parts octets cut h).longer more
 
@@ -180,7 +180,7 @@ put_before-ended : (x : ℕ) (lines : List (List ℕ)) → 0 < length lines → 
 put_before-ended x [] some ended = absurd (omega arith)
 put_before-ended x (line ∷ lines) some ended = ((x ∷ ended.0.0, ap (λ line. x ∷ line) ended.0.1), ended.1)
 
--- behind a CRLF no octets are left, or they end with CRLF
+-- after a CRLF no octets are left, or they end with CRLF
 pub ended_after-crlf : (x y : ℕ) (rest front : List ℕ) → is_crlf x y ≡ true → x ∷ y ∷ rest ≡ front ++ crlf → IsEnded rest
 ended_after-crlf x y rest [] both h = inl cc
 ended_after-crlf x y rest (a ∷ []) both h =
@@ -189,7 +189,7 @@ ended_after-crlf x y rest (a ∷ []) both h =
     absurd (omega arith)
 ended_after-crlf x y rest (a ∷ b ∷ front) both h = inr (front, cc)
 
--- behind an octet with which no CRLF begins the octets end with CRLF
+-- after an octet with which no CRLF begins the octets end with CRLF
 pub ended_after-other : (x y : ℕ) (rest front : List ℕ) → is_crlf x y ≡ false → x ∷ y ∷ rest ≡ front ++ crlf → IsEnded (y ∷ rest)
 ended_after-other x y rest [] other h =
     let cr : x ≡ 13 = cc in
@@ -214,7 +214,7 @@ lines_ended (x ∷ []) (inl nothing) = cc
 lines_ended (x ∷ []) (inr ended) = let lengths = ap length ended.1 in absurd (omega (arith, lengths, length-append ended.0 crlf))
 lines_ended (x ∷ y ∷ rest) ended = ended_by x y rest ended (lines_ended rest) (lines_ended (y ∷ rest)) (is_crlf x y) refl
 
--- the cut behind the first octet, where the line before the end goes on
+-- the cut after the first octet, where the line before the end goes on
 cut_later : (x : ℕ) (rest line left : List ℕ) → 2 ≤ length line → end_cut (x ∷ rest) ≡ Some (record { line = x ∷ line; rest = left })
     → (b : Bool) → ends_here (x ∷ rest) ≡ b → end_cut rest ≡ Some (record { line = line; rest = left })
 cut_later x rest line left some h true is =
@@ -228,7 +228,7 @@ cut_later x rest line left some h false is =
     cut_of : (cut : Cut) (line rest : List ℕ) → line ≡ cut.line → rest ≡ cut.rest → cut ≡ record { line = line; rest = rest }
     cut_of cut line rest line_is rest_is = rw (line_is, rest_is) refl
 
--- the same behind several octets
+-- the same after several octets
 cut_after : (front rest line left : List ℕ) → 2 ≤ length line → end_cut (front ++ rest) ≡ Some (record { line = front ++ line; rest = left })
     → end_cut rest ≡ Some (record { line = line; rest = left })
 cut_after [] rest line left some h = h

@@ -16,7 +16,7 @@ use Rattle.smtp_grammar.proofs.SentLines.{two_other}
 
 -- ---- the first line
 
--- octets without a line have none behind the first octet
+-- octets without a line have none after the first octet
 pub none_first : (x y : ℕ) (rest : List ℕ) → first_line (x ∷ y ∷ rest) ≡ None → (b : Bool) → is_crlf x y ≡ b → (is_crlf x y ≡ false) × (first_line (y ∷ rest) ≡ None)
 none_first x y rest none true is = let some = first_line-crlf x y rest is in cc
 none_first x y rest none false is = (is, unmapped (first_line (y ∷ rest)) (sym (first_line-other x y rest is) ∙ none))
@@ -25,7 +25,7 @@ none_first x y rest none false is = (is, unmapped (first_line (y ∷ rest)) (sym
     unmapped None h = refl
     unmapped (Some cut) h = cc
 
--- a cut behind octets
+-- a cut after octets
 pub unput : (xs : List ℕ) (cut : Cut) (found : Option Cut) → option_map (put xs) found ≡ Some cut
     → (next : Cut) × (found ≡ Some next) × (cut ≡ record { line = xs ++ next.line; rest = next.rest })
 unput xs cut None h = cc
@@ -56,7 +56,7 @@ two_at_least : (line front : List ℕ) → line ≡ front ++ crlf → (y : ℕ) 
 two_at_least [] front is y rest following h = let long = ap length is in absurd (omega (arith, long, length-append front crlf))
 two_at_least (x ∷ others) front is y rest following h = let same : y ≡ x = cc in (others, rw same refl)
 
--- the line goes on behind its first octet
+-- the line goes on after its first octet
 first_later : (x y : ℕ) (rest : List ℕ) (next : Cut) → is_crlf x y ≡ false → first_line (y ∷ rest) ≡ Some next → IsFirst (y ∷ rest) next
     → IsFirst (x ∷ y ∷ rest) (record { line = x ∷ next.line; rest = next.rest })
 first_later x y rest next other found first =
@@ -99,7 +99,7 @@ end_cut-no_line (x ∷ y ∷ rest) none =
     let parts = none_first x y rest none (is_crlf x y) refl in
     end_cut-other x (y ∷ rest) (two_other x y rest parts.0 (x == 13) refl) ∙ ap (option_map (begun_with x)) (end_cut-no_line (y ∷ rest) parts.1)
 
--- a line that ends behind octets without one is longer than these
+-- a line that ends after octets without one is longer than these
 pub longer_line : (xs ys : List ℕ) (cut : Cut) → first_line xs ≡ None → first_line (xs ++ ys) ≡ Some cut → length xs < length cut.line
 longer_line [] ys cut none found = let some = (first_line-cut ys cut found).some in omega arith
 longer_line (x ∷ []) ys cut none found = let some = (first_line-cut (x ∷ ys) cut found).some in omega arith
@@ -146,7 +146,7 @@ data_cut-last octets rest found =
     let parts : octets ≡ 46 ∷ 13 ∷ 10 ∷ rest = (first_line-cut octets (record { line = last_line; rest = rest }) found).parts in
     ap data_cut parts ∙ ap (option_map following_command) (end_cut-here rest)
 
--- the end behind the command's CRLF, from the data behind it
+-- the end after the command's CRLF, from the data after it
 end_following : (octets : List ℕ) (found : Option Cut) → data_cut octets ≡ found → end_cut (13 ∷ 10 ∷ octets) ≡ option_map (put (13 ∷ 10 ∷ [])) found
 end_following octets None is = unmapped (end_cut (13 ∷ 10 ∷ octets)) is
   where
@@ -183,7 +183,7 @@ AreDataLines lines = AllByRecursion IsDataLine lines
 line_before : (line more : List ℕ) → IsDataLine line → first_line (line ++ more) ≡ Some (record { line = line; rest = more })
 line_before line more is = (first_line-cut line (record { line = line; rest = [] }) is.whole).longer more
 
--- the data behind lines of data
+-- the data after lines of data
 pub data_cut-lines : (lines : List (List ℕ)) (more : List ℕ) → AreDataLines lines → data_cut (concat lines ++ more) ≡ option_map (put (concat lines)) (data_cut more)
 data_cut-lines [] more are = put_nothing (data_cut more)
 data_cut-lines (line ∷ lines) more are =
@@ -196,7 +196,7 @@ data_cut-lines (line ∷ lines) more are =
     put_both xs ys None = refl
     put_both xs ys (Some cut) = ap (λ all. Some (record { line = all; rest = cut.rest })) (sym (append_assoc xs ys cut.line))
 
--- the lines of lines of data, and of octets behind them
+-- the lines of lines of data, and of octets after them
 pub lines_of-lines : (lines : List (List ℕ)) (more : List ℕ) → AreDataLines lines → lines_of (concat lines ++ more) ≡ lines ++ lines_of more
 lines_of-lines [] more are = refl
 lines_of-lines (line ∷ lines) more are =

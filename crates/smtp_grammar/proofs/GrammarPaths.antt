@@ -235,14 +235,14 @@ path_len-whole text answer is rest =
     let angles = path_angles text answer is in
     rw angles.whole (written_len angles.inner rest angles.passes)
 
--- it is found whole behind a word
+-- it is found whole after a word
 pub path_found-following : (word text : List ℕ) (answer : Option Address) → IsPathText text answer → (rest : List ℕ) → ends_word rest ≡ true
     → path_after word (word ++ (text ++ rest)) ≡ Some (record { path = text; rest = rest })
 path_found-following word text answer is rest apart =
     let angles = path_angles text answer is in
     rw angles.whole (found_after word angles.inner rest angles.passes apart)
 
--- and behind a word and a space
+-- and after a word and a space
 pub path_found-spaced : (word text : List ℕ) (answer : Option Address) → IsPathText text answer → (rest : List ℕ) → ends_word rest ≡ true
     → path_after word (word ++ 32 ∷ (text ++ rest)) ≡ Some (record { path = text; rest = rest })
 path_found-spaced word text answer is rest apart =

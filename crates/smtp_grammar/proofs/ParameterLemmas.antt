@@ -131,7 +131,7 @@ lone_by x word white full none =
     ap (filter (λ (word : List ℕ). not (length word == 0))) (slice_split-cons_yes is_white x word white ∙ ap (λ (words : List (List ℕ)). [] ∷ words) (whole_word word none))
     ∙ rw full refl
 
--- behind a white octet it is the only word
+-- after a white octet it is the only word
 pub lone_word_is : (rest word : List ℕ) → 1 ≤ length rest → word ≡ take (length rest - 1) (drop 1 rest) → is_white (get_or rest 0 0) ≡ true → (length word == 0) ≡ false → list_any is_white word ≡ false
     → white_words rest ≡ word ∷ []
 lone_word_is [] word long is white full none = absurd (omega arith)

@@ -43,7 +43,7 @@ pub turn-comment : (whole : Option ℕ) (n at : ℕ) (place : Place) (text : Lis
 turn-comment whole n at place text so_far here goes begins =
     sym (so_far ∙ at_drop_more (λ (rest : List ℕ). option_map (λ m. m + n) (path_len place rest)) text at 0 here ∙ len-comment n place (get_or text at 0) (drop (at + 1) text) goes begins)
 
--- the path goes on behind this octet
+-- the path goes on after this octet
 pub turn-next : (whole : Option ℕ) (n at : ℕ) (place : Place) (text : List ℕ) → whole ≡ option_map (λ m. m + n) (path_len place (drop at text)) → at < length text
     → stands_plain 62 place (get_or text at 0) ≡ false → stands_plain 40 place (get_or text at 0) ≡ false
     → whole ≡ option_map (λ m. m + (n + 1)) (path_len (path_place_after place (get_or text at 0)) (drop (at + 1) text))

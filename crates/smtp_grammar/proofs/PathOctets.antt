@@ -32,7 +32,7 @@ use Rattle.field_tokens.specs.Squeezed.{is_atom_kind, words_of}
 
 -- ---- octets that a path goes on with
 
--- The path goes on behind the octets, from one place to another, whatever follows them.
+-- The path goes on after the octets, from one place to another, whatever follows them.
 abbrev pub Passes : Place → List ℕ → Place → Type 0
 Passes at octets next = (rest : List ℕ) → path_len at (octets ++ rest) ≡ option_map (λ n. n + length octets) (path_len next rest)
 
@@ -62,7 +62,7 @@ pub passes_one : (x : ℕ) (at : Place) → stands_plain 62 at x ≡ false → s
 unfolding path_len
 passes_one x at goes plain rest = rw (goes, plain) refl
 
--- two texts, one behind the other
+-- two texts, one after the other
 pub passes_both : (a b : List ℕ) (at next last : Place) → Passes at a next → Passes next b last → Passes at (a ++ b) last
 passes_both a b at next last first second rest =
     ap (path_len at) (append_assoc a b rest) ∙ first (b ++ rest) ∙ ap (option_map (λ n. n + length a)) (second rest)
@@ -92,14 +92,14 @@ going_on x h =
       no_comment = not-true (x == 40) third.1;
     }
 
--- the path goes on behind such an octet
+-- the path goes on after such an octet
 pub passes_octet : (x : ℕ) → goes_on x ≡ true → Passes place.Plain (x ∷ []) place.Plain
 passes_octet x h =
     let is = going_on x h in
     let stays : path_place_after place.Plain x ≡ place.Plain = rw (is.no_quote, is.no_literal) refl in
     subst (Passes place.Plain (x ∷ [])) stays (passes_one x place.Plain is.no_end is.no_comment)
 
--- and behind several
+-- and after several
 pub passes_octets : (octets : List ℕ) → list_all goes_on octets ≡ true → Passes place.Plain octets place.Plain
 passes_octets [] h = passes_none place.Plain
 passes_octets (x ∷ octets) h =
@@ -265,7 +265,7 @@ written_len octets rest passes =
     ap (λ back. path_len place.Plain (60 ∷ back)) (append_assoc octets (62 ∷ []) rest) ∙ all
     ∙ ap (option_map (λ n. n + length (60 ∷ octets))) (ends_here rest) ∙ ap Some (omega (arith, length-append octets (62 ∷ [])))
 
--- what stands before the place where the path ends, and behind it
+-- what stands before the place where the path ends, and after it
 found_at : (path rest : List ℕ) → ends_word rest ≡ true → path_and_rest (path ++ rest) (length path) ≡ Some (record { path = path; rest = rest })
 found_at path rest apart = rw (drop_at path rest (length path) refl, take_at path rest (length path) refl, apart) refl
 
@@ -275,13 +275,13 @@ octets_found : (octets rest : List ℕ) → PassesPlain octets → ends_word res
 octets_found octets rest passes apart =
     ap (option_and_then (path_and_rest (in_angles octets ++ rest))) (written_len octets rest passes) ∙ found_at (in_angles octets) rest apart
 
--- ---- behind a word
+-- ---- after a word
 
 -- octets are equal to themselves
 same_itself : (xs : List ℕ) → bytes_eq xs xs ≡ true
 same_itself xs = (bytes_eq-Decides xs xs).1 refl
 
--- a word is followed by what stands behind it
+-- a word is followed by what stands after it
 follows_word : (word text : List ℕ) → after_word word (word ++ 60 ∷ text) ≡ Some (60 ∷ text)
 unfolding same_name
 follows_word word text =
@@ -293,13 +293,13 @@ unfolding same_name
 follows_space word text =
     rw (take_at word (32 ∷ text) (length word) refl, drop_at word (32 ∷ text) (length word) refl, same_itself (map to_ascii_lowercase word)) refl
 
--- the path is found behind a word
+-- the path is found after a word
 pub found_after : (word octets rest : List ℕ) → PassesPlain octets → ends_word rest ≡ true
     → path_after word (word ++ (in_angles octets ++ rest)) ≡ Some (record { path = in_angles octets; rest = rest })
 found_after word octets rest passes apart =
     ap (option_and_then path_in) (follows_word word ((octets ++ 62 ∷ []) ++ rest)) ∙ octets_found octets rest passes apart
 
--- and behind a word and a space
+-- and after a word and a space
 pub found_spaced : (word octets rest : List ℕ) → PassesPlain octets → ends_word rest ≡ true
     → path_after word (word ++ 32 ∷ (in_angles octets ++ rest)) ≡ Some (record { path = in_angles octets; rest = rest })
 found_spaced word octets rest passes apart =

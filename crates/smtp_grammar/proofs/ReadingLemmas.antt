@@ -75,7 +75,7 @@ four_joined front more = four_right (last_four front) more ∙ four_left front m
 
 -- ---- a line of which the last octets are known
 
--- a line behind octets that have none
+-- a line after octets that have none
 line_after : (front tail more : List ℕ) → first_line (front ++ tail) ≡ None → 0 < length tail → first_line (front ++ (tail ++ more)) ≡ option_map (put front) (first_line (tail ++ more))
 line_after [] tail more none some = put_nothing (first_line (tail ++ more))
 line_after (x ∷ []) [] more none some = absurd (omega (arith, some))
@@ -150,11 +150,11 @@ not_last_kept line front part (inr is) differs last =
 
 -- ---- data that say too much
 
--- what is said of octets is said with more behind them
+-- what is said of octets is said with more after them
 too_much_on : (limit : ℕ) (octets more : List ℕ) → SayTooMuch limit octets → SayTooMuch limit (octets ++ more)
 too_much_on limit octets more long following cut is = long (more ++ following) cut (ap data_cut (sym (append_assoc octets more following)) ∙ is)
 
--- the cut of data behind lines
+-- the cut of data after lines
 record IsAfter (lines : List (List ℕ)) (more : List ℕ) (cut : Cut) : Type 0 where
   next : Cut
   found : data_cut more ≡ Some next
@@ -224,7 +224,7 @@ line_unended reader octets read = none_kept reader.line read.front read.unended 
 
 -- ---- a line more
 
--- a line more, behind those that were read
+-- a line more, after those that were read
 record HasLine (lines : List (List ℕ)) (line octets : List ℕ) : Type 0 where
   are : All IsDataLine (lines ++ line ∷ [])
   octets_are : octets ≡ concat (lines ++ line ∷ []) ++ []
@@ -293,7 +293,7 @@ part_dropped old new octets part same dropped still content read ends differs =
     (keeps_as new lines [] new.dropped true still (record { content = content ∙ keeps.content; line = same.line; long = rw limit long }))
     (omega (arith, bounded, limit, none, kept_len))
 
--- what the lines say behind a part, where none of the data were dropped
+-- what the lines say after a part, where none of the data were dropped
 said_after : (old : DataReader) (octets part : List ℕ) (read : HasRead old octets) → EndsLine old part → (old.line ++ part ≡ last_line → ⊥) → old.dropped ≡ false
     → unstuffed (concat (read.lines ++ (read.front ++ part) ∷ [])) ≡ old.content ++ unstuffed_line (old.line ++ part)
 said_after old octets part read ends differs dropped =
@@ -417,7 +417,7 @@ pub record HasTaken (old new : DataReader) (piece : List ℕ) (used : ℕ) : Typ
   pub read : (octets : List ℕ) → HasRead old octets → HasRead new (octets ++ take used piece)
   pub bounded : IsBounded old → IsBounded new
 
--- what is found to end a line behind the kept octets
+-- what is found to end a line after the kept octets
 abbrev FindsEnd : (reader : DataReader) (rest : List ℕ) (end : ℕ) → Type 0
 FindsEnd reader rest end = first_line reader.line ≡ None → first_line (reader.line ++ rest) ≡ Some (record { line = reader.line ++ take end rest; rest = drop end rest })
 

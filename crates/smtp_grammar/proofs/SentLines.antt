@@ -35,7 +35,7 @@ two_other x y octets apart false is = rw is refl
 abbrev ended_by : List ℕ → List ℕ
 ended_by rest = 46 ∷ 13 ∷ 10 ∷ rest
 
--- the end behind stuffed lines, from a line's start, behind CRLF, and from within one
+-- the end after stuffed lines, from a line's start, after CRLF, and from within one
 record AreFound (octets rest : List ℕ) : Type 0 where
   start : end_cut (13 ∷ 10 ∷ (flat_map stuffed_line (lines_of octets) ++ ended_by rest)) ≡ Some (record { line = 13 ∷ 10 ∷ flat_map stuffed_line (lines_of octets); rest = rest })
   within : 0 < length octets → end_cut (others_stuffed (lines_of octets) ++ ended_by rest) ≡ Some (record { line = others_stuffed (lines_of octets); rest = rest })

@@ -44,7 +44,7 @@ verbs =
 abbrev pub verb_of : List ℕ → Verb
 verb_of word = unwrap_or (said_by verbs word) verb.Other
 
--- A command: its verb, which is the first word, and what stands behind it, without white at both ends.
+-- A command: its verb, which is the first word, and what stands after it, without white at both ends.
 pub record Command : Type 0 where
   pub verb : Verb
   pub argument : List ℕ
@@ -73,7 +73,7 @@ is_client name = nat_lt 0 (length name) && nat_le (length name) 255 && list_all 
 
 -- ---- the path of MAIL and RCPT
 
--- The place behind an octet. Brackets enclose a literal; a backslash takes the next octet with it in quotes and in a literal.
+-- The place after an octet. Brackets enclose a literal; a backslash takes the next octet with it in quotes and in a literal.
 abbrev pub path_place_after : Place → ℕ → Place
 path_place_after place.Plain x = if x == quote then place.Quoted else (if x == left_bracket then place.Literal else place.Plain)
 path_place_after place.Quoted x = if x == quote then place.Plain else (if x == backslash then place.QuotedPair else place.Quoted)
@@ -110,7 +110,7 @@ after_word word text = if same_name (take (length word) text) word then Some (af
 abbrev pub white_words : List ℕ → List (List ℕ)
 white_words text = filter (λ word. not (length word == 0)) (slice_split is_white text)
 
--- A path, which begins with `<`, and what stands behind it, which white divides from it.
+-- A path, which begins with `<`, and what stands after it, which white divides from it.
 pub record PathAndRest : Type 0 where
   pub path : List ℕ
   pub rest : List ℕ
@@ -133,7 +133,7 @@ path_and_rest text n = if ends_word (drop n text) then Some (record { path = tak
 abbrev pub path_in : List ℕ → Option PathAndRest
 path_in text = if begins_path text then option_and_then (path_and_rest text) (path_len place.Plain text) else None
 
--- the path behind a word, such as `FROM:`, and one space, if there is one
+-- the path after a word, such as `FROM:`, and one space, if there is one
 abbrev pub path_after : List ℕ → List ℕ → Option PathAndRest
 path_after word argument = option_and_then path_in (after_word word argument)
 
@@ -147,7 +147,7 @@ is_sign x = x == equals_sign
 abbrev pub parameter_keyword : List ℕ → List ℕ
 parameter_keyword word = map to_ascii_lowercase (before_first is_sign word)
 
--- what stands behind the first `=`, where one is there
+-- what stands after the first `=`, where one is there
 abbrev pub parameter_value : List ℕ → Option (List ℕ)
 parameter_value word = option_map (λ at. drop (at + 1) word) (position is_sign word)
 
@@ -178,7 +178,7 @@ parameter_named keyword value =
     else (if bytes_eq keyword (codes "body") then body_parameter value
     else (if bytes_eq keyword (codes "smtputf8") then smtputf8_parameter value else parameter.Unknown))
 
--- What a word behind the path of MAIL asks for.
+-- What a word after the path of MAIL asks for.
 abbrev pub parameter_of : List ℕ → Parameter
 parameter_of word = parameter_named (parameter_keyword word) (parameter_value word)
 

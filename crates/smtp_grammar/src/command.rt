@@ -25,7 +25,7 @@ pub enum Verb {
     Other,
 }
 
-/// A command: its verb, and what stands behind it.
+/// A command: its verb, and what stands after it.
 #[derive(Clone, Copy, Debug, PartialEq, Eq)]
 pub struct Command<'a> {
     pub verb: Verb,
@@ -122,7 +122,7 @@ pub fn is_client(name: &[u8]) -> bool
     !name.is_empty() && name.len() <= 255 && are_client_octets(name)
 }
 
-/// Where an octet of a path stands: the octet behind a backslash is one of a pair.
+/// Where an octet of a path stands: the octet after a backslash is one of a pair.
 #[derive(Clone, Copy)]
 enum Place {
     Plain,
@@ -182,7 +182,7 @@ fn path_len(text: &[u8]) -> Option<usize>
     None
 }
 
-/// A path, from its `<` to its `>`, and what stands behind it.
+/// A path, from its `<` to its `>`, and what stands after it.
 #[derive(Clone, Copy, Debug, PartialEq, Eq)]
 pub struct PathAndRest<'a> {
     pub path: &'a [u8],
@@ -226,7 +226,7 @@ fn ends_word(text: &[u8]) -> bool
     }
 }
 
-/// The path that stands behind a word, such as `FROM:`, and one space, if there is one.
+/// The path that stands after a word, such as `FROM:`, and one space, if there is one.
 pub fn path_after<'a>(word: &[u8], argument: &'a [u8]) -> Option<PathAndRest<'a>>
     ensures { MatchOption result (path_after_of word.now argument.now ≡ None)
         (λ found. path_after_of word.now argument.now ≡ Some (record { path = found.path.now; rest = found.rest.now })) }
@@ -417,7 +417,7 @@ fn read_words(alloc: Global, rest: &[u8]) -> Result<Parameters, Memory>
     Ok(read)
 }
 
-/// The parameters that the words behind a path are.
+/// The parameters that the words after a path are.
 pub fn read_parameters(alloc: Global, rest: &[u8]) -> Result<Parameters, Memory>
     ensures malformed { IfOk result (λ read. read.malformed ≡ are_malformed (white_words rest.now)) }
     ensures unknown { IfOk result (λ read. read.unknown ≡ list_any (λ word. is_unknown (parameter_of word)) (white_words rest.now)) }

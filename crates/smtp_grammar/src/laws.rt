@@ -10,7 +10,7 @@ ghost use Rattle.smtp_grammar.specs.Data.{data_cut, sent};
 ghost use Rattle.smtp_grammar.specs.Paths.{IsPathText};
 ghost use Rattle.smtp_grammar.specs.declared.command.Place.TheVariants.{Plain};
 
-/// No line of the data is a dot alone, and behind the data stand such a line and the rest.
+/// No line of the data is a dot alone, and after the data stand such a line and the rest.
 pub fn data_end_once()
     ensures none { (octets : List ℕ) (cut : Cut) → data_cut octets ≡ Some cut → All (λ line. line ≢ codes ".\r\n") (lines_of cut.line) }
     ensures split { (octets : List ℕ) (cut : Cut) → data_cut octets ≡ Some cut → octets ≡ cut.line ++ (codes ".\r\n" ++ cut.rest) }
@@ -22,7 +22,7 @@ pub fn sent_data_are_found()
     ensures back { (octets : List ℕ) → unstuffed (stuffed octets) ≡ octets }
 {}
 
-/// Each path of the grammar, and the null path, is found whole from its `<` to its `>` where it has no comments, behind any word, also
+/// Each path of the grammar, and the null path, is found whole from its `<` to its `>` where it has no comments, after any word, also
 /// where a space stands between, and where nothing follows or white does.
 pub fn grammar_paths_are_found()
     ensures whole { (text : List ℕ) (answer : Option Address) → IsPathText text answer → (rest : List ℕ) → path_len Plain (text ++ rest) ≡ Some (length text) }

@@ -63,7 +63,7 @@ greeted_by client false false refused text stored is = refl
 greeted_by client false true true text stored is = refl
 greeted_by client false true false text stored is = is
 
--- behind data the client stands greeted
+-- after data the client stands greeted
 finished_greeted : (oracles : Oracles) (session : Smtp Data) (store : StoreState) (moment : Moment) (octets : List ℕ)
     → (finished oracles session store moment octets).state ≡ greeted session.state.client
 finished_greeted oracles session store moment octets =

@@ -38,7 +38,7 @@ large_by locals remotes max a b some first second =
     one_of zero (suc r) more = let p : (suc r == 0) ≡ false = grind (arith, nat_tests) in rw p refl
     one_of (suc l) r more = let p : (suc l == 0) ≡ false = grind (arith, nat_tests) in rw p refl
 
--- more octets are behind a front
+-- more octets are after a front
 longer_after : (front octets : List ℕ) (max : ℕ) → max < length octets → max < length (front ++ octets)
 longer_after front octets max long = rw (length-append front octets) (omega (arith, long))
 

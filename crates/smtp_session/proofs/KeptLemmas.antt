@@ -85,7 +85,7 @@ all_ascii (x ∷ text) printed =
 plain_text : (text : List ℕ) → IsPrinted text → IsPlain text
 plain_text text is = record { utf8 = IsUtf8-from_ascii text (all_ascii text is.octets); octets = pass-weaker is_printed is_plain printed_plain text is.octets }
 
--- texts that are printed, one behind another
+-- texts that are printed, one after another
 following : {xs ys : List ℕ} → IsPrinted xs → IsPrinted ys → IsPrinted (xs ++ ys)
 following {xs} {ys} first second = record { octets = pass-append is_printed xs ys first.octets second.octets }
 
@@ -238,7 +238,7 @@ received-other client name date seconds of_client of_name of_date smtputf8 exten
 
 -- ---- what is kept
 
--- octets that may be kept may be kept behind another field
+-- octets that may be kept may be kept after another field
 pub after_field : (field octets : List ℕ) → IsOtherField field → IsStored octets → IsStored (field ++ octets)
 after_field field octets other stored =
     let found = fields_before octets (field ∷ []) stored.entities stored.tree (All-from_recursion IsOtherField (field ∷ []) (other, tt)) in

@@ -121,11 +121,11 @@ pub DoesFirst-no_line : (a : Around) (met : Fault) (state : SmtpState) (line : L
     → WithOracles (λ oracles. Does line_octets a a (Some met) (acts_in (stepped oracles state a.desk.store line)))
 DoesFirst-no_line a met state line fine = λ oracles are. DoesFirst-none line_octets a met (acts_in (stepped oracles state a.desk.store line)) fine
 
--- the store behind acts that were done
+-- the store after acts that were done
 pub store_after : (a b : Around) (taken : Step) → DoesAll line_octets a b (acts_in taken) → b.desk.store ≡ with_records a.desk.store (records_of taken.changes)
 store_after a b taken does = rw (changes_in-acts {P = List ℕ} taken.changes taken.reply) at does.follows.store
 
--- what is left stands for the state behind a step
+-- what is left stands for the state after a step
 stands_after : (a b : Around) (next : Option SmtpMachine) (taken : Step) (more : List Moment) → state_or_ended (state_after next) ≡ taken.state → IsFirstNext next b.desk
     → b.desk.store ≡ with_records a.desk.store (records_of taken.changes) → StandsAfter smtp_protocol SmtpStands more next [] b.desk (after_step a.desk.store more taken) []
 stands_after a b None taken more next_is first store = sym next_is

@@ -1,4 +1,4 @@
--- What stands behind a path, and what a reply leaves.
+-- What stands after a path, and what a reply leaves.
 use Rattle.std.proofs.Common.{◌≡◌, ℕ, suc, List, [], ◌∷◌, ◌==◌, not, length, Bool, true, false, arith, refl, ap, sym, subst, Some, None, Option, ◌∙◌}
 use Rattle.std.specs.Prelude.{Result, Ok, Err, IfOk}
 use Rattle.std.specs.List.{list_all, filter, slice_split, onto_first}
@@ -39,7 +39,7 @@ blank_words (x ∷ text) = blank_by x text (is_white x) refl (blank_words text)
 pub alone-blank : (following : Option PathAndRest) (given : PathAndRest) → following ≡ Some given → list_all is_white given.rest ≡ true → alone following ≡ Some given
 alone-blank following given is blank = rw (is, sym (blank_words given.rest) ∙ blank) refl
 
--- a path with something behind it
+-- a path with something after it
 pub alone-more : (following : Option PathAndRest) (given : PathAndRest) → following ≡ Some given → list_all is_white given.rest ≡ false → alone following ≡ None
 alone-more following given is more = rw (is, sym (blank_words given.rest) ∙ more) refl
 

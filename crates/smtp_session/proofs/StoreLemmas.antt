@@ -1,4 +1,4 @@
--- The store behind the turns of a stream has their changes.
+-- The store after the turns of a stream has their changes.
 use Rattle.std.proofs.Common.{◌≡◌, List, [], ℕ, Option, Some, None, sym, ap, subst}
 use Rattle.std.proofs.lemmas.Option.{same_Some}
 use Rattle.std.specs.Option.{option_map}

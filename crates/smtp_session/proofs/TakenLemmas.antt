@@ -125,7 +125,7 @@ unfolding next_turn
 first_turn oracles store client envelope moments octets cut found =
     ap (option_map (data_turn oracles (record { state = collecting client envelope; store = store; moments = moments }) client envelope)) found
 
--- what a step and the turns behind it bring
+-- what a step and the turns after it bring
 abbrev brings : Oracles → StoreState → List Moment → List ℕ → Step → Turn Machine (Act (List ℕ))
 brings oracles store moments rest taken = following (acts_in taken) (turns_of oracles (after_step store (later_moments moments) taken) rest)
 

@@ -11,12 +11,12 @@ passes_text : (path : Option Address) → IfSome path ComesInPath → PassesPlai
 passes_text None comes = plain_none
 passes_text (Some address) comes = passes_address address comes
 
--- the path is found behind a word
+-- the path is found after a word
 pub written_after : (word : List ℕ) (path : Option Address) → IfSome path ComesInPath → (rest : List ℕ) → ends_word rest ≡ true
     → path_after word (word ++ (in_angles (path_text path) ++ rest)) ≡ Some (record { path = in_angles (path_text path); rest = rest })
 written_after word path comes rest apart = found_after word (path_text path) rest (passes_text path comes) apart
 
--- and behind a word and a space
+-- and after a word and a space
 pub written_spaced : (word : List ℕ) (path : Option Address) → IfSome path ComesInPath → (rest : List ℕ) → ends_word rest ≡ true
     → path_after word (word ++ 32 ∷ (in_angles (path_text path) ++ rest)) ≡ Some (record { path = in_angles (path_text path); rest = rest })
 written_spaced word path comes rest apart = found_spaced word (path_text path) rest (passes_text path comes) apart

@@ -39,7 +39,7 @@ pub data State : Type 0 where
   ended : State
 
 -- What a command or the end of data does: the changes that it makes of the store, the records of one call each; the lines of its
--- reply, each without its CRLF; and the state behind it.
+-- reply, each without its CRLF; and the state after it.
 pub record Step : Type 0 where
   pub changes : List (List Record)
   pub reply : List (List ℕ)
@@ -113,7 +113,7 @@ lacks_smtputf8 smtputf8 path = not smtputf8 && not (list_all is_ascii (path_text
 
 -- ---- MAIL
 
--- The parameters behind a path.
+-- The parameters after a path.
 abbrev pub words_after : Option PathAndRest → List (List ℕ)
 words_after None = []
 words_after (Some given) = white_words given.rest

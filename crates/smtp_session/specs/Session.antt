@@ -39,7 +39,7 @@ abbrev pub next_moment : List Moment → Moment
 next_moment [] = record { date = []; internal = [] }
 next_moment (moment ∷ moments) = moment
 
--- The moments behind the next one.
+-- The moments after the next one.
 abbrev pub later_moments : List Moment → List Moment
 later_moments [] = []
 later_moments (moment ∷ moments) = moments
@@ -138,7 +138,7 @@ state_or_ended (Some session) = state_of session
 abbrev pub machine_of : SmtpMachine → Desk → List Moment → Machine
 machine_of session desk moments = record { state = state_of session.state; store = desk.store; moments = moments }
 
--- The rest that stands behind a state: what was kept of a line, or what was read of data.
+-- The rest that stands after a state: what was kept of a line, or what was read of data.
 abbrev pub HasRest : SmtpMachine → SmtpState → List ℕ → List ℕ → Type 0
 HasRest session (smtp.Data taking) kept rest = HasRead session.reader rest
 HasRest session state kept rest = rest ≡ kept

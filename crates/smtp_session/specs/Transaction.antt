@@ -29,11 +29,11 @@ go_ahead = codes "354 go ahead" ∷ []
 
 -- ---- its recipients
 
--- One like it is there and all stay as they are, or all stay and it is put behind them.
+-- One like it is there and all stay as they are, or all stay and it is put after them.
 abbrev pub IsTaken : {T : Type 0} → (T → T → Bool) → T → (old new : List T) → Type 0
 IsTaken is_same one old new = ((list_any (λ other. is_same other one) old ≡ true) × (new ≡ old)) ⊎ (new ≡ old ++ one ∷ [])
 
--- the account of a local address is a recipient, behind those that were there
+-- the account of a local address is a recipient, after those that were there
 pub record TakesAccount (path_of : List ℕ → Option (Option Address)) (kept : Kept) (address : Address) (old new : Envelope) : Type 0 where
   pub here : is_local kept address.domain ≡ true
   pub account : ℕ
@@ -41,13 +41,13 @@ pub record TakesAccount (path_of : List ℕ → Option (Option Address)) (kept :
   pub local : IsTaken (λ a b. a == b) account old.local new.local
   pub remote : new.remote ≡ old.remote
 
--- an address elsewhere is a recipient, behind those that were there
+-- an address elsewhere is a recipient, after those that were there
 pub record TakesRemote (kept : Kept) (address : Address) (old new : Envelope) : Type 0 where
   pub elsewhere : is_local kept address.domain ≡ false
   pub local : new.local ≡ old.local
   pub remote : IsTaken is_same_remote address old.remote new.remote
 
--- An accepted RCPT: the address that its path says is a recipient, behind all that were there, and nothing else changes.
+-- An accepted RCPT: the address that its path says is a recipient, after all that were there, and nothing else changes.
 pub record TakesRecipient (oracles : Oracles) (kept : Kept) (argument : List ℕ) (before after : State) : Type 0 where
   pub client : Client
   pub old : Envelope
@@ -79,7 +79,7 @@ pub record TakesData (before after : State) : Type 0 where
 
 -- ---- what goes on
 
--- one with the same path and with all recipients, in their order, and maybe with more behind them
+-- one with the same path and with all recipients, in their order, and maybe with more after them
 pub record GoesOnAs (old new : Envelope) : Type 0 where
   pub path : new.path ≡ old.path
   pub smtputf8 : new.smtputf8 ≡ old.smtputf8
@@ -96,7 +96,7 @@ TransactionGoesOn client old state = Unit {0}
 
 -- ---- its end
 
--- The data of a transaction are kept once for each of its recipients: with its path, behind the fields that tell this path and
+-- The data of a transaction are kept once for each of its recipients: with its path, after the fields that tell this path and
 -- where the message came from.
 pub record IsTransactionKept (old new : Kept) (client : Client) (envelope : Envelope) (moment : Moment) (octets : List ℕ) : Type 0 where
   pub trace : List ℕ

@@ -1,4 +1,4 @@
-//! Laws of which data are taken, of written paths, of transactions, of what is kept, and of the store behind a stream.
+//! Laws of which data are taken, of written paths, of transactions, of what is kept, and of the store after a stream.
 ghost use Rattle.std.specs.Prelude.{◌≡◌, ◌≢◌, ◌<◌, ◌++◌, ◌∷◌, ℕ, List, [], Option, Some, IfSome, true, codes};
 ghost use Rattle.mail_wire.specs.Message.{IsEnded};
 ghost use Rattle.session_core.specs.Turns.{following};
@@ -43,7 +43,7 @@ pub fn whole_data_are_taken()
         (turns_of oracles (record { state = greeted client; store = with_records store (delivered store.kept delivery); moments = later_moments moments }) rest) }
 {}
 
-/// The path that is written for an address is found whole behind any word, also where a space stands between, and so is the
+/// The path that is written for an address is found whole after any word, also where a space stands between, and so is the
 /// null path, where nothing follows or white does.
 pub fn written_paths_are_found()
     ensures following { (word : List ℕ) (path : Option Address) → IfSome path ComesInPath → (rest : List ℕ) → ends_word rest ≡ true
@@ -53,7 +53,7 @@ pub fn written_paths_are_found()
 {}
 
 /// An accepted MAIL begins a transaction with the path that it says and without recipients; of an accepted RCPT the recipient stands
-/// behind all that were there; after an accepted DATA the data are those of the transaction; and while it goes on no command takes
+/// after all that were there; after an accepted DATA the data are those of the transaction; and while it goes on no command takes
 /// its path or a recipient away.
 pub fn recipients_stay()
     ensures sender { (oracles : Oracles) (state : State) (store : StoreState) (argument : List ℕ)
@@ -92,7 +92,7 @@ pub fn accepted_mail_is_kept_once()
         → KeepsAccepted store (turns_of oracles (start_of store moments) octets).parts }
 {}
 
-/// Behind a stream the machine's store is the one before it with the changes that its commands and its data make.
+/// After a stream the machine's store is the one before it with the changes that its commands and its data make.
 pub fn the_store_has_the_changes()
     ensures { (oracles : Oracles) (machine : Machine) (octets : List ℕ) → let turn = turns_of oracles machine octets in
         turn.after.store ≡ with_records machine.store (records_of (changes_in turn.parts)) }

@@ -1,4 +1,4 @@
-//! The rows of commands: a reply, and the state behind it.
+//! The rows of commands: a reply, and the state after it.
 ghost use Rattle.std.specs.Prelude.{◌≡◌, ◌==◌, ◌≤◌, ◌<◌, ◌++◌, ◌∷◌, [], true, false, IfOk, IfSome, MatchOption, None, length, Some, option_and_then, not, nat_le, nat_lt, codes};
 ghost use Rattle.std.specs.List.{All, list_any};
 ghost use Rattle.address_grammar.specs.Addresses.{address_text};
@@ -192,7 +192,7 @@ fn path_lacks_smtputf8(smtputf8: bool, path: &Option<Address>) -> bool
     }
 }
 
-// MAIL with a path that was read, and what stands behind it.
+// MAIL with a path that was read, and what stands after it.
 fn mail_path(
     alloc: Global,
     session: Smtp<Greeted>,
@@ -423,7 +423,7 @@ fn rcpt_path(
     rcpt_address(alloc, session, address, store)
 }
 
-// The text of a path, where nothing stands behind it.
+// The text of a path, where nothing stands after it.
 fn lone_path<'a>(word: &[u8], argument: &'a [u8]) -> Option<PathAndRest<'a>>
     ensures { MatchOption result (alone (path_after_of word.now argument.now) ≡ None)
         (λ found. alone (path_after_of word.now argument.now) ≡ Some (record { path = found.path.now; rest = found.rest.now })) }

@@ -65,7 +65,7 @@ fn protocol(smtputf8: bool, extended: bool) -> &'static [u8]
 }
 
 // The octets that are kept of data: those for accounts, and those for addresses elsewhere. The content of the latter stands
-// behind the trace, which is so long.
+// after the trace, which is so long.
 #[derive(Debug, Drop)]
 struct KeptOctets {
     local: Octets,
@@ -337,7 +337,7 @@ fn take_data<W: Wire, J: Keeper, C: Clock>(
     }
 }
 
-// What is left behind a line: a session in this state, with nothing read of data.
+// What is left after a line: a session in this state, with nothing read of data.
 fn begun_next(alloc: Global, max: u32, next: Option<SmtpState>) -> Option<SmtpMachine>
     ensures state { state_after result ≡ next }
     ensures first { (desk : Desk) → desk.store.message_max ≡ max → KnowsState desk.store (state_or_ended next) → IsFirstNext result desk }

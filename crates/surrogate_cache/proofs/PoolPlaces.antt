@@ -11,7 +11,7 @@ pub octets_at-beside : (front back : List Held) (x : Held) (place : ℕ) → pla
 octets_at-beside [] back x place differ = ap (λ (b : Bool). if b then x.octets else octets_at back place) (ne_eqb place x.id differ)
 octets_at-beside (one ∷ front) back x place differ = ap (λ (o : List ℕ). if nat_eq place one.id then one.octets else o) (octets_at-beside front back x place differ)
 
--- the first of the things has the place, or what is behind it has
+-- the first of the things has the place, or what is after it has
 octets_at-first : (one : Held) (held : List Held) (place : ℕ) → place ≡ one.id → octets_at (one ∷ held) place ≡ one.octets
 octets_at-first one held place same = ap (λ (b : Bool). if b then one.octets else octets_at held place) (eq-eqb place one.id same)
 

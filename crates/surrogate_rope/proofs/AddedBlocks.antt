@@ -20,7 +20,7 @@ pub order_le : (from to : ℕ) (entities : List Entity) → AreInOrder from to e
 order_le from to [] order = order
 order_le from to (entity ∷ entities) order = let at = order.0 in let end = order.1 in let rest = order_le entity.block.end to entities order.2 in omega arith
 
--- what stands behind octets that were written anew is copied
+-- what stands after octets that were written anew is copied
 blocks_further : (IsMade : FieldRelation) (msg : List ℕ) (from at to : ℕ) (entities : List Entity) (made : List ℕ) → AreInOrder from at entities → at ≤ to → RewritesBlocks IsMade msg from at entities made
     → RewritesBlocks IsMade msg from to entities (made ++ slice_range msg at to)
 blocks_further IsMade msg from at to [] made order le is = rw is (sym (slices_join msg from at to order le))

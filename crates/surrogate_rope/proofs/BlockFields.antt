@@ -12,7 +12,7 @@ use Rattle.surrogate_rope.specs.Layout.{InEntity}
 use Rattle.surrogate_rope.specs.private.Building.{ReachesPlace, written, AddsField, AddsBlock}
 use Rattle.surrogate_rope.proofs.AddedFields.{no_fields, field_more}
 
--- The first fields of the block are made, and the others stand behind them.
+-- The first fields of the block are made, and the others stand after them.
 pub record IsBlockSoFar (msg : List ℕ) (entity : Entity) (fields : List Field) (i : ℕ) (old made : Made) : Type 0 where
   pub at : ℕ
   pub stands : ReachesPlace msg at made

@@ -82,7 +82,7 @@ last_before ends place k d point some = elim (cases_lt k 1) [
 
 -- ---- by sizes
 
--- blocks that end behind the place aren't counted
+-- blocks that end after the place aren't counted
 none_later : (IsMade : FieldRelation) (msg : List ℕ) (from made_from : ℕ) (entities : List Entity) (ends : List End) (to made_to place : ℕ) (blocks : List (List (List ℕ)))
     → AreEnds IsMade msg from made_from entities ends to made_to → place < from → sizes_before entities blocks place ≡ 0
 none_later IsMade msg from made_from [] ends to made_to place blocks are less = refl
@@ -94,7 +94,7 @@ none_later IsMade msg from made_from (entity ∷ entities) (end ∷ ends) to mad
     let at = are.0.at in
     omega (arith, uncounted entity fields place (λ past. absurd (omega (arith, past))), none_later IsMade msg end.at end.made entities ends to made_to place blocks are.1 (omega arith))
 
--- what is met behind a block is met before it
+-- what is met after a block is met before it
 end_meets : (IsMade : FieldRelation) (msg : List ℕ) → ((entity : Entity) (raw one two : List ℕ) → IsMade entity raw one → IsMade entity raw two → one ≡ two) → (from made_from : ℕ) (entity : Entity) (entities : List Entity) (end : End)
     (ends : List End) (to made_to last : ℕ) (made : List ℕ) (made_last : ℕ) (other : Entity) (others : List Entity) (place : ℕ) → AreEnds IsMade msg from made_from (entity ∷ entities) (end ∷ ends) to made_to
     → All (HasBlockWithin msg) (entity ∷ entities) → AreSame IsMade msg last (entity ∷ entities) made made_last (other ∷ others) → from ≤ place

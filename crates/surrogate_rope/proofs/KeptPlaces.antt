@@ -111,7 +111,7 @@ pub field_stays : (msg : List ℕ) (open_global : Bool) (at end : ℕ) (made : M
 field_stays msg open_global at end made stands order served =
     field_kept open_global (slice_range msg at end) (joined_pieces msg made.pieces ++ slice_range msg made.from end) (written msg at made) served (written_copies msg at end made stands order).octets
 
--- the state behind a field that was made anew
+-- the state after a field that was made anew
 pub record IsNext (msg : List ℕ) (open_global : Bool) (at end : ℕ) (old new : Made) : Type 0 where
   pub stands : ReachesPlace msg end new
   pub adds : AddsField (IsServedField open_global (slice_range msg at end)) (slice_range msg at end) (written msg at old) (written msg end new)

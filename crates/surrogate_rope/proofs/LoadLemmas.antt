@@ -49,7 +49,7 @@ new_there octets at kind (New text) rest there is some =
     let second = following octets (at + 1) (number (length text)) (text ++ rest) (at + 9) first (omega arith) in
     record { text = text; piece_is = refl; first = first; second = second; end = following octets (at + 9) text rest (at + 9 + length text) second refl }
 
--- a number stands behind the first octet in each case
+-- a number stands after the first octet in each case
 pub record HasNumber (octets : List ℕ) (at : ℕ) : Type 0 where
   pub n : ℕ
   pub rest : List ℕ

@@ -78,7 +78,7 @@ block_made msg entities i made new ends entity place inside is up_to stands adds
       near = all-append IsNear ends (record { at = entity.block.end; made = place } ∷ []) up_to.near (rw place_is (place_near msg entity.block.end new stands), tt);
     }
 
--- what is kept behind all blocks has room
+-- what is kept after all blocks has room
 pub last_room : (msg : List ℕ) (entities : List Entity) (i : ℕ) (made : Made) (ends : List End) → IsMadeUpTo msg entities i made ends → length msg < 2 ^ 63 → range_size made.pieces + (length msg - made.from) < 2 ^ 63
 last_room msg entities i made ends up_to small =
     kept_room msg (length msg) made (stands_further msg up_to.at (length msg) made up_to.stands up_to.stands.fits (omega arith)) small

@@ -64,7 +64,7 @@ new_piece octets more =
     let size : length octets + length more - length octets ≡ length more = omega arith in
     ap (λ n. take n (drop (length octets) (octets ++ more))) size ∙ ap (take (length more)) (drop_at octets more (length octets) refl) ∙ take_all (length more) more (omega arith)
 
--- a piece begins behind those before it
+-- a piece begins after those before it
 pub piece_offset : (octets : List ℕ) (at : ℕ) (pieces : List Piece) (to i : ℕ) (d : Piece) → StandInPlace octets at pieces to → i < length pieces → (get_or pieces i d).offset ≡ at + size_of (take i (pieces_of octets pieces))
 piece_offset octets at [] to i d are inside = absurd (omega (arith, inside))
 piece_offset octets at (piece ∷ pieces) to zero d are inside = omega (arith, are.0.offset)
@@ -141,7 +141,7 @@ whole_range octets msg pieces i piece within inside is old = go pieces i within 
         let fits = here first within.0 (sym (ap (λ (p : Piece). p.is_new) is) ∙ old) in let same = ap (λ (p : Piece). p.range.at + p.range.len) is in omega arith
     go (first ∷ pieces) (suc i) within inside is = go pieces i within.1 (omega (arith, inside)) is
 
--- the piece before the first one that begins behind the place
+-- the piece before the first one that begins after the place
 pub whole_number : (octets : List ℕ) (pieces : List Piece) (size place following number : ℕ) → HoldsPieces octets pieces size → place < size_of (pieces_of octets pieces) → following ≤ length pieces
     → ((i : ℕ) (d : Piece) → 0 ≤ i → i < following → nat_le (get_or pieces i d).offset place ≡ true) → ((i : ℕ) (d : Piece) → following ≤ i → i < length pieces → nat_le (get_or pieces i d).offset place ≡ false)
     → number ≡ following - 1 → IsInPiece (pieces_of octets pieces) place number
@@ -218,7 +218,7 @@ new_pushed octets more pieces size has few =
       seen_is = seen;
     }
 
--- a field behind a range
+-- a field after a range
 pub served_pushed : (octets field : List ℕ) (pieces : List Piece) (size : ℕ) (span : Span) → HoldsPieces octets pieces size → range_size (pieces_of octets pieces) + span.len < 2 ^ 63 → length (octets ++ field) < 2 ^ 63
     → IsPushed (octets ++ field) ((pieces ++ range_at size span) ++ piece_at (size + span.len) true (record { at = length octets; len = length field }) ∷ []) (size + span.len + length field)
     ((pieces_of octets pieces ++ range_where span) ++ New field ∷ [])
@@ -252,7 +252,7 @@ pub new_counted : (octets more : List ℕ) (pieces : List Piece) (size : ℕ) �
 new_counted octets more pieces size has few =
     omega (arith, few, length-append octets more, has.new, has.ranges_few, pieces_size octets 0 pieces size has.placed, size_parts (pieces_of octets pieces))
 
--- a field that was made behind the octets, and a range before it: where it ends
+-- a field that was made after the octets, and a range before it: where it ends
 pub record ServedSteps (octets field made : List ℕ) (pieces : List Piece) (size at count : ℕ) (kept : Span) : Type 0 where
   pub room : size + kept.len < 2 ^ 64
   pub more : (size + kept.len) + (count - at) < 2 ^ 64
@@ -293,7 +293,7 @@ pub within-push : (msg : List ℕ) (pieces : List RopePiece) (piece : RopePiece)
 within-push msg [] piece are is = (is, tt)
 within-push msg (first ∷ pieces) piece are is = (are.0, within-push msg pieces piece are.1 is)
 
--- behind the first pieces' octets the others' follow
+-- after the first pieces' octets the others' follow
 joined-drop : (msg : List ℕ) (pieces : List RopePiece) (i : ℕ) → AreWithin msg pieces → drop (size_of (take i pieces)) (joined_pieces msg pieces) ≡ joined_pieces msg (drop i pieces)
 joined-drop msg [] zero within = refl
 joined-drop msg [] (suc i) within = refl
@@ -351,7 +351,7 @@ piece_run msg pieces place number from d run within is from_is run_is =
     size-more (piece ∷ pieces) zero inside = omega arith
     size-more (piece ∷ pieces) (suc i) inside = omega (arith, size-more pieces i (omega (arith, inside)))
 
--- nothing stands behind the end
+-- nothing stands after the end
 pub no_run : (msg : List ℕ) (pieces : List RopePiece) (place : ℕ) → size_of pieces ≤ place → place < size_of pieces → 0 < 0
 no_run msg pieces place past inside = absurd (omega (arith, past, inside))
 

@@ -137,7 +137,7 @@ piece_stored old middle new pieces piece so_far one = record {
   small = all_push IsPieceSmall pieces piece so_far.small one.small;
 }
 
--- all parts are put one behind another
+-- all parts are put one after another
 pub all_stored : (rope : RopeValue) (n m : ℕ) (three four made : List ℕ) → n ≡ length rope.pieces → m ≡ length rope.entities → three ≡ [] ++ (number n ++ (number m ++ number rope.rewritten))
     → StoresPieces three four rope.pieces → StoresEntities four made rope.entities → HasFewPieces rope.pieces rope.rewritten → n < 2 ^ 64 → m < 2 ^ 64 → rope.rewritten < 2 ^ 64 → IsStoredRope made rope
 all_stored rope n m three four made n_is m_is three_is pieces entities few n_fits m_fits rewritten_fits =

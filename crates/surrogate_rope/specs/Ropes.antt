@@ -36,7 +36,7 @@ pub record RopeValue : Type 0 where
   pub entities : List Outline
   pub rewritten : ℕ
 
--- The octets of the pieces, one behind another.
+-- The octets of the pieces, one after another.
 abbrev pub joined_pieces : List ℕ → List RopePiece → List ℕ
 joined_pieces msg [] = []
 joined_pieces msg (piece ∷ pieces) = piece_octets msg piece ++ joined_pieces msg pieces

@@ -18,7 +18,7 @@ pub struct End {
     pub made: usize,
 }
 
-// Where a place of the message is in the surrogate: as far behind the last block that ends at or before it.
+// Where a place of the message is in the surrogate: as far after the last block that ends at or before it.
 fn moved(ends: &[End], place: usize) -> usize
     requires rise { IsNonDecreasingBy (λ (end : EndValue). end.at) ends.now }
     requires near { AllByRecursion IsNear ends.now }

@@ -20,7 +20,7 @@ pub struct Piece {
     pub range: Span,
 }
 
-/// Pieces, one behind another.
+/// Pieces, one after another.
 #[derive(Drop)]
 pub struct Pieces {
     /// The octets of all new pieces, in their order.
@@ -41,7 +41,7 @@ impl Model for Pieces {
     ghost invariant = { λ a. HoldsPieces a.octets a.pieces.items a.size };
 }
 
-// Puts a piece last behind those that have so many octets, and answers how many all have. There is room for it.
+// Puts a piece last after those that have so many octets, and answers how many all have. There is room for it.
 fn add_piece(pieces: &mut Vec<Piece>, size: usize, is_new: bool, range: Span) -> usize
     requires size { size + range.len < 2 ^ 64 }
     requires room { vec_len pieces.old < vec_capacity pieces.old }
@@ -195,7 +195,7 @@ impl Pieces {
         self.pieces[number].offset
     }
 
-    // The number of the piece that this place is in. It is the last one that doesn't begin behind it, so it has octets.
+    // The number of the piece that this place is in. It is the last one that doesn't begin after it, so it has octets.
     fn number_at(&self, place: usize) -> usize
         requires { place < size_of self.now }
         ensures { IsInPiece self.now place result }
@@ -204,7 +204,7 @@ impl Pieces {
         following.saturating_sub(1)
     }
 
-    /// The octets of the piece at `offset`, from there on: none only behind the last piece.
+    /// The octets of the piece at `offset`, from there on: none only after the last piece.
     pub fn run_at<'a>(&'a self, msg: &'a [u8], offset: usize) -> &'a [u8]
         requires { AreWithin msg.now self.now }
         ensures run { result.now ≡ take (length result.now) (drop offset (joined_pieces msg.now self.now)) }

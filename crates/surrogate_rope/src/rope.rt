@@ -67,7 +67,7 @@ impl Rope {
         self.rewritten
     }
 
-    /// The surrogate's octets that stand together from `offset` on, in the message or among the new octets: none only behind its end.
+    /// The surrogate's octets that stand together from `offset` on, in the message or among the new octets: none only after its end.
     pub fn run_at<'a>(&'a self, msg: &'a [u8], offset: usize) -> &'a [u8]
         requires { IsRopeOf msg.now self.now }
         ensures run { result.now ≡ take (length result.now) (drop offset (octets_of msg.now self.now)) }

@@ -40,7 +40,7 @@ impl Shown {
         }
     }
 
-    /// The octets of what is shown that stand together from `offset` on, in the message or among the new octets: none only behind its end.
+    /// The octets of what is shown that stand together from `offset` on, in the message or among the new octets: none only after its end.
     pub fn run_at<'a>(&'a self, msg: &'a [u8], offset: usize) -> &'a [u8]
         requires { IsShownOf msg.now self.now }
         ensures run { result.now ≡ take (length result.now) (drop offset (shown_octets msg.now self.now)) }

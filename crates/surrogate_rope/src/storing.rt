@@ -102,7 +102,7 @@ fn entity_form(entity: &Outline) -> [u8; ENTITY]
     ensures form { result ≡ stored_entity (seen_outline entity.now) }
     ensures small { IsEntitySmall (seen_outline entity.now) }
 {
-    // the shape stands behind the numbers
+    // the shape stands after the numbers
     let mut form = [octet_of(entity.shape); ENTITY];
     write_number(&mut form, 0, number_of(entity.parent));
     write_number(&mut form, 8, entity.depth as usize);

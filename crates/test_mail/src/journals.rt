@@ -35,7 +35,7 @@ fn push_number(octets: &mut Octets, number: usize) -> Result<(), Memory> {
     octets.push_slice(&number.to_be_bytes())
 }
 
-// Puts a text last, behind its length.
+// Puts a text last, after its length.
 fn push_text(octets: &mut Octets, text: &[u8]) -> Result<(), Memory> {
     push_number(octets, text.len())?;
     octets.push_slice(text)

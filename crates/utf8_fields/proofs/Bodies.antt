@@ -12,7 +12,7 @@ use Rattle.mail_wire.proofs.OctetLemmas.{white_no_end}
 use Rattle.utf8_fields.specs.Lines.{BeginsWhite}
 use Rattle.utf8_fields.proofs.LineShapes.{AreLines, is_text, IsTextLine, IsTextLine-sound}
 
--- What stands behind a field's colon is a folded body, and CRLF or nothing.
+-- What stands after a field's colon is a folded body, and CRLF or nothing.
 pub record HasBody (octets : List ℕ) : Type 0 where
   pub body : List ℕ
   pub ending : List ℕ
@@ -45,7 +45,7 @@ IsTextLine-following (x ∷ front) line after all is =
     let parts = and_parts (is_text x) (list_all is_text front) all in
     IsTextLine-following front line after parts.1 (IsTextLine-drop x (front ++ line) after (not-true (is_line_end x) parts.0) is)
 
--- further lines, each behind its first octet, which is white
+-- further lines, each after its first octet, which is white
 pub body_of : (line : List ℕ) (more : List (List ℕ)) → IsTextLine line more → AreLines more → All IsSound more → All BeginsWhite more → HasBody (line ++ concat more)
 body_of line [] is are sound white = record {
   body = is.text;

@@ -187,7 +187,7 @@ block_from first lines more rest at f are b =
       };
     }
 
--- the first field of a block has these lines, and behind it there is a block
+-- the first field of a block has these lines, and after it there is a block
 record Following (first : List ℕ) (more rest : List (List ℕ)) (at : ℕ) : Type 0 where
   are : AreFieldLines first more
   block : SomeBlock rest (at + length (concat (first ∷ more)))

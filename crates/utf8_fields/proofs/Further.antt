@@ -17,7 +17,7 @@ pub white_some : (rest : List ℕ) → BeginsWhite rest → 0 < length rest
 white_some [] white = absurd white
 white_some (x ∷ rest) white = omega arith
 
--- the line stands behind the further lines so far, and white comes first in it
+-- the line stands after the further lines so far, and white comes first in it
 pub record GoesOnWith (octets : List ℕ) (len : ℕ) (line after : List ℕ) : Type 0 where
   pub white : BeginsWhite line
   pub lines : lines_of (drop len octets) ≡ line ∷ lines_of after

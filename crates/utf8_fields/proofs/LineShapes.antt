@@ -105,7 +105,7 @@ is_text x = not (is_line_end x)
 put_text : (x : ℕ) (text : List ℕ) → is_line_end x ≡ false → list_all is_text text ≡ true → list_all is_text (x ∷ text) ≡ true
 put_text x text h all = rw (h, all) refl
 
--- A line of text, and CRLF behind it, which the last line may lack.
+-- A line of text, and CRLF after it, which the last line may lack.
 pub record IsTextLine (line : List ℕ) (after : List (List ℕ)) : Type 0 where
   pub text : List ℕ
   pub ending : List ℕ

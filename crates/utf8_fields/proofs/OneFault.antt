@@ -30,7 +30,7 @@ all_middle : (P : List ℕ → Type 0) (xs ys : List (List ℕ)) (x : List ℕ) 
 all_middle P [] ys x all = All-head P x ys all
 all_middle P (y ∷ xs) ys x all = all_middle P xs ys x (All-tail P y (xs ++ x ∷ ys) all)
 
--- A line of a block that may stand behind these lines: the first one begins a field.
+-- A line of a block that may stand after these lines: the first one begins a field.
 record GoesWell (before : List (List ℕ)) (line : List ℕ) : Type 0 where
   is_line : IsBlockLine line
   first : before ≡ [] → (name : List ℕ) × BeginsField name line
@@ -56,7 +56,7 @@ one_place lines start at at' fields fields' line line' a b bad bad' = elim (spli
   | inr (inr later) ↦ absurd (bad' (fields_go_well a.before b.before later.0 line' start at fields a.fields_are later.1))
 ]
 
--- the place behind the lines of fields
+-- the place after the lines of fields
 place_is : (lines : List (List ℕ)) (start end : ℕ) (fields : List Field) → AreFields lines start fields end → end ≡ start + length (concat lines)
 place_is lines start end [] done = rw done.0 (sym done.1 ∙ sym (add-zero start))
 place_is lines start end (field ∷ fields) done =

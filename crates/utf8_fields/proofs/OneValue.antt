@@ -11,12 +11,12 @@ StopsAfter-tail : (p : ℕ → Bool) (x : ℕ) (xs : List ℕ) → StopsAfter p 
 StopsAfter-tail p x [] stops = tt
 StopsAfter-tail p x (y ∷ xs) stops = stops
 
--- a text that stops behind doesn't pass as a whole
+-- a text that stops after doesn't pass as a whole
 no_pass : (p : ℕ → Bool) (x : ℕ) (xs : List ℕ) → StopsAfter p (x ∷ xs) → list_all p (x ∷ xs) ≡ true → ⊥
 no_pass p x [] stops all = both_ways (p x) stops (and_parts (p x) true all).0
 no_pass p x (y ∷ xs) stops all = no_pass p y xs stops (and_parts (p x) (list_all p (y ∷ xs)) all).1
 
--- texts that stop behind, with what passes behind them
+-- texts that stop after, with what passes after them
 one_end : (p : ℕ → Bool) (text other trail trail' : List ℕ) → StopsAfter p text → StopsAfter p other → list_all p trail ≡ true → list_all p trail' ≡ true
     → text ++ trail ≡ other ++ trail' → text ≡ other
 one_end p [] [] trail trail' a b all all' same = refl

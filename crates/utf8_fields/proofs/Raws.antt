@@ -8,7 +8,7 @@ use Rattle.mail_wire.proofs.LineLemmas.{concat_lines_of}
 use Rattle.utf8_fields.specs.declared.block.Field.{Field}
 use Rattle.utf8_fields.specs.Block.{IsFieldAt, AreFields, HasBlock, raw_of}
 
--- octets that stand behind others
+-- octets that stand after others
 pub slice_range-following : (octets before part after : List ℕ) (at len : ℕ) → octets ≡ before ++ (part ++ after) → length before ≡ at → len ≡ length part
     → take (at + len - at) (drop at octets) ≡ part
 slice_range-following octets before part after at len is at_is len_is =

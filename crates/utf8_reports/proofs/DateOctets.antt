@@ -51,7 +51,7 @@ digit n small = grind (arith, nat_tests)
 two : (n : ℕ) → n < 100 → IsPrinted (two_digits n)
 two n small = printed (two_digits n) (and_from (is_printed (48 + n / 10)) _ (digit (n / 10) (omega arith)) (and_from (is_printed (48 + n % 10)) true (digit (n % 10) (omega arith)) refl))
 
--- one text behind another
+-- one text after another
 following : {a b : List ℕ} → IsPrinted a → IsPrinted b → IsPrinted (a ++ b)
 following {a} {b} x y = printed (a ++ b) (pass-append is_printed a b x.octets y.octets)
 

@@ -44,7 +44,7 @@ lines_split octets front back is = sym (concat_lines_of octets) ∙ ap concat is
 pub lines_taken : (octets : List ℕ) (front back : List (List ℕ)) (n : ℕ) → lines_of octets ≡ front ++ back → size front ≡ n → take n octets ≡ concat front
 lines_taken octets front back n is len = ap (take n) (lines_split octets front back is) ∙ take_at (concat front) (concat back) n len
 
--- ---- the last line with CRLF behind it
+-- ---- the last line with CRLF after it
 
 abbrev pub end_last : List (List ℕ) → List (List ℕ)
 end_last [] = []
@@ -81,7 +81,7 @@ end_ended (line ∷ next ∷ rest) are none = elim are.0 [
     some : next ∷ rest ≡ [] → ⊥
     some is = cc is
 
--- they are the lines of the octets with CRLF behind them
+-- they are the lines of the octets with CRLF after them
 lines_ended : (octets line : List ℕ) (rest : List (List ℕ)) → lines_of octets ≡ line ∷ rest → IsOpenText octets → lines_of (octets ++ crlf) ≡ end_last (line ∷ rest)
 unfolding lines_of
 lines_ended octets line rest is none =
@@ -114,7 +114,7 @@ white_longer (x ∷ line) white = white
 utf8_longer : (line : List ℕ) → IsUtf8 line → IsUtf8 (line ++ crlf)
 utf8_longer line is = IsUtf8-append line crlf is (IsUtf8-from_ascii crlf (IsAscii-cons 13 (10 ∷ []) (omega arith) (IsAscii-cons 10 [] (omega arith) IsAscii-nil)))
 
--- ---- the last field with CRLF behind it
+-- ---- the last field with CRLF after it
 
 abbrev longer_field : Field → Field
 longer_field field = record { name = field.name; raw = record { at = field.raw.at; len = field.raw.len + 2 } }
@@ -167,11 +167,11 @@ longer at field line (next ∷ rest) is = record {
 
 -- ---- the fields
 
--- the made field is the other one, or has CRLF behind it where that has none
+-- the made field is the other one, or has CRLF after it where that has none
 abbrev pub IsEndedField : List ℕ → List ℕ → Type 0
 IsEndedField raw made = (made ≡ raw) ⊎ ((made ≡ raw ++ crlf) × IsOpenText raw)
 
--- the fields of the lines, the last of which has CRLF behind it
+-- the fields of the lines, the last of which has CRLF after it
 record HasEndedFields (octets : List ℕ) (lines : List (List ℕ)) (start : ℕ) (fields : List Field) : Type 0 where
   others : List Field
   end : ℕ

@@ -169,7 +169,7 @@ one_type true false same = let size : 44 ≡ 37 = ap length same in absurd (omeg
 one_type false true same = let size : 37 ≡ 44 = ap length same in absurd (omega (arith, size))
 one_type false false same = refl
 
--- what stands behind the fields of a heading
+-- what stands after the fields of a heading
 after_heading : (failure other : Failure) (header header_too octets : List ℕ) (a : IsReport failure header octets) (b : IsReport other header_too octets) (x y : List ℕ)
     → heading failure.name (shown_path failure.path) a.date ++ x ≡ heading other.name (shown_path other.path) b.date ++ y → x ≡ y
 after_heading failure other header header_too octets a b x y same =

@@ -1,4 +1,4 @@
--- What stands behind a recipient's address is read back.
+-- What stands after a recipient's address is read back.
 use Rattle.std.proofs.Common.{◌≡◌, ◌≢◌, ℕ, ◌+◌, ◌/◌, ◌%◌, inl, inr, List, ◌∷◌, ◌++◌, get_or, codes, Option, Some, None, refl, sym, ap, subst, ◌∙◌, arith, slice_get}
 use Rattle.std.proofs.lemmas.List.{append_cancel_left}
 use Rattle.std.specs.Prelude.{IfSome}

@@ -161,13 +161,13 @@ last_part at lines unmarked = passed_over at [] lines (close ∷ []) unmarked �
 
 -- ---- the three parts of a report
 
--- what stands behind the first delimiter line
+-- what stands after the first delimiter line
 stands_after : (octets : List ℕ) (at : ℕ) (lines rest : List (List ℕ)) → Stands octets at (concat (lines ++ delimiter ∷ rest)) → Stands octets (at + size lines + length delimiter) (concat rest)
 stands_after octets at lines rest stands =
     let whole : Stands octets at (concat lines ++ (delimiter ++ concat rest)) = subst (Stands octets at) (concat-append lines (delimiter ∷ rest)) stands in
     Stands-back octets (at + size lines) delimiter (concat rest) (Stands-back octets at (concat lines) (delimiter ++ concat rest) whole)
 
--- the lines behind the type of the report
+-- the lines after the type of the report
 pub record HasThreeParts (content : List (List ℕ)) : Type 0 where
   pub status : List ℕ
   pub header : List ℕ

@@ -14,7 +14,7 @@ pub none_if : {A : Type 0} (N M : Type 0) (r : Option A) → (N → M) → IfNon
 none_if N M None f m = f m
 none_if N M (Some x) f m = tt
 
--- the same octets stand behind the same ones
+-- the same octets stand after the same ones
 pub after_same : (xs ys zs : List ℕ) → xs ++ ys ≡ xs ++ zs → ys ≡ zs
 after_same [] ys zs h = h
 after_same (x ∷ xs) ys zs h = after_same xs ys zs (next h)

@@ -111,7 +111,7 @@ recipient_shortens global octets rest one is =
     let more = length-append begins.0 rest in
     omega arith
 
--- ---- behind the last recipient
+-- ---- after the last recipient
 
 ended : (global : Bool) (rest last : List ℕ) (more : List FailedRecipient) → ((tail : List ℕ) → rest ≡ 13 ∷ 10 ∷ tail → ⊥) → AreLeft global rest more last → (more ≡ []) × (rest ≡ last)
 ended global rest last [] none left = (refl, left.whole)

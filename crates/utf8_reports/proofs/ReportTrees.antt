@@ -133,7 +133,7 @@ type_text = text_line (codes "Content-Type: multipart/report; report-type=delive
 abbrev person_text : List ℕ
 person_text = text_line (codes "Some recipients could not be served.")
 
--- what stands behind the first fields
+-- what stands after the first fields
 abbrev body_of : Bool → List ℕ → List ℕ → List ℕ
 body_of global told header =
     before (type_text ∷ crlf ∷ delimiter ∷ crlf ∷ person_text ∷ delimiter ∷ text_line (status_type global) ∷ crlf ∷ told ∷ delimiter ∷ text_line (header_type global) ∷ crlf ∷ header ∷ []) close
@@ -175,7 +175,7 @@ close_sound = sound_ended (codes "--report--") (plain_sound (codes "--report--")
 person_lines : HoldsLines person_text
 person_lines = one_line 83 (codes "ome recipients could not be served.") refl refl
 
--- the lines behind the empty line of the report's header
+-- the lines after the empty line of the report's header
 abbrev content_lines : Bool → List (List ℕ) → List (List ℕ) → List (List ℕ)
 content_lines global told header =
     delimiter ∷ crlf ∷ (person_lines.lines ++ delimiter ∷ text_line (status_type global) ∷ crlf ∷ (told ++ delimiter ∷ text_line (header_type global) ∷ crlf ∷ (header ++ close ∷ [])))

@@ -81,7 +81,7 @@ unmarked_by x line other (inr some) = record { delimiter = rw (some.1, other) re
 pub other_first : (x : ℕ) (rest : List ℕ) → nat_eq 45 x ≡ false → IsUnmarked boundary (x ∷ rest)
 other_first x rest other = unmarked_by x (x ∷ rest) other (text_begins x rest)
 
--- a text, CRLF behind it
+-- a text, CRLF after it
 pub one_line : (x : ℕ) (rest : List ℕ) → nat_eq 45 x ≡ false → IsPlain (x ∷ rest) → HoldsLines ((x ∷ rest) ++ crlf)
 one_line x rest other plain = record {
   lines = ((x ∷ rest) ++ crlf) ∷ [];
@@ -137,7 +137,7 @@ unfolding text_of
 colon_first [] = refl
 colon_first (y ∷ rest) = refl
 
--- a colon behind a text stands in the line's text
+-- a colon after a text stands in the line's text
 text_colon : (xs rest : List ℕ) → list_all is_text xs ≡ true → list_any is_colon (text_of (xs ++ 58 ∷ rest)) ≡ true
 text_colon [] rest plain = colon_first rest
 text_colon (x ∷ []) rest plain =

@@ -43,7 +43,7 @@ code_digits code = (48 + code / 100) ∷ (48 + code / 10 % 10) ∷ (48 + code % 
 abbrev pub utf8_form : Bool → List ℕ → List ℕ
 utf8_form global text = if global then unitext_form text else xtext_form text
 
--- an address behind its type: `rfc822` where it is ASCII (RFC 3464, 2.3.2), and else `utf-8` (RFC 6533, 3)
+-- an address after its type: `rfc822` where it is ASCII (RFC 3464, 2.3.2), and else `utf-8` (RFC 6533, 3)
 abbrev pub typed_address : Bool → List ℕ → List ℕ
 typed_address global text = if list_all is_ascii text then codes "rfc822; " ++ text else codes "utf-8; " ++ utf8_form global text
 

@@ -19,7 +19,7 @@ use Rattle.utf8_reports.specs.Shown.{IsShownHeader}
 abbrev pub delimiter : List ℕ
 delimiter = text_line (codes "--report")
 
--- the line behind the last part
+-- the line after the last part
 abbrev pub close : List ℕ
 close = text_line (codes "--report--")
 

@@ -64,7 +64,7 @@ fn utf8_form(alloc: Global, text: &[u8], global: bool) -> Result<Octets, Memory>
     }
 }
 
-/// The text of an address, behind its type.
+/// The text of an address, after its type.
 pub fn typed_address(alloc: Global, text: &[u8], global: bool) -> Result<Octets, Memory>
     requires { IsUtf8 text.now }
     ensures { IfOk result (λ typed. typed ≡ typed_address global text.now) }
@@ -98,7 +98,7 @@ fn formed_text(alloc: Global, form: &[u8], global: bool) -> Result<Option<Octets
     Ok(Some(text))
 }
 
-// The text that stands behind its type so.
+// The text that stands after its type so.
 fn typed_text(alloc: Global, typed: &[u8], global: bool) -> Result<Option<Octets>, Memory>
     ensures found { IfOk result (λ o. IfSome o (λ text. typed.now ≡ typed_address global text)) }
     ensures exact { (text : List ℕ) → IsUtf8 text → typed.now ≡ typed_address global text → IfOk result (λ o. o ≡ Some text) }
@@ -116,7 +116,7 @@ fn typed_text(alloc: Global, typed: &[u8], global: bool) -> Result<Option<Octets
     }
 }
 
-/// The address that stands behind its type so.
+/// The address that stands after its type so.
 pub fn read_typed(alloc: Global, typed: &[u8], global: bool) -> Result<Option<Address>, Memory>
     ensures found { IfOk result (λ o. IfSome o (λ address. ComesInPath address × (typed.now ≡ typed_address global (address_text address)))) }
     ensures exact { (address : Address) → ComesInPath address → typed.now ≡ typed_address global (address_text address)

@@ -27,7 +27,7 @@ struct Heading<'a> {
     rest: &'a [u8],
 }
 
-// What follows the date, and the lines behind it that are the same in each report.
+// What follows the date, and the lines after it that are the same in each report.
 fn after_date(octets: &[u8]) -> Option<&[u8]>
     ensures found { IfSome result (λ rest. EndsHeading octets.now rest.now) }
     ensures none { IfNone result ((rest : List ℕ) → ¬ EndsHeading octets.now rest) }

@@ -78,7 +78,7 @@ fn read_diagnostic(octets: &[u8]) -> Option<(Option<u16>, &[u8])>
     }
 }
 
-// What stands behind a recipient's address.
+// What stands after a recipient's address.
 #[derive(Clone, Copy)]
 struct Outcome<'a> {
     status: &'a [u8],

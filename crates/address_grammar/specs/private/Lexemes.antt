@@ -27,7 +27,7 @@ is_special_of mark t = is_special_kind t.kind && bytes_eq t.octets (mark ∷ [])
 abbrev pub lacks_special : ℕ → List TokenValue → Bool
 lacks_special mark tokens = list_all (λ t. not (is_special_of mark t)) tokens
 
--- what stands before the first special of this octet, and what stands behind it
+-- what stands before the first special of this octet, and what stands after it
 pub record SplitsAt (mark : ℕ) (tokens before after : List TokenValue) : Type 0 where
   pub at : TokenValue
   pub whole : tokens ≡ before ++ at ∷ after
@@ -62,7 +62,7 @@ is_literal_kind Special = false
 is_literal_kind Gap = false
 is_literal_kind Comment = false
 
--- octets without the backslashes that quote what stands behind them (RFC 5322, 3.2.1), where one stands before them or
+-- octets without the backslashes that quote what stands after them (RFC 5322, 3.2.1), where one stands before them or
 -- does not
 abbrev pub unquoted : Bool → List ℕ → List ℕ
 unquoted is_quoted [] = []
@@ -85,7 +85,7 @@ said_content Special octets = octets
 abbrev pub content : TokenValue → List ℕ
 content t = said_content t.kind t.octets
 
--- what tokens say, one behind another
+-- what tokens say, one after another
 abbrev pub contents : List TokenValue → List ℕ
 contents tokens = flat_map content tokens
 
@@ -95,7 +95,7 @@ are_dotted p [] = false
 are_dotted p (word ∷ []) = p word
 are_dotted p (word ∷ dot ∷ words) = p word && (is_special_of 46 dot && are_dotted p words)
 
--- the first word passes, and rest stands behind it
+-- the first word passes, and rest stands after it
 pub record BeginsSo (p : TokenValue → Bool) (tokens rest : List TokenValue) : Type 0 where
   pub word : TokenValue
   pub words : words_of tokens ≡ word ∷ words_of rest

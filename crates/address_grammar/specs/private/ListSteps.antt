@@ -27,7 +27,7 @@ pub record AddsTree (text : List ℕ) (token : Token) (old new : List Comment) :
   pub have : HaveTrees text (comment_tokens (token ∷ [])) first
   pub added : trees_of new ≡ trees_of old ++ first
 
--- a group's name and what stands behind its colon: no angle bracket opens in the name
+-- a group's name and what stands after its colon: no angle bracket opens in the name
 pub record SplitsName (tokens before following : List TokenValue) : Type 0 where
   pub splits : SplitsAt 58 tokens before following
   pub closed : lacks_special 60 before ≡ true

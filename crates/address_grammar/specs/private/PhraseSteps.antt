@@ -35,7 +35,7 @@ abbrev pub ReadsPhraseOn : List PhraseItem → List UnitValue → PhraseReader �
 ReadsPhraseOn phrase given r items = (places : List Place) → ArePhrasePlaces (phrase_words r.is_free items) places
     → HasPhraseUnits phrase (given ++ all_units_then r.units (with_text (if r.after_encoded && begins_encoded places then [] else run_before r items) (merged (raw_units places))))
 
--- a token is taken, where the items behind it begin so
+-- a token is taken, where the items after it begin so
 abbrev pub TakesToken : PhraseReader → PhraseReader → TokenValue → Bool → Type 0
 TakesToken old new t is_next_free = (phrase items : List PhraseItem) (given : List UnitValue) → begins_free items ≡ is_next_free
     → ReadsPhraseOn phrase given old (item_of t.kind t.octets ∷ items) → ReadsPhraseOn phrase given new items
@@ -56,7 +56,7 @@ EndsNoBlank [] = Unit {0}
 EndsNoBlank (t ∷ []) = is_blank_token t ≡ false
 EndsNoBlank (t ∷ next ∷ tokens) = EndsNoBlank (next ∷ tokens)
 
--- rest is what stands behind the gaps in front
+-- rest is what stands after the gaps in front
 pub record SkipsGaps (tokens rest : List TokenValue) : Type 0 where
   pub lead : List TokenValue
   pub gaps : list_all (λ t. is_gap t.kind) lead ≡ true

@@ -38,7 +38,7 @@ pub record TakesOut (old new : Merging) (before after : List ℕ) (added : List 
   pub lines : AddsLines (WriteAll written) before after
   pub units : (us : List UnitValue) → written ++ all_units_then new us ≡ all_units_then old (all_onto added us)
 
--- the units can be written, with whatever can be written behind them
+-- the units can be written, with whatever can be written after them
 abbrev pub CanEnd : Merging → Type 0
 CanEnd m = (us : List UnitValue) → AreWritable us → AreWritable (all_units_then m us)
 

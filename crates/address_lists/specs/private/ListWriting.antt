@@ -86,7 +86,7 @@ pub record AreServedMembers (tokens : List TokenValue) (are : Bool) : Type 0 whe
   pub are_members : AreMembers tokens members
   pub served : are ≡ list_all has_served_address members
 
--- the same of a group by its name and what stands behind its colon
+-- the same of a group by its name and what stands after its colon
 pub record IsServedGroupBy (before following : List TokenValue) (is : Bool) : Type 0 where
   pub name : List UnitValue
   pub members : List MailboxValue
@@ -139,7 +139,7 @@ pub record GivesPlace (tokens : List TokenValue) (pieces : List (List ℕ)) : Ty
   pub says : SaysPlace tokens elements
   pub gives : PlaceOfListPieces (are_blank tokens) tokens pieces
 
--- and behind it stand these tokens
+-- and after it stand these tokens
 pub record GivesFollowed (place following : List TokenValue) (pieces : List (List ℕ)) : Type 0 where
   pub elements : List ElementValue
   pub says : SaysPlace place elements

@@ -1,7 +1,7 @@
 -- Chains of blocks: the links from block to block, and the octets along them.
 use Rattle.std.specs.Prelude.{◌≡◌, ℕ, zero, suc, ◌+◌, ◌*◌, ◌<◌, List, [], ◌++◌, length, take, drop, slice_index, Option}
 
--- a first block, and the block behind each block, are blocks
+-- a first block, and the block after each block, are blocks
 pub record StaysInside (next : List ℕ) (first : ℕ) : Type 0 where
   pub begins : first < length next
   pub goes_on : (block : ℕ) → block < length next → slice_index next block < length next
@@ -10,13 +10,13 @@ pub record StaysInside (next : List ℕ) (first : ℕ) : Type 0 where
 abbrev pub GoesInOrder : List ℕ → Type 0
 GoesInOrder next = (block : ℕ) → block + 1 < length next → slice_index next block ≡ block + 1
 
--- the block so many steps behind a block
+-- the block so many steps after a block
 abbrev pub block_after : List ℕ → ℕ → ℕ → ℕ
 block_after next block zero = block
 block_after next block (suc steps) = block_after next (slice_index next block) steps
 
 -- From this block on, the blocks of a chain of so many have this owner (None: they are free), and the rank of each is the number
--- of those behind it. So no block stands in the chains of two owners, nor twice in one.
+-- of those after it. So no block stands in the chains of two owners, nor twice in one.
 abbrev pub IsChain : (ℕ → Option ℕ) → (ℕ → ℕ) → Option ℕ → List ℕ → ℕ → ℕ → Type 0
 IsChain owner rank whose next block zero = Unit {0}
 IsChain owner rank whose next block (suc count) =

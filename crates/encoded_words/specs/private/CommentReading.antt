@@ -52,7 +52,7 @@ pub record TakesCommentWord (old new : Merging) (run : List ℕ) (after_encoded 
   pub units : (us : List UnitValue) → all_units_then new us
       ≡ all_units_then old (with_text (if after_encoded && encoded then [] else run) (onto (word_unit says (map item_octet items)) us))
 
--- the first word of the rest was taken, and the run before it, and behind it stand another run and what is left
+-- the first word of the rest was taken, and the run before it, and after it stand another run and what is left
 pub record TakesFirst (old new : Merging) (run : List ℕ) (after_encoded : Bool) (rest next_run : List ℕ) (encoded : Bool) (next_rest : List ℕ) : Type 0 where
   pub word : List ℕ
   pub after : List ℕ

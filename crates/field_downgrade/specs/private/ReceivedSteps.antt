@@ -23,17 +23,17 @@ pub record CutsTokens (p : TokenValue → Bool) (tokens front rest : List TokenV
   pub before : list_all (λ t. not (p t)) front ≡ true
   pub begins : EndsOrBeginsSo p rest
 
--- the tokens behind a semicolon, where there is one
+-- the tokens after a semicolon, where there is one
 abbrev pub tokens_after : Option Lexemes → Option (List TokenValue)
 tokens_after None = None
 tokens_after (Some date) = Some (values_of date)
 
--- the tokens before the first semicolon, and those behind it
+-- the tokens before the first semicolon, and those after it
 pub record CutsDate (tokens head : List TokenValue) (date : Option (List TokenValue)) : Type 0 where
   pub whole : tokens ≡ head ++ date_tokens date
   pub before : list_all (λ t. not (is_semicolon t)) head ≡ true
 
--- the clause of a token and those behind it
+-- the clause of a token and those after it
 abbrev pub clause_at : TokenValue → List TokenValue → ClauseTokens
 clause_at word following = record { word = word; following = following }
 

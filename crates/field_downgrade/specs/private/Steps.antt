@@ -38,7 +38,7 @@ pub record SplitsCopied (words copied rest : List Word) : Type 0 where
   pub is_copied : IsCopied copied
   pub begins : BeginsHigh rest
 
--- A core comes first. Behind it no word is high up to an encoded word or the end.
+-- A core comes first. After it no word is high up to an encoded word or the end.
 pub record SplitsCore (words core rest : List Word) : Type 0 where
   pub low : List Word
   pub after : List Word
@@ -67,7 +67,7 @@ pub record WritesWords (words : List Word) (old new : List ℕ) : Type 0 where
   pub have : HavePieces words pieces
   pub added : new ≡ old ++ made_body pieces
 
--- Octets were put behind the old ones, and this holds of them.
+-- Octets were put after the old ones, and this holds of them.
 pub record AddsOctets (P : List ℕ → Type 0) (old new : List ℕ) : Type 0 where
   pub more : List ℕ
   pub added : new ≡ old ++ more

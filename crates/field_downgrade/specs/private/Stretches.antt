@@ -9,13 +9,13 @@ use Rattle.field_downgrade.specs.Words.{Word, AreWords, AreUtf8, HasWords, Tells
 use Rattle.field_downgrade.specs.Layout.{first_side, last_side}
 use Rattle.field_downgrade.specs.private.Steps.{BeginsCore, SplitsCopied, SplitsCore, CanWrite, WritesSegment, WritesWords}
 
--- the gap behind the last word
+-- the gap after the last word
 abbrev pub last_gap : List Word → List ℕ
 last_gap [] = []
 last_gap (w ∷ []) = w.gap
 last_gap (w ∷ v ∷ ws) = last_gap (v ∷ ws)
 
--- what the first word is, where another one is put behind the words
+-- what the first word is, where another one is put after the words
 abbrev pub first_where : Side → Side → Side
 first_where Edge next = next
 first_where Encoded next = Encoded
@@ -50,7 +50,7 @@ pub record IsSplitLow (words : List Word) (low : Stretch) (rest : List ℕ) : Ty
 abbrev pub SplitsLow : List ℕ → Stretch → List ℕ → Type 0
 SplitsLow body low rest = (words : List Word) → StandIn words body → IsSplitLow words low rest
 
--- the core that comes first, and what stands behind it
+-- the core that comes first, and what stands after it
 pub record IsSplitCore (words : List Word) (core : Stretch) (rest : List ℕ) : Type 0 where
   pub core_words : List Word
   pub others : List Word

@@ -15,7 +15,7 @@ fn raw_of<'m>(msg: &'m [u8], field: &Field) -> &'m [u8]
     &msg[field.raw.at..field.raw.at + field.raw.len]
 }
 
-// Whether the field is put behind others as it is wanted, and not at all where it stays.
+// Whether the field is put after others as it is wanted, and not at all where it stays.
 fn is_put(rt: &HostRuntime, open_global: bool, raw: &[u8], want: &[u8]) -> bool
     requires { IsField raw.now }
 {

@@ -1,4 +1,4 @@
-//! Addresses behind their type, by the public call.
+//! Addresses after their type, by the public call.
 use crate::test_field_downgrade::rows::first_wrong;
 use std::test::Fail;
 

@@ -79,7 +79,7 @@ fn other_octets_are_escaped(rt: HostRuntime) -> Result<(), Fail> {
 #[test]
 fn quoted_pairs_are_their_second_octets(rt: HostRuntime) -> Result<(), Fail> {
     let octets = unquoted(rt.alloc(), b"a\\\"b\\\\\\c\\").map_err(|_| "memory")?;
-    // Behind the last backslash nothing stands.
+    // After the last backslash nothing stands.
     assert_eq!(rt; octets.as_slice(), b"a\"b\\c\\".as_slice());
     Ok(())
 }

@@ -27,7 +27,7 @@ abbrev pub after_wildcards : List (List ℕ) → List ℕ → List ℕ
 after_wildcards [] last = 42 ∷ last
 after_wildcards (run ∷ runs) last = 42 ∷ (run ++ after_wildcards runs last)
 
--- The pattern of the octets from this place on, behind a wildcard, means the same as these runs and what follows the last
+-- The pattern of the octets from this place on, after a wildcard, means the same as these runs and what follows the last
 -- wildcard.
 pub record IsCut (octets : List ℕ) (from : ℕ) (runs : List Span) (last : ℕ) : Type 0 where
   pub are_runs : ArePlainRuns octets runs
@@ -35,7 +35,7 @@ pub record IsCut (octets : List ℕ) (from : ℕ) (runs : List Span) (last : ℕ
   pub plain : list_all is_no_wildcard (drop last octets) ≡ true
   pub same : (name : List ℕ) → is_match (42 ∷ drop from octets) name ≡ is_match (after_wildcards (plain_runs octets runs) (drop last octets)) name
 
--- the octets behind the first run mean what is left of the pattern
+-- the octets after the first run mean what is left of the pattern
 abbrev pub after_front : List ℕ → (first : ℕ) → List Span → (last : ℕ) → List ℕ
 after_front octets first runs last = if first == length octets then [] else after_wildcards (plain_runs octets runs) (drop last octets)
 

@@ -201,7 +201,7 @@ text_fits =
     (after_fits (IsOctet 45) (After (IsWordOf month_words) IsAfterMonth) (codes "-") (codes "aaa-9999 99:99:99 +9999") dash_fits
     (after_fits (IsWordOf month_words) IsAfterMonth (codes "aaa") (codes "-9999 99:99:99 +9999") month_fits after_month_fits))
 
--- three octets behind three
+-- three octets after three
 middle_three : (day dash month rest : List ℕ) → length day ≡ 2 → length dash ≡ 1 → length month ≡ 3 → slice_range (day ++ (dash ++ (month ++ rest))) 3 6 ≡ month
 middle_three day dash month rest two one three =
     let front : day ++ (dash ++ (month ++ rest)) ≡ (day ++ dash) ++ (month ++ rest) = sym (append_assoc day dash (month ++ rest)) in

@@ -1,4 +1,4 @@
--- Whatever is asked for, the replies may be sent, and each message of the store may be kept behind what was done.
+-- Whatever is asked for, the replies may be sent, and each message of the store may be kept after what was done.
 use Rattle.std.proofs.Common.{◌≡◌, ℕ, ◌+◌, ◌==◌, List, [], ◌∷◌, ◌++◌, length, drop, map, Bool, true, false, not, ◌&&◌, ◌||◌, nat_lt, refl, sym, ap, subst, arith, Option, Some, None, codes, ◌⊎◌, inl, inr, if◌then◌else◌}
 use Rattle.std.specs.Char.{to_ascii_uppercase}
 use Rattle.std.specs.Fmt.{decimal}
@@ -135,7 +135,7 @@ each_fit oracles parts fit (one ∷ all) = all-append (IsFit oracles) (parts one
 between : (front middle back : List ℕ) → list_all is_ascii front ≡ true → list_all is_ascii middle ≡ true → list_all is_ascii back ≡ true → list_all is_ascii (front ++ (middle ++ back)) ≡ true
 between front middle back first second third = pass-append is_ascii front (middle ++ back) first (pass-append is_ascii middle back second third)
 
--- a number behind words, and before others
+-- a number after words, and before others
 number_fit : (front : List ℕ) (n : ℕ) (back : List ℕ) → list_all is_ascii front ≡ true → list_all is_ascii back ≡ true → list_all is_ascii (front ++ (decimal n ++ back)) ≡ true
 number_fit front n back first third = between front (decimal n) back first (ascii-decimal n) third
 

@@ -46,7 +46,7 @@ at_by utf8 seen octets used TooLong other told = record { some = told.0; within 
 pub at_due : (utf8 : Bool) (seen octets : List ℕ) (due : Due) → IsFirstDue utf8 seen octets (Some due) → IsAt utf8 seen octets due
 at_due utf8 seen octets due first = at_by utf8 seen octets due.used due.event first.1 first.0
 
--- the octets of a command in which a literal is asked for are the same with more octets behind
+-- the octets of a command in which a literal is asked for are the same with more octets after
 seen-more : (seen octets more : List ℕ) (used : ℕ) (event : Event) → (event ≡ More → ⊥) → used ≤ length octets → seen_after seen (octets ++ more) used event ≡ seen_after seen octets used event
 seen-more seen octets more used More other within = absurd (other refl)
 seen-more seen octets more used Go other within = ap (λ front. seen ++ front) (take-append-le used octets more within)
@@ -126,7 +126,7 @@ first_of oracles are machine octets turn of =
     let utf8 = is_enabled (mode_of machine.state) in
     subst (λ found. IsFirstDue utf8 machine.seen octets found) of.event_is (are.commands utf8 machine.seen octets)
 
--- the turn is the same with more octets behind
+-- the turn is the same with more octets after
 same_turn : (oracles : Oracles) (machine : Machine) (octets more : List ℕ) (due : Due) → (due.event ≡ More → ⊥) → due.used ≤ length octets
     → due_turn oracles machine (octets ++ more) due ≡ followed_by more (due_turn oracles machine octets due)
 same_turn oracles machine octets more due other within =

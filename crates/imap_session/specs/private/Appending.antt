@@ -61,7 +61,7 @@ words_of_put put.NotEnabled = codes "NO not enabled"
 words_of_put put.NoMessage = codes "NO not a message"
 words_of_put put.TooLarge = codes "NO too large"
 
--- what the store keeps behind a request with these flags, and what it kept before: the message that was put is the last one, or all is as it was
+-- what the store keeps after a request with these flags, and what it kept before: the message that was put is the last one, or all is as it was
 abbrev pub IsAfter : (old new : Kept) → (flags : ℕ) → Put → Type 0
 IsAfter old new flags (put.In folder) =
     (date : List ℕ) × (octets : List ℕ) × (new ≡ after_record old (appended folder flags date octets)) × (length old.messages < THINGS_MAX)

@@ -1,4 +1,4 @@
--- What FETCH puts before and behind the items that were asked.
+-- What FETCH puts before and after the items that were asked.
 use Rattle.std.specs.Prelude.{ℕ, Bool, true, false, List, [], ◌++◌, ◌&&◌, not, codes}
 use Rattle.std.specs.Fmt.{decimal}
 use Rattle.std.specs.List.{list_any}
@@ -19,7 +19,7 @@ uid_first_octets true one = codes "UID " ++ decimal one.uid
 abbrev pub tells_flags_last : (changed : Bool) → List FetchItem → Bool
 tells_flags_last changed items = changed && not (list_any is_flags items)
 
--- the end of a reply, behind the flags or not
+-- the end of a reply, after the flags or not
 abbrev pub end_octets : (flags : Bool) → Listed → List ℕ
 end_octets false one = codes ")\r\n"
 end_octets true one = codes " " ++ (flags_text one.flags ++ codes ")\r\n")

@@ -34,7 +34,7 @@ selects_or_appends (command.Examine written) = true
 selects_or_appends (command.Append written flags date in_utf8 octets) = true
 selects_or_appends other = false
 
--- the state behind a command that changes none, unless it ends the session
+-- the state after a command that changes none, unless it ends the session
 abbrev pub state_left : State → Command → State
 state_left state command.Logout = ended
 state_left state other = state

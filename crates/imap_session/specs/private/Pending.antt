@@ -10,7 +10,7 @@ use Rattle.session_core.specs.Doing.{DoesFirst}
 use Rattle.session_core.specs.Done.{given_by}
 use Rattle.surrogate_cache.specs.Caching.{Fetched}
 
--- These acts were done, but for what is given behind the last change: of that the last octets are still to be given.
+-- These acts were done, but for what is given after the last change: of that the last octets are still to be given.
 pub record Owes {P : Type 0} (spelled : P → List ℕ) (before now : Around) (acts : List (Act P)) (pending : List ℕ) : Type 0 where
   pub done : List (Act P)
   pub late : List (Act P)
@@ -21,7 +21,7 @@ pub record Owes {P : Type 0} (spelled : P → List ℕ) (before now : Around) (a
   pub follows : Follows before.desk.store now.desk.store before.keeper.octets now.keeper.octets (records_of (changes_in done))
   pub fetched : Fetched before.desk.cache (asked_in acts) now.desk.cache
 
--- Behind whatever acts, these too are done or still to be given; or after a fault the first of all were done.
+-- After whatever acts, these too are done or still to be given; or after a fault the first of all were done.
 abbrev pub Carries : {P : Type 0} → (P → List ℕ) → (old new : Around) → Option Fault → (owed owes : List ℕ) → List (Act P) → Type 0
 Carries {P} spelled old new None owed owes acts =
     (before : Around) (first : List (Act P)) → Owes spelled before old first owed → Owes spelled before new (first ++ acts) owes

@@ -19,7 +19,7 @@ abbrev pub structure_words : (extended : Bool) → List ℕ
 structure_words false = codes "BODY "
 structure_words true = codes "BODYSTRUCTURE "
 
--- a word was put last, and behind it this view of the octets
+-- a word was put last, and after it this view of the octets
 pub record AddsView (word : List ℕ) (view : View) (octets old new : List ℕ) : Type 0 where
   pub text : List ℕ
   pub is_view : IsView view octets text

@@ -24,7 +24,7 @@ fn four() -> [Listed; 4]
     [listed(0, 2), listed(3, 5), listed(4, 6), listed(9, 9)]
 }
 
-// The set that is written so, with a space behind it.
+// The set that is written so, with a space after it.
 fn set_of(alloc: Global, text: &[u8]) -> Result<Set, Memory> {
     match set_and_space(alloc, text) {
         Ok((ranges, _)) => Ok(Set { ranges }),

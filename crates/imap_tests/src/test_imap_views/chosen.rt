@@ -31,7 +31,7 @@ fn before(alloc: Global) -> Result<Octets, Memory> {
     Octets::from_slice(alloc, b"before ")
 }
 
-// Whether the fields that are chosen are put behind what was there.
+// Whether the fields that are chosen are put after what was there.
 fn chosen_is(rt: &HostRuntime, header: &str, names: &[&str], negated: bool, wanted: &str) -> bool {
     let Some(header) = has_block(rt.alloc(), header.as_bytes()) else {
         return false;

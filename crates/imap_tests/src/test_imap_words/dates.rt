@@ -21,7 +21,7 @@ fn stops(text: &[u8], stop: Stop) -> bool {
     date_time(text).is_err_and(|met| met == stop)
 }
 
-// Whether a date whose octets behind a front are these two is refused at the first of them.
+// Whether a date whose octets after a front are these two is refused at the first of them.
 fn stops_after(alloc: Global, front: &[u8], octet: u8) -> Result<bool, Fail> {
     let mut text = Octets::from_slice(alloc, front)?;
     text.push(octet)?;

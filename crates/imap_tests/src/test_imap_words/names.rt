@@ -105,7 +105,7 @@ fn a_second_spelling_is_none(rt: HostRuntime) -> Result<(), Fail> {
         // two runs in place of one
         b"&A6M-&A6M-",
         b"&AMk-&2D3eAA-",
-        // bits behind the last octet that aren't 0
+        // bits after the last octet that aren't 0
         b"&A6N-",
         b"&2D3eAB-",
     ];

@@ -74,11 +74,11 @@ goes_on_counting is_after_cr (x ∷ rest) = if is_after_cr && x == 10 then suc (
 abbrev pub HoldsNames : List (List ℕ) → (List ℕ → Bool) → Type 0
 HoldsNames asked has = (name : List ℕ) → has name ≡ list_any (λ one. bytes_eq name (str_to_ascii_lowercase one)) asked
 
--- new is old with a space behind it, and then a text of which this holds
+-- new is old with a space after it, and then a text of which this holds
 abbrev pub AddsAfterSpace : (List ℕ → Type 0) → List ℕ → List ℕ → Type 0
 AddsAfterSpace Holds old new = (text : List ℕ) × Holds text × (new ≡ old ++ 32 ∷ text)
 
--- who wrote a message, who sent it and who is answered, in their order, each behind a space
+-- who wrote a message, who sent it and who is answered, in their order, each after a space
 pub record HasSenders (raws : List (List ℕ)) (text : List ℕ) : Type 0 where
   pub from : List ℕ
   pub is_from : AreAddressesOf (codes "From") raws from
@@ -88,7 +88,7 @@ pub record HasSenders (raws : List (List ℕ)) (text : List ℕ) : Type 0 where
   pub is_reply_to : AreAddressesOr from (codes "Reply-To") raws reply_to
   pub text_is : text ≡ after_spaces (from ∷ sender ∷ reply_to ∷ [])
 
--- the addresses of an envelope, in their order, each behind a space
+-- the addresses of an envelope, in their order, each after a space
 pub record HasAllAddresses (raws : List (List ℕ)) (text : List ℕ) : Type 0 where
   pub from : List ℕ
   pub is_from : AreAddressesOf (codes "From") raws from

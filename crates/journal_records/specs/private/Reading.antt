@@ -20,7 +20,7 @@ abbrev pub ReadsInto : {X Y : Type 0} → (X → Y) → Result X ReadFault → O
 ReadsInto view (Ok x) read = read ≡ Some (view x)
 ReadsInto view (Err e) read = Fails e read
 
--- a field is a value and the octets behind it
+-- a field is a value and the octets after it
 abbrev pub number_at : List ℕ → Option (ℕ × List ℕ)
 number_at octets = if nat_lt (length octets) 4 then None else Some (from_be_bytes w32 (take 4 octets), drop 4 octets)
 

@@ -36,7 +36,7 @@ IsFieldsFault told at n old faults.Keeper = Unit {0}
 IsFieldsFault told at n old (faults.BadJournal place) = (place ≡ at) × IfSome told (λ octets. NotAdded old (fields_at octets at n))
 IsFieldsFault told at n old faults.Memory = Unit {0}
 
--- These records were put last in a store, one after the other as they stand behind those that it had.
+-- These records were put last in a store, one after the other as they stand after those that it had.
 pub record IsReadTo (told : Option (List ℕ)) (first store : StoreState) : Type 0 where
   pub more : List Record
   pub records : AreRecords first.kept more
@@ -82,7 +82,7 @@ IsReadingFault octets faults.Keeper = Unit {0}
 IsReadingFault octets (faults.BadJournal at) = IsBadAt octets at
 IsReadingFault octets faults.Memory = Unit {0}
 
--- nothing was changed, or what is behind the records was cut, or a prefix of an empty journal was put there
+-- nothing was changed, or what is after the records was cut, or a prefix of an empty journal was put there
 abbrev pub IsHalfRepaired : ℕ → List ℕ → List ℕ → Type 0
 IsHalfRepaired end old new = (new ≡ old) ⊎ (new ≡ take end old) ⊎ ((end ≡ 0) × (n : ℕ) × (new ≡ take n first_octets))
 

@@ -267,7 +267,7 @@ fn each_place_is_read(rt: HostRuntime) -> Result<(), Fail> {
     Ok(())
 }
 
-// Whether the runs of a rope have these lengths, one behind another, and are the surrogate.
+// Whether the runs of a rope have these lengths, one after another, and are the surrogate.
 fn has_runs(rope: &Rope, msg: &[u8], made: &[u8], lens: &[usize]) -> bool
     requires { IsRopeOf msg.now rope.now }
 {

@@ -36,7 +36,7 @@ abbrev pub numbers_below : ℕ → List ℕ
 numbers_below zero = []
 numbers_below (suc n) = numbers_below n ++ n ∷ []
 
--- the numbers below count, those of a name behind one another and in order, each of 32 bits
+-- the numbers below count, those of a name after one another and in order, each of 32 bits
 pub record InNameOrder (name : ℕ → List ℕ) (count : ℕ) (order : List ℕ) : Type 0 where
   pub few : count < 4294967296
   pub permutation : IsPermutation (numbers_below count) order

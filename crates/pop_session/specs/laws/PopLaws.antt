@@ -237,9 +237,9 @@ step_fit oracles are (authorization mode user) store stored command = authorizat
 step_fit oracles are (transaction mode maildrop) store stored command = transaction_fit oracles are mode maildrop store stored command.keyword command.argument
 step_fit oracles are ended store stored command = tt
 
--- ---- the store behind a row
+-- ---- the store after a row
 
--- each message may be kept behind these changes
+-- each message may be kept after these changes
 abbrev IsStoredAfter : StoreState → List (List Record) → Type 0
 IsStoredAfter store made = AreStored (with_records store (records_of made)).kept.messages
 

@@ -17,7 +17,7 @@ is_after_cr Within = false
 abbrev pub needs_dot : Place → ℕ → Bool
 needs_dot place x = is_start place && x == 46
 
--- the place behind an octet
+-- the place after an octet
 abbrev pub next_place : Place → ℕ → Place
 next_place place x = if x == 13 then AfterCr else (if is_after_cr place && x == 10 then LineStart else Within)
 

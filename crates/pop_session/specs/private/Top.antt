@@ -18,13 +18,13 @@ at_line_end scan =
     if scan.in_header then record scan { in_header = not scan.is_second }
     else record scan { lines = scan.lines - 1 }
 
--- behind an octet
+-- after an octet
 abbrev pub following_octet : Scan → ℕ → Scan
 following_octet scan x =
     let after = (if is_start (next_place scan.place x) then at_line_end scan else scan) in
     record after { place = next_place scan.place x; is_second = is_start scan.place }
 
--- behind the octets of a piece that are shown
+-- after the octets of a piece that are shown
 abbrev pub all_after : Scan → List ℕ → Scan
 all_after scan [] = scan
 all_after scan (x ∷ rest) = if is_ended scan then scan else all_after (following_octet scan x) rest

@@ -7,7 +7,7 @@ use Rattle.relay_choice.specs.declared.mail_objects.Recipient.{Recipient}
 use Rattle.relay_choice.specs.declared.mail_objects.MailObject.{MailObject}
 use Rattle.relay_choice.specs.Relay.{sent_after}
 
--- the first recipient from a place on to whom the mail object is sent has this place, and what stands behind it
+-- the first recipient from a place on to whom the mail object is sent has this place, and what stands after it
 pub record AsksFor (offer : Offer) (mail_object : MailObject) (from place : ℕ) : Type 0 where
   pub recipient : Recipient
   pub there : slice_get mail_object.recipients place ≡ Some recipient

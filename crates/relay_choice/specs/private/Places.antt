@@ -22,7 +22,7 @@ pub record IsReplyFront (octets : List ℕ) (place : Place) : Type 0 where
   pub start_is : place.start ≡ length further
   pub lines_are : place.lines ≡ length texts
 
--- the line begins in the octets, behind no more lines than octets
+-- the line begins in the octets, after no more lines than octets
 pub record IsPlaceIn (octets : List ℕ) (place : Place) : Type 0 where
   pub start : place.start ≤ length octets
   pub lines : place.lines ≤ place.start
@@ -33,7 +33,7 @@ StepsTo before octet (step.Within place) = IsReplyFront (before ++ octet ∷ [])
 StepsTo before octet step.Whole = AreReply (before ++ octet ∷ [])
 StepsTo before octet step.NotReply = ¬ IsFront (before ++ octet ∷ [])
 
--- the place behind the octet, where the reply goes on
+-- the place after the octet, where the reply goes on
 abbrev pub IsStepIn : (before : List ℕ) (octet : ℕ) → Step → Type 0
 IsStepIn before octet (step.Within place) = IsPlaceIn (before ++ octet ∷ []) place
 IsStepIn before octet step.Whole = Unit {0}
@@ -47,7 +47,7 @@ abbrev pub code_fits : (before : List ℕ) → Place → (octet : ℕ) → Bool
 code_fits before place octet =
     if nat_lt 0 place.lines then slice_index before (length before - place.start) == octet else first_code_fits (length before - place.start) octet
 
--- behind the code of a line with so many before it
+-- after the code of a line with so many before it
 abbrev pub sign_fits : (lines octet : ℕ) → Bool
 sign_fits lines octet = octet == 32 || octet == 13 || (octet == 45 && nat_lt lines (REPLY_LINES - 1))
 
@@ -55,7 +55,7 @@ abbrev pub text_fits : (line : List ℕ) (octet : ℕ) → Bool
 text_fits line octet = not (slice_index line 3 == 13)
     && (nat_lt (length line) (REPLY_LINE_MAX - 2) || (length line == REPLY_LINE_MAX - 2 && octet == 13))
 
--- the octet is an LF behind a CR, which stands behind the code or later
+-- the octet is an LF after a CR, which stands after the code or later
 pub record EndsReplyLine (line : List ℕ) (octet : ℕ) : Type 0 where
   pub ends : octet ≡ 10
   pub front : List ℕ

@@ -130,7 +130,7 @@ pub record CanCount (tally : Tally) (acts : List ClientAct) : Type 0 where
   pub reported : tally.reported + settled_count acts < 2 ^ 32
   pub left : length (flat_map outcomes_in acts) ≤ tally.left
 
--- Over acts the entries stay known, with the same messages; and where the acts settle those from a place on, the ones behind stay open.
+-- Over acts the entries stay known, with the same messages; and where the acts settle those from a place on, the ones after stay open.
 pub record KeepsQueue (before now : Around) (queue : List Queued) (acts : List ClientAct) : Type 0 where
   pub known : AreKnown now.desk.store.kept queue
   pub messages : messages_of now.desk.store.kept queue ≡ messages_of before.desk.store.kept queue
@@ -150,7 +150,7 @@ pub record ActsDone (path_of : List ℕ → Option (Option Address)) (before now
   pub carries : CarriesActs path_of before.desk.store queue (messages_of before.desk.store.kept queue) told first acts count
   pub does : DoesActs before now met acts
 
--- broken off in the last of some acts, or behind them
+-- broken off in the last of some acts, or after them
 pub record ActsBroken (path_of : List ℕ → Option (Option Address)) (before now : Around) (queue : List Queued) (all : List ClientAct) (met : Fault) : Type 0 where
   pub first : List ClientAct
   pub others : List ClientAct

@@ -13,7 +13,7 @@ use Rattle.session_core.specs.Protocol.{IsFitTurn}
 use Rattle.session_core.specs.declared.rows.Wants.{Wants}
 use Rattle.session_core.specs.declared.rows.Wants.TheVariants as wants
 
--- ---- what a stream begins with stays so with more octets behind
+-- ---- what a stream begins with stays so with more octets after
 
 abbrev pub IsSteadyCut : Wants → List ℕ → Framed → Type 0
 IsSteadyCut want octets waiting = Unit {0}

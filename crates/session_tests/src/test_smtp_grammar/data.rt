@@ -12,7 +12,7 @@ fn says(reader: DataReader, wanted: Option<&[u8]>) -> bool {
     }
 }
 
-// Whether data that come in two pieces, behind a front, have so many octets of these and say this.
+// Whether data that come in two pieces, after a front, have so many octets of these and say this.
 fn reads(
     alloc: Global,
     limit: u32,
@@ -34,7 +34,7 @@ fn reads(
     Ok(found == Some(used) && says(reader, wanted))
 }
 
-// Whether the octets behind a front are read so wherever they are cut in two.
+// Whether the octets after a front are read so wherever they are cut in two.
 fn reads_at_each_cut(
     alloc: Global,
     limit: u32,

@@ -58,7 +58,7 @@ line_shorter oracles machine octets waiting turn steady is = cc
 line_shorter oracles machine octets (whole line rest) turn steady is = let same : rest ≡ turn.rest = cc in rw (← same) steady.0
 line_shorter oracles machine octets (too_long rest) turn steady is = let same : rest ≡ turn.rest = cc in rw (← same) steady.0
 
--- more octets stay behind a line
+-- more octets stay after a line
 line_stays : (oracles : Oracles) (machine : Machine) (octets more : List ℕ) (framed : Framed) (turn : Turn Machine (Act (List ℕ))) → IsSteady octets framed
     → line_turn oracles machine framed ≡ Some turn → line_turn oracles machine (next_line (octets ++ more)) ≡ Some (followed_by more turn)
 line_stays oracles machine octets more waiting turn steady is = cc
@@ -73,7 +73,7 @@ data_shorter oracles machine client envelope octets turn (Some cut) at is =
     let same : cut.rest ≡ turn.rest = ap (λ (t : Turn Machine (Act (List ℕ))). t.rest) (same_Some _ _ is) in
     rw (← same) (data_cut-shorter octets cut at)
 
--- more octets stay behind data
+-- more octets stay after data
 data_stays : (oracles : Oracles) (machine : Machine) (client : Client) (envelope : Envelope) (octets more : List ℕ) (turn : Turn Machine (Act (List ℕ))) (found : Option Cut) → data_cut octets ≡ found
     → option_map (data_turn oracles machine client envelope) found ≡ Some turn
     → option_map (data_turn oracles machine client envelope) (data_cut (octets ++ more)) ≡ Some (followed_by more turn)
@@ -274,20 +274,20 @@ end_by_fit is_message store client delivery =
 greeting_fit : (name : List ℕ) → IsStoreName name → AreFit (greeting name)
 greeting_fit name named = (pass-append is_ascii (codes "220 ") (name ++ codes " ESMTP") refl (pass-append is_ascii name (codes " ESMTP") (ascii-name name named) refl), tt)
 
--- ---- the name of the store behind a step
+-- ---- the name of the store after a step
 
 -- where the domains stay, the name does
 pub named_after : (old new : Kept) → new.domains ≡ old.domains → IsStoreName (name_of old) → IsStoreName (name_of new)
 named_after old new same named = subst (λ (domains : List (List ℕ)). IsStoreName (slice_index_or domains 0 (codes "localhost"))) (sym same) named
 
--- the store has a name behind these changes
+-- the store has a name after these changes
 abbrev IsNamedAfter : StoreState → List (List Record) → Type 0
 IsNamedAfter store made = IsStoreName (name_of (with_records store (records_of made)).kept)
 
 named_as : (store : StoreState) (made : List (List Record)) → made ≡ [] → IsStoreName (name_of store.kept) → IsNamedAfter store made
 named_as store made none named = rw none named
 
--- behind a command
+-- after a command
 step_named : (oracles : Oracles) (state : State) (store : StoreState) (verb : Verb) (argument : List ℕ) → IsStoreName (name_of store.kept)
     → IsNamedAfter store (step oracles state store verb argument).changes
 step_named oracles state store verb argument = named_as store _ (step-changes oracles state store verb argument)
@@ -297,7 +297,7 @@ delivered_named store delivery named =
     let records = delivered store.kept delivery in
     rw (append-nil records) (named_after store.kept (after_all store.kept records) (delivered_domains store.kept delivery) named)
 
--- behind the end of data
+-- after the end of data
 end_by_named : (is_message : Bool) (store : StoreState) (client : Client) (delivery : Delivery) → IsStoreName (name_of store.kept)
     → IsNamedAfter store (end_by is_message store client delivery).changes
 end_by_named is_message store client delivery named =

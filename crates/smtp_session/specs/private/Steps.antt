@@ -14,7 +14,7 @@ use Rattle.smtp_session.specs.declared.session.SmtpMachine.{SmtpMachine}
 use Rattle.smtp_session.specs.declared.states.SmtpState.{SmtpState}
 use Rattle.smtp_session.specs.declared.states.SmtpState.TheVariants as smtp
 
--- the content of a message, which stands behind the trace
+-- the content of a message, which stands after the trace
 abbrev pub accepted_content : Accepted → List ℕ
 accepted_content accepted = drop accepted.trace_len accepted.delivery.remote_octets
 

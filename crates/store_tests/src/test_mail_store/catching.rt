@@ -1,4 +1,4 @@
-//! Stores that catch up with what others wrote behind their records.
+//! Stores that catch up with what others wrote after their records.
 use crate::test_mail_store::opened;
 use ace_domains::normal;
 use mail_store::{OpenFault, Store, StoreFault};

@@ -237,7 +237,7 @@ fn two_have_it(store: &Store) -> Result<bool, Fail> {
     Ok(true)
 }
 
-// Whether a message is delivered to two accounts, and the keeper's failing call behind it is told.
+// Whether a message is delivered to two accounts, and the keeper's failing call after it is told.
 fn delivers(store: &mut Store, keeper: &mut MemKeeper, alloc: Global) -> Result<bool, Fail> {
     if !is_written_for_two(store, keeper, alloc)? || !two_have_it(store)? {
         return Ok(false);

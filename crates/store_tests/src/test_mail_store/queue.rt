@@ -143,7 +143,7 @@ fn stays(alloc: Global, call: u64) -> Result<bool, Fail> {
     Ok(told && store.failed() && observed(&store, alloc, TWO_WAIT)?)
 }
 
-// Whether a message that is delivered is told behind those that wait.
+// Whether a message that is delivered is told after those that wait.
 fn follows(alloc: Global) -> Result<bool, Fail> {
     let mut keeper = keeper_of(alloc, &QUEUE, None)?;
     let mut store = Store::open(alloc, &mut keeper, 1000)?;

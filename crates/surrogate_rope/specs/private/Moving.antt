@@ -7,12 +7,12 @@ use Rattle.mime_tree.specs.Rewriting.{FieldRelation}
 use Rattle.mime_tree.specs.Tree.{raws_of}
 use Rattle.surrogate_rope.specs.declared.moving.End.{End}
 
--- As far behind the last block that ends at or before the place as in the message. Where there is none, as far behind where all begins.
+-- As far after the last block that ends at or before the place as in the message. Where there is none, as far after where all begins.
 abbrev pub moved_by : ℕ → ℕ → List End → ℕ → ℕ
 moved_by from made_from [] place = made_from + (place - from)
 moved_by from made_from (end ∷ ends) place = if nat_le end.at place then moved_by end.at end.made ends place else made_from + (place - from)
 
--- The block ends so little further on in the surrogate that any place behind it can be counted there.
+-- The block ends so little further on in the surrogate that any place after it can be counted there.
 abbrev pub IsNear : End → Type 0
 IsNear end = end.made ≤ end.at + 2 ^ 63
 

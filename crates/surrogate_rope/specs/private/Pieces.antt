@@ -16,7 +16,7 @@ pub record IsPieceAt (octets : List ℕ) (at : ℕ) (piece : Piece) : Type 0 whe
   pub offset : piece.offset ≡ at
   pub fits : IsTrue piece.is_new → piece.range.at + piece.range.len ≤ length octets
 
--- The pieces stand one behind another between these places of the surrogate.
+-- The pieces stand one after another between these places of the surrogate.
 abbrev pub StandInPlace : List ℕ → ℕ → List Piece → ℕ → Type 0
 StandInPlace octets at [] to = at ≡ to
 StandInPlace octets at (piece ∷ pieces) to = IsPieceAt octets at piece × StandInPlace octets (at + piece.range.len) pieces to
@@ -45,7 +45,7 @@ range_at offset range = if nat_lt 0 range.len then piece_at offset false range �
 abbrev pub range_where : Span → List RopePiece
 range_where range = if nat_lt 0 range.len then Range range ∷ [] else []
 
--- The served field was put last behind a range, where it is another one than the field itself, and else nothing was.
+-- The served field was put last after a range, where it is another one than the field itself, and else nothing was.
 abbrev pub AddsServed : Bool → List ℕ → Span → Bool → List RopePiece → List RopePiece → Type 0
 AddsServed open_global raw kept true old new = (field : List ℕ) × IsServedField open_global raw field × (field ≢ raw) × (new ≡ (old ++ range_where kept) ++ New field ∷ [])
 AddsServed open_global raw kept false old new = IsServedField open_global raw raw × (new ≡ old)

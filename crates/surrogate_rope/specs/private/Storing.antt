@@ -36,14 +36,14 @@ pub record StoresEntities (old new : List ℕ) (entities : List Outline) : Type 
   pub form : new ≡ old ++ flat_map stored_entity entities
   pub small : AllByRecursion IsEntitySmall entities
 
--- so many pieces are stored from this place on, with the rest behind them
+-- so many pieces are stored from this place on, with the rest after them
 pub record HasPiecesAt (octets : List ℕ) (at count : ℕ) (pieces : List RopePiece) (rest : List ℕ) : Type 0 where
   pub there : drop at octets ≡ flat_map stored_piece pieces ++ rest
   pub count_is : length pieces ≡ count
   pub small : AllByRecursion IsPieceSmall pieces
   pub ranges : range_size pieces < 2 ^ 63
 
--- so many entities are, and nothing behind them
+-- so many entities are, and nothing after them
 pub record HasEntitiesAt (octets : List ℕ) (at count : ℕ) (entities : List Outline) : Type 0 where
   pub there : drop at octets ≡ flat_map stored_entity entities
   pub count_is : length entities ≡ count

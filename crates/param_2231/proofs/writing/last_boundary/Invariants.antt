@@ -2,7 +2,7 @@ use Rattle.std.proofs.Common.{ℕ, ◌<◌, ◌≤◌}
 use Rattle.std.specs.Str.{IsCharBoundary}
 use Rattle.param_2231.proofs.writing.last_boundary.Given as goal
 
--- behind this place there is no place between two characters
+-- after this place there is no place between two characters
 abbrev pub invariant-loop-end : goal.invariant-loop-end
 invariant-loop-end l = (l.end ≤ l.fn.at) × ((i : ℕ) → l.end < i → i ≤ l.fn.at → ¬ IsCharBoundary l.fn.octets i)
 
