@@ -79,6 +79,9 @@ group_unnamed before following none (Group name ms) is = none is.is_phrase
 pub local_not_served : (a : Address) → list_all is_ascii a.local ≡ false → false ≡ is_some (served_address a)
 local_not_served a h = rw (h) refl
 
+pub ascii_own : (a : Address) → list_all is_ascii a.local ≡ true → list_all is_ascii a.domain ≡ true → served_address a ≡ Some a
+ascii_own a h i = rw (h, i) refl
+
 pub domain_ascii : (a : Address) → list_all is_ascii a.local ≡ true → list_all is_ascii a.domain ≡ true → true ≡ is_some (served_address a)
 domain_ascii a h i = rw (h, i) refl
 

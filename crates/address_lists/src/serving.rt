@@ -1,5 +1,5 @@
 //! Addresses as they are served.
-ghost use Rattle.std.specs.Prelude.{◌≡◌, is_some, IfOk, IsUtf8};
+ghost use Rattle.std.specs.Prelude.{◌≡◌, is_some, IfOk, IsTrue, IsUtf8};
 ghost use Rattle.address_lists.specs.ListPieces.{served_domain as served_domain_of, served_address};
 
 use address_grammar::Address;
@@ -18,6 +18,13 @@ fn served_domain(alloc: Global, domain: &[u8]) -> Result<Option<Octets>, Memory>
         unreachable!();
     };
     ace_domains::normal(alloc, domain)
+}
+
+/// Whether an address is ASCII, and so served as it is.
+pub fn is_ascii_address(address: &Address) -> bool
+    ensures { IsTrue result → served_address address.now ≡ Some address.now }
+{
+    is_ascii(address.local.as_slice()) && is_ascii(address.domain.as_slice())
 }
 
 /// An address as it is served, or nothing where it can't be.

@@ -10,7 +10,7 @@ ghost use Rattle.address_lists.specs.ListPieces.{served_address, MailboxPieces};
 ghost use Rattle.address_lists.specs.private.ListWriting.{CanBeWritten, NamedPieces};
 
 use crate::emptied::write_not_served;
-use crate::serving::served;
+use crate::serving::{is_ascii_address, served};
 use crate::writing::{push_core, split_core};
 use address_grammar::{Address, FoundMailbox, push_address, split_at_mark};
 use encoded_words::push_line;
@@ -109,6 +109,9 @@ pub fn write_mailbox(
     requires mailbox { IsFoundMailbox (values_of lexemes) mailbox.now }
     ensures { OnOk result (AddsLines (MailboxPieces (values_of lexemes.entry)) made.old made.new) }
 {
+    if is_ascii_address(&mailbox.address) {
+        return write_served(alloc, lexemes, mailbox, &mailbox.address, made);
+    }
     let Some(address) = served(alloc, &mailbox.address)? else {
         return write_not_served(alloc, lexemes, mailbox, made);
     };

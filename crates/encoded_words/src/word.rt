@@ -257,10 +257,8 @@ pub fn names_text(charset: &[u8], octets: &[u8]) -> bool
 pub fn lower_case(alloc: Global, octets: &[u8]) -> Result<Octets, Memory>
     ensures { IfOk result (λ o. o ≡ str_to_ascii_lowercase octets.now) }
 {
-    let lower = octets
-        .iter()
-        .map(|b| b.to_ascii_lowercase())
-        .collect(alloc)?;
+    let mut lower = Vec::from_slice(alloc, octets)?;
+    lower.make_ascii_lowercase();
     Ok(Octets::from_vec(lower))
 }
 

@@ -23,7 +23,7 @@ use mail_wire::{Memory, Octets, is_same_name};
 use param_2231::rewrite_params;
 use param_grammar::{ParamFault, ParamKind};
 use std::alloc::Global;
-use utf8_fields::{Parts, value_of};
+use utf8_fields::{Parts, line_value, value_of};
 
 #[tactic(auto, unfolding(crate::specs::Stands::is_encoding_name))]
 fn is_encoding_name(name: &[u8]) -> bool
@@ -166,6 +166,27 @@ fn push_whole(
     }
 }
 
+// Puts a field of this value last, made anew.
+fn push_valued(
+    alloc: Global,
+    open_global: bool,
+    made: &mut Octets,
+    parts: &Parts<'_>,
+    value: &[u8],
+) -> Result<(), Memory>
+    requires other { IsOther (parts_value parts.now) }
+    requires value { HasValue parts.now.body.now value.now }
+    requires utf8 { IsUtf8 value.now }
+    ensures { OnOk result (AddsOctets (MakesField open_global (parts_value parts.now)) made.old made.new) }
+{
+    let len = made.len();
+    if push_pieces(alloc, open_global, parts, value, made)? {
+        return Ok(());
+    }
+    made.truncate(len);
+    push_whole(open_global, made, parts, value)
+}
+
 /// Puts a structured field last, or one whose name begins with `-`, made anew.
 pub fn push_structured(
     alloc: Global,
@@ -179,11 +200,9 @@ pub fn push_structured(
     requires high { list_all is_ascii parts.now.body.now ≡ false }
     ensures { OnOk result (AddsOctets (MakesField open_global (parts_value parts.now)) made.old made.new) }
 {
-    let value = value_of(alloc, parts.body)?;
-    let len = made.len();
-    if push_pieces(alloc, open_global, parts, value.as_slice(), made)? {
-        return Ok(());
+    if let Some(value) = line_value(parts.body) {
+        return push_valued(alloc, open_global, made, parts, value);
     }
-    made.truncate(len);
-    push_whole(open_global, made, parts, value.as_slice())
+    let value = value_of(alloc, parts.body)?;
+    push_valued(alloc, open_global, made, parts, value.as_slice())
 }

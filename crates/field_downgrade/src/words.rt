@@ -30,7 +30,7 @@ const NO_WORDS: Stretch<'static> = Stretch {
 fn is_word_octet(octet: u8) -> bool
     ensures { result ≡ is_word_octet octet }
 {
-    !matches!(octet, b' ' | b'\t' | b'\r' | b'\n')
+    octet > b' ' || !matches!(octet, b' ' | b'\t' | b'\r' | b'\n')
 }
 
 fn find_word(octets: &[u8]) -> Option<usize>

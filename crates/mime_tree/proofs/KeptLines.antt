@@ -2,11 +2,11 @@
 use Rattle.std.proofs.Common.{◌≡◌, ℕ, ◌+◌, Bool, true, false, ◌⊎◌, inl, inr, List, [], ◌∷◌, ◌++◌, length, map, nat_eq, refl, sym, ap, ◌∙◌, subst, arith, append_assoc, append-nil, length-append}
 use Rattle.std.specs.List.{AllZip, AllByRecursion, flat_map, concat, starts_with}
 use Rattle.std.proofs.lemmas.Bool.Decides.{nat_tests}
-use Rattle.std.proofs.lemmas.Bool.{both_ways, and_right}
+use Rattle.std.proofs.lemmas.Bool.{both_ways}
 use Rattle.std.proofs.lemmas.List.Folds.{concat-append}
 use Rattle.std.proofs.lemmas.List.Elements.{recursion_from_All}
 use Rattle.mail_wire.specs.Octets.{is_white, is_line_end}
-use Rattle.mail_wire.specs.Lines.{crlf, is_crlf}
+use Rattle.mail_wire.specs.Lines.{crlf}
 use Rattle.mail_wire.specs.Message.{IsNul, IsSound}
 use Rattle.mail_wire.specs.Folds.{FoldedItem, Octet, Fold, IsFoldedItem, item_octets}
 use Rattle.mail_wire.proofs.AllLemmas.{all-append, all-front, all-back}
@@ -19,7 +19,7 @@ use Rattle.utf8_fields.proofs.FirstField.{field_of}
 use Rattle.utf8_fields.proofs.Raws.{raw_of-lines}
 use Rattle.mime_tree.specs.Marks.{text_of, dashes, is_delimiter, is_close}
 use Rattle.mime_tree.specs.Rewriting.{KeepsLine}
-use Rattle.mime_tree.proofs.Texts.{text_begins, text_of-crlf, text_of-other}
+use Rattle.mime_tree.proofs.Texts.{text_apart}
 use Rattle.mime_tree.proofs.Padded.{is_padded-append}
 use Rattle.mime_tree.proofs.FieldLines.{HasFieldLines, field_lines, no_nul_in_lines}
 use Rattle.mime_tree.proofs.Standing.{Stands, AreEnded, IsUnmarked, AreUnmarked, HasNewBlock}
@@ -32,27 +32,6 @@ unmarked_text boundary line apart = record {
   delimiter = rw (is_padded-append dashes boundary (text_of line), apart) refl;
   close = rw (is_padded-append dashes (boundary ++ dashes) (text_of line), apart) refl;
 }
-
-two_dashes : (x y : ℕ) (a b : List ℕ) → starts_with nat_eq (x ∷ y ∷ a) dashes ≡ starts_with nat_eq (x ∷ y ∷ b) dashes
-two_dashes x y a b = refl
-
-one_dash : (x : ℕ) → starts_with nat_eq (x ∷ []) dashes ≡ false
-one_dash x = and_right (nat_eq 45 x) false refl
-
--- a text doesn't begin with hyphens where its line doesn't
-text_apart : (line rest : List ℕ) → starts_with nat_eq (line ++ rest) dashes ≡ false → starts_with nat_eq (text_of line) dashes ≡ false
-unfolding text_of
-text_apart [] rest apart = refl
-text_apart (x ∷ []) rest apart = one_dash x
-text_apart (x ∷ y ∷ line) rest apart = by (is_crlf x y) refl
-  where
-    other : (t : List ℕ) → (t ≡ []) ⊎ ((more : List ℕ) × (t ≡ y ∷ more)) → starts_with nat_eq (x ∷ t) dashes ≡ false
-    other t (inl none) = rw none (one_dash x)
-    other t (inr some) = rw some.1 (two_dashes x y some.0 (line ++ rest) ∙ apart)
-
-    by : (b : Bool) → is_crlf x y ≡ b → starts_with nat_eq (text_of (x ∷ y ∷ line)) dashes ≡ false
-    by true h = rw (text_of-crlf x y line h) refl
-    by false h = rw (text_of-other x y line h) (other (text_of (y ∷ line)) (text_begins y line))
 
 white_apart : (w : ℕ) (t : List ℕ) → is_white w ≡ true → starts_with nat_eq (w ∷ t) dashes ≡ false
 white_apart w t white =

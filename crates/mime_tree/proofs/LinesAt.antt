@@ -1,15 +1,18 @@
 -- The line at a place, and the steps over lines.
-use Rattle.std.proofs.Common.{◌≡◌, ℕ, zero, suc, ◌+◌, ◌<◌, ◌≤◌, List, [], ◌∷◌, length, take, drop, true, false, ◌||◌, arith, refl, sym, ap, ◌∙◌, inl, inr}
+use Rattle.std.proofs.Common.{◌≡◌, ℕ, zero, suc, ◌+◌, ◌<◌, ◌≤◌, List, [], ◌∷◌, length, take, drop, true, false, ◌||◌, nat_eq, arith, refl, sym, ap, ◌∙◌, inl, inr}
 use Rattle.std.specs.Prelude.{◌==◌}
+use Rattle.std.specs.List.{concat, starts_with}
 use Rattle.std.proofs.lemmas.Bool.Decides.{nat_tests}
 use Rattle.std.proofs.lemmas.Bool.{cases_lt}
 use Rattle.std.proofs.lemmas.List.{length-take-le, drop-drop, length-drop, drop_all}
 use Rattle.mail_wire.specs.Lines.{lines_of}
 use Rattle.mail_wire.proofs.LineLemmas.{concat_lines_of}
 use Rattle.utf8_fields.proofs.Heads.{lines_of-nil}
-use Rattle.mime_tree.specs.Marks.{text_of}
+use Rattle.mime_tree.specs.Marks.{text_of, dashes}
 use Rattle.mime_tree.specs.Parts.{size}
 use Rattle.mime_tree.specs.private.Open.{is_marked_text, is_marked, begins_marked, after, after_header, is_empty_line, lines_at, IsStop, IsHeaderStop, IsAfterLine}
+use Rattle.mime_tree.proofs.Texts.{text_apart}
+use Rattle.mime_tree.proofs.Padded.{unmarked_plain}
 use Rattle.mime_tree.proofs.Regions.{after-begins, after-on, after-none}
 use Rattle.mime_tree.proofs.Headers.{after_header-begins, after_header-on, after_header-stop}
 
@@ -49,6 +52,16 @@ nothing_at octets at past = lines_of-nil (drop at octets) (omega (arith, length-
 pub nothing_begins : (s : List (List ℕ)) (octets : List ℕ) (at : ℕ) → length octets ≤ at → begins_marked s (lines_at octets at) ≡ false
 unfolding begins_marked
 nothing_begins s octets at past = rw (nothing_at octets at past) refl
+
+-- octets that don't begin with hyphens begin with no marked line
+plain_first : (s lines : List (List ℕ)) → starts_with nat_eq (concat lines) dashes ≡ false → begins_marked s lines ≡ false
+unfolding begins_marked
+plain_first s [] plain = refl
+plain_first s (line ∷ lines) plain = unmarked_plain s (text_of line) (text_apart line (concat lines) plain)
+
+pub plain_there : (s : List (List ℕ)) (octets rest : List ℕ) (at : ℕ) → rest ≡ drop at octets → starts_with nat_eq rest dashes ≡ false → begins_marked s (lines_at octets at) ≡ false
+plain_there s octets rest at is plain =
+    plain_first s (lines_at octets at) (ap (λ text. starts_with nat_eq text dashes) (concat_lines_of (drop at octets) ∙ sym is) ∙ plain)
 
 -- the lines up to `at` are passed
 pub record HasPassed (s : List (List ℕ)) (octets : List ℕ) (from at : ℕ) : Type 0 where

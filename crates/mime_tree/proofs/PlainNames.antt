@@ -53,10 +53,6 @@ length-lower (x ∷ text) = ap (λ n. suc n) (length-lower text)
 same_length : (text name : List ℕ) → same_name text name ≡ true → length text ≡ length name
 same_length text name e = sym (length-lower text) ∙ ap length (same_lower text name e) ∙ length-lower name
 
-same_self : (name : List ℕ) → same_name name name ≡ true
-unfolding same_name
-same_self name = (bytes_eq-Decides (str_to_ascii_lowercase name) (str_to_ascii_lowercase name)).1 refl
-
 -- names of two lengths
 pub other_length : (text name : List ℕ) → length text ≢ length name → same_name text name ≡ false
 other_length text name differs = elim (cases_Bool (same_name text name)) [
@@ -109,10 +105,7 @@ short_differs raw name short front rest e = elim (cases_Bool (same_name front na
   | inr other ↦ other
 ]
 
--- a field whose front of the name's length is the name, or isn't
-pub same_named : (raw name front : List ℕ) → front ≡ take (length name) raw → front ≡ name → same_name (take (length name) raw) name ≡ true
-same_named raw name front is same = ap (λ text. same_name text name) (sym is ∙ same) ∙ same_self name
-
+-- a field whose front of the name's length isn't the name
 pub front_differs : (raw name : List ℕ) → same_name (take (length name) raw) name ≡ false → IsNotNamed raw name
 front_differs raw name differs front rest e = elim (cases_Bool (same_name front name)) [
   | inl same ↦

@@ -1,11 +1,13 @@
 -- The text of a line.
-use Rattle.std.proofs.Common.{◌≡◌, ℕ, zero, suc, ◌+◌, ◌<◌, List, [], ◌∷◌, ◌++◌, length, take, Bool, true, false, arith, refl, sym, ap, ◌∙◌, ◌⊎◌, inl, inr, Some, None}
+use Rattle.std.proofs.Common.{◌≡◌, ℕ, zero, suc, ◌+◌, ◌<◌, List, [], ◌∷◌, ◌++◌, length, take, Bool, true, false, nat_eq, arith, refl, sym, ap, ◌∙◌, ◌⊎◌, inl, inr, Some, None}
+use Rattle.std.specs.List.{starts_with}
+use Rattle.std.proofs.lemmas.Bool.{and_right}
 use Rattle.std.proofs.Math.Seq.{take-length}
 use Rattle.memchr.specs.Find.{FindsNeedle}
 use Rattle.mail_wire.specs.Lines.{lines_of, put_before, is_crlf, crlf}
 use Rattle.mail_wire.proofs.FirstLine.{IsCrlfAt, is_crlf_true, is_crlf_false, later, before, at_place, place_of, lines_of-crlf, lines_of-other}
 use Rattle.utf8_fields.proofs.Heads.{first_line_begins}
-use Rattle.mime_tree.specs.Marks.{text_of}
+use Rattle.mime_tree.specs.Marks.{text_of, dashes}
 use Rattle.mime_tree.specs.Parts.{shortened}
 
 pub text_of-crlf : (x y : ℕ) (rest : List ℕ) → is_crlf x y ≡ true → text_of (x ∷ y ∷ rest) ≡ []
@@ -161,3 +163,24 @@ unfolding lines_of
 lines_of-are [] = tt
 lines_of-are (x ∷ []) = refl
 lines_of-are (x ∷ y ∷ rest) = are_by x y rest (lines_of-are rest) (lines_of-are (y ∷ rest)) (is_crlf x y) refl
+
+two_dashes : (x y : ℕ) (a b : List ℕ) → starts_with nat_eq (x ∷ y ∷ a) dashes ≡ starts_with nat_eq (x ∷ y ∷ b) dashes
+two_dashes x y a b = refl
+
+one_dash : (x : ℕ) → starts_with nat_eq (x ∷ []) dashes ≡ false
+one_dash x = and_right (nat_eq 45 x) false refl
+
+-- a text doesn't begin with hyphens where its line doesn't
+pub text_apart : (line rest : List ℕ) → starts_with nat_eq (line ++ rest) dashes ≡ false → starts_with nat_eq (text_of line) dashes ≡ false
+unfolding text_of
+text_apart [] rest apart = refl
+text_apart (x ∷ []) rest apart = one_dash x
+text_apart (x ∷ y ∷ line) rest apart = by (is_crlf x y) refl
+  where
+    other : (t : List ℕ) → (t ≡ []) ⊎ ((more : List ℕ) × (t ≡ y ∷ more)) → starts_with nat_eq (x ∷ t) dashes ≡ false
+    other t (inl none) = rw none (one_dash x)
+    other t (inr some) = rw some.1 (two_dashes x y some.0 (line ++ rest) ∙ apart)
+
+    by : (b : Bool) → is_crlf x y ≡ b → starts_with nat_eq (text_of (x ∷ y ∷ line)) dashes ≡ false
+    by true h = rw (text_of-crlf x y line h) refl
+    by false h = rw (text_of-other x y line h) (other (text_of (y ∷ line)) (text_begins y line))

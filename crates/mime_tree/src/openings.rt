@@ -280,8 +280,7 @@ fn begins_with_name(raw: &[u8], name: &[u8]) -> bool
         return false;
     }
     let (front, _) = raw.split_at(name.len());
-    // most names are written as here, and so compared much faster
-    front == name || is_same_name(front, name)
+    is_same_name(front, name)
 }
 
 /// The value of the first field of this name.

@@ -103,6 +103,10 @@ fn is_marked_at(octets: &[u8], boundaries: &[Octets], at: usize) -> bool
     if rest.is_empty() {
         return false;
     }
+    // the end of most lines isn't looked for
+    if !rest.starts_with(b"--") {
+        return false;
+    }
     let (text, _) = rest.split_at(first_line(rest).text);
     is_marked(boundaries, text)
 }

@@ -11,4 +11,7 @@ pub write_not_served-requires-clause-served : goal.write_not_served-requires-cla
 write_not_served-requires-clause-served c = sym (c.in_ok-address.ensures) ∙ none_where c.in_ok-address.field-0 c.in_default.not-Some
 
 pub write_served-requires-clause-served : goal.write_served-requires-clause-served
-write_served-requires-clause-served c = sym (c.in_ok-address.ensures) ∙ c.in-Some.is
+write_served-requires-clause-served c = c.is_ascii_address.ensures c.if-is_ascii_address.true
+
+pub write_served-requires-2-clause-served : goal.write_served-requires-2-clause-served
+write_served-requires-2-clause-served c = sym (c.in_ok-address.ensures) ∙ c.in-Some.is

@@ -1,23 +1,8 @@
-use Rattle.std.proofs.Common.{OnOk, subst, ap, take, ◌∙◌}
-use Rattle.utf8_fields.specs.private.Views.{parts_value}
-use Rattle.field_downgrade.specs.private.Steps.{AddsOctets, MakesField}
 use Rattle.field_downgrade.proofs.StructuredFields.{body_utf8}
-use Rattle.field_downgrade.proofs.StructuredWriting.{Adds-pieces, cut_old}
 use Rattle.field_downgrade.proofs.structured.push_structured.Goals as goal
 
-pub returns-then-branch : goal.returns-then-branch
-returns-then-branch c =
-    let puts = rw (c.if-branch.true, c.as_slice.ensures) at c.in_ok-push_pieces.ensures in
-    Adds-pieces c.args.open_global (parts_value c.args.parts.now) c.in_ok-value.value c.args.made.now c.push_pieces.new.made puts.0 c.requires.other c.in_ok-value.ensures puts.1 puts.2
+pub push_valued-requires-clause-utf8 : goal.push_valued-requires-clause-utf8
+push_valued-requires-clause-utf8 c = body_utf8 c.args.parts.now.body.now _ c.requires.folded c.requires.utf8 c.in-Some.ensures
 
-pub push_whole-requires-clause-none : goal.push_whole-requires-clause-none
-push_whole-requires-clause-none c = let puts = rw (c.if-branch.false, c.as_slice.ensures) at c.in_ok-push_pieces.ensures in rw c.as_slice-2.ensures puts.0
-
-pub push_whole-requires-clause-utf8 : goal.push_whole-requires-clause-utf8
-push_whole-requires-clause-utf8 c = rw c.as_slice-2.ensures (body_utf8 c.args.parts.now.body.now _ c.requires.folded c.requires.utf8 c.in_ok-value.ensures)
-
-pub returns : goal.returns
-returns c =
-    let puts = rw (c.if-branch.false, c.as_slice.ensures) at c.in_ok-push_pieces.ensures in
-    let cut = cut_old c.args.made.now _ c.push_pieces.new.made c.truncate.new.self puts.1 (c.truncate.ensures ∙ ap (λ n. take n c.push_pieces.new.made) c.len-len.ensures) in
-    subst (λ old. OnOk c.push_whole.result (AddsOctets (MakesField c.args.open_global (parts_value c.args.parts.now)) old c.push_whole.new.made)) cut c.push_whole.ensures
+pub push_valued-requires-2-clause-utf8 : goal.push_valued-requires-2-clause-utf8
+push_valued-requires-2-clause-utf8 c = rw c.as_slice.ensures (body_utf8 c.args.parts.now.body.now _ c.requires.folded c.requires.utf8 c.in_ok-value.ensures)
