@@ -82,27 +82,29 @@ after_cut others f xs ys =
     ap (parts_following others) (map-append f xs ys)
     ∙ (parts_following-append others (map f xs) (map f ys) ∙ ap (λ (b : Bool). parts_following others (map f xs) ++ parts_following b (map f ys)) (following-map f others xs))
 
-after_more : (others : Bool) (f : FetchItem → List ReplyPart) (xs : List FetchItem) (x : FetchItem)
-    → reply (parts_following others (map f (xs ++ x ∷ []))) ≡ reply (parts_following others (map f xs)) ++ (reply (space_parts (stands_after others xs)) ++ reply (f x))
-after_more others f xs x =
-    ap reply (after_cut others f xs (x ∷ []) ∙ ap (λ (l : List ReplyPart). parts_following others (map f xs) ++ l) (after_alone (stands_after others xs) (f x)))
-    ∙ (reply-append (parts_following others (map f xs)) (space_parts (stands_after others xs) ++ f x)
-    ∙ ap (λ (l : List (Act ReplyPart)). reply (parts_following others (map f xs)) ++ l) (reply-append (space_parts (stands_after others xs)) (f x)))
+-- one item, after a space or not
+pub Carries-following : (oracles : Oracles) (a b : Around) (met : Option Fault) (owed spaced owes : List ℕ) (is_separated : Bool) (parts : List ReplyPart) → spaced ≡ owed ++ space_octets is_separated
+    → Carries (part_octets oracles) a b met spaced owes (reply parts) → Carries (part_octets oracles) a b met owed owes (reply (parts_following is_separated (parts ∷ [])))
+Carries-following oracles a b met owed spaced owes is_separated parts spaced_is one =
+    let acts : reply (parts_following is_separated (parts ∷ [])) ≡ reply (space_parts is_separated) ++ reply parts = ap reply (after_alone is_separated parts) ∙ reply-append (space_parts is_separated) parts in
+    let space = Carries-parts (part_octets oracles) a owed spaced (space_parts is_separated) (spaced_is ∙ ap (λ (l : List ℕ). owed ++ l) (space_given oracles is_separated)) in
+    subst (λ (l : List (Act ReplyPart)). Carries (part_octets oracles) a b met owed owes l) (sym acts)
+    (Carries-then (part_octets oracles) a a b met owed spaced owes (reply (space_parts is_separated)) (reply parts) space one)
 
--- one item more, after a space or not
-pub Carries-item : (oracles : Oracles) (a b c : Around) (met : Option Fault) (owed had spaced owes : List ℕ) (others is_separated : Bool) (f : FetchItem → List ReplyPart) (items : List FetchItem) (at : ℕ) (x : FetchItem)
+-- one item more
+pub Carries-item : (oracles : Oracles) (a b c : Around) (met : Option Fault) (owed had owes : List ℕ) (others is_separated : Bool) (f : FetchItem → List ReplyPart) (items : List FetchItem) (at : ℕ) (x : FetchItem)
     → at < length items → x ≡ get_or items at x → Carries (part_octets oracles) a b None owed had (reply (parts_following others (map f (take at items))))
-    → is_separated ≡ stands_after others (take at items) → spaced ≡ had ++ space_octets is_separated → Carries (part_octets oracles) b c met spaced owes (reply (f x))
+    → is_separated ≡ stands_after others (take at items) → Carries (part_octets oracles) b c met had owes (reply (parts_following is_separated (f x ∷ [])))
     → Carries (part_octets oracles) a c met owed owes (reply (parts_following others (map f (take (at + 1) items))))
-Carries-item oracles a b c met owed had spaced owes others is_separated f items at x low here front following spaced_is one =
+Carries-item oracles a b c met owed had owes others is_separated f items at x low here front following one =
+    let before = parts_following others (map f (take at items)) in
     let more : take (at + 1) items ≡ take at items ++ x ∷ [] = take_more items at x low ∙ ap (λ (y : FetchItem). take at items ++ y ∷ []) (sym here) in
-    let acts : reply (parts_following others (map f (take (at + 1) items))) ≡ reply (parts_following others (map f (take at items))) ++ (reply (space_parts is_separated) ++ reply (f x)) =
-    ap (λ (l : List FetchItem). reply (parts_following others (map f l))) more
-    ∙ (after_more others f (take at items) x ∙ ap (λ (b : Bool). reply (parts_following others (map f (take at items))) ++ (reply (space_parts b) ++ reply (f x))) (sym following)) in
-    let space = Carries-parts (part_octets oracles) b had spaced (space_parts is_separated) (spaced_is ∙ ap (λ (l : List ℕ). had ++ l) (space_given oracles is_separated)) in
+    let cut : parts_following others (map f (take (at + 1) items)) ≡ before ++ parts_following is_separated (f x ∷ []) =
+    ap (λ (l : List FetchItem). parts_following others (map f l)) more
+    ∙ (after_cut others f (take at items) (x ∷ []) ∙ ap (λ (b : Bool). before ++ parts_following b (f x ∷ [])) (sym following)) in
+    let acts : reply (parts_following others (map f (take (at + 1) items))) ≡ reply before ++ reply (parts_following is_separated (f x ∷ [])) = ap reply cut ∙ reply-append before (parts_following is_separated (f x ∷ [])) in
     subst (λ (l : List (Act ReplyPart)). Carries (part_octets oracles) a c met owed owes l) (sym acts)
-    (Carries-then (part_octets oracles) a b c met owed had owes (reply (parts_following others (map f (take at items)))) (reply (space_parts is_separated) ++ reply (f x)) front
-    (Carries-then (part_octets oracles) b b c met had spaced owes (reply (space_parts is_separated)) (reply (f x)) space one))
+    (Carries-then (part_octets oracles) a b c met owed had owes (reply before) (reply (parts_following is_separated (f x ∷ []))) front one)
 
 -- a fault in one of the items
 pub Carries-cut : (oracles : Oracles) (a b : Around) (met : Fault) (owed had owes : List ℕ) (others : Bool) (f : FetchItem → List ReplyPart) (items : List FetchItem) (at : ℕ)

@@ -1,5 +1,5 @@
 -- What is told of folders, and their making.
-use Rattle.std.proofs.Common.{◌≡◌, ◌≢◌, ℕ, ◌+◌, ◌<◌, ◌≤◌, List, [], ◌∷◌, ◌++◌, Bool, true, false, Option, None, Some, Result, Ok, Err, refl, sym, ◌∙◌, append_assoc, append-nil, subst, length, drop, get_or, arith, codes}
+use Rattle.std.proofs.Common.{◌≡◌, ◌≢◌, ℕ, ◌+◌, ◌<◌, ◌≤◌, List, [], ◌∷◌, ◌++◌, Bool, true, false, Option, None, Some, Result, Ok, Err, refl, sym, ap, ◌∙◌, append_assoc, append-nil, subst, length, map, drop, get_or, arith, codes}
 use Rattle.std.specs.Prelude.{decimal, not, ◌==◌, ◌&&◌, ◌↔◌, nat_lt, nat_le, IsTrue, OnOk, if◌then◌else◌, chars, IsUtf8}
 use Rattle.std.specs.Bool.{Decides}
 use Rattle.std.specs.Char.{is_control}
@@ -9,13 +9,14 @@ use Rattle.std.proofs.lemmas.Bool.Decides.{same_from_decides, Decides-and, Decid
 use Rattle.std.proofs.lemmas.List.{drop_more, drop_all}
 use Rattle.std.proofs.lemmas.List.Concat.{flat_map-append}
 use Rattle.std.proofs.lemmas.Str.{IsUtf8-from_is_utf8, is_utf8-from_IsUtf8}
+use Rattle.mail_wire.specs.Lines.{crlf}
 use Rattle.mail_wire.specs.declared.outside.Fault.{Fault}
 use Rattle.mail_wire.specs.declared.values.Memory.{Memory}
 use Rattle.unicode_normalization.specs.Forms.{is_nfc}
 use Rattle.journal_records.specs.Grammar.{IsFolderName, IsNameChar, kept_name}
 use Rattle.journal_records.specs.declared.limits.TheConstants.{NAME_MAX}
 use Rattle.journal_records.specs.declared.records.Record.TheVariants as records
-use Rattle.kept_mail.specs.Kept.{folder_names, listed, uid_next}
+use Rattle.kept_mail.specs.Kept.{folder_names, kept_folder_name, listed, uid_next}
 use Rattle.mail_store.specs.Changing.{folder_refusal}
 use Rattle.mail_store.specs.StoreState.{StoreState}
 use Rattle.mail_store.specs.declared.changing.StoreFault.{StoreFault}
@@ -27,11 +28,12 @@ use Rattle.session_core.specs.Changes.{created_of, folder_changes, unless_refuse
 use Rattle.session_core.specs.Doing.{Does, DoesFirst, Makes, Replies}
 use Rattle.session_core.specs.Oracles.{Oracles, AreOracles}
 use Rattle.session_core.proofs.DoingLemmas.{Does-changes, Does-replies, Does-unchanged}
+use Rattle.imap_grammar.specs.declared.command.StatusItem.{StatusItem}
 use Rattle.imap_mailboxes.specs.Names.{NamesMailbox, quoted, shown_name}
 use Rattle.imap_mailboxes.specs.Patterns.{is_match}
-use Rattle.imap_session.specs.Machine.{State, all_flags, create_by, create_unless, folder_lines, list_line, list_lines, may_stand_in_name, names_folder, permanent_flags, tagged, untagged}
+use Rattle.imap_session.specs.Machine.{State, all_flags, create_by, create_unless, folder_lines, list_line, list_lines, may_stand_in_name, names_folder, permanent_flags, spaced, status_line, status_text, tagged, untagged}
 use Rattle.imap_session.specs.Replies.{ReplyPart, part_octets, reply_octets}
-use Rattle.imap_session.specs.private.Lines.{tagged_octets, words_of_created}
+use Rattle.imap_session.specs.private.Lines.{status_octets, tagged_octets, words_of_created}
 use Rattle.imap_session.proofs.LineLemmas.{tagged_reply}
 
 -- ---- SELECT and EXAMINE
@@ -94,6 +96,16 @@ pub list_lines-whole : (mode : Mode) (store : StoreState) (account : ℕ) (refer
     → list_lines mode store account reference pattern ≡ flat_map (list_line mode (reference ++ pattern)) (folder_names store.kept account)
 list_lines-whole mode store account reference [] some = absurd (some refl)
 list_lines-whole mode store account reference (x ∷ pattern) some = refl
+
+-- ---- STATUS
+
+-- the line of a folder: its name, and what is told of it
+pub status_made : (oracles : Oracles) (mode : Mode) (store : StoreState) (folder : ℕ) (items : List StatusItem) (name texts made : List ℕ)
+    → name ≡ quoted (shown_name (is_enabled mode) (kept_folder_name store.kept folder)) → texts ≡ spaced (map (status_text store folder) items) → made ≡ status_octets name texts
+    → made ≡ reply_octets oracles (status_line mode store folder items)
+status_made oracles mode store folder items name texts made name_is texts_is made_is =
+    let line = (codes " (" ++ (spaced (map (status_text store folder) items) ++ codes ")")) ++ crlf in
+    rw (made_is, name_is, texts_is) (ap (λ rest. codes "* STATUS " ++ (quoted (shown_name (is_enabled mode) (kept_folder_name store.kept folder)) ++ rest)) (sym (append-nil line)))
 
 -- ---- CREATE
 

@@ -1,5 +1,5 @@
 //! FETCH (RFC 3501, 6.4.5 and 7.4.2).
-ghost use Rattle.std.specs.Prelude.{◌≡◌, ◌<◌, ◌++◌, ⊤, true, false, length, map, codes, decimal, IfOk, IfSome, OnOk};
+ghost use Rattle.std.specs.Prelude.{◌≡◌, ◌<◌, ◌++◌, ◌∷◌, [], ⊤, true, false, length, map, codes, decimal, IfOk, IfSome, OnOk};
 ghost use Rattle.std.specs.List.{list_any};
 ghost use Rattle.std.specs.Option.{option_copied};
 ghost use Rattle.mail_store.specs.StoreState.{StoreState};
@@ -220,12 +220,32 @@ fn push_space(pending: &mut Octets, is_separated: bool) -> Result<(), Memory>
     Ok(())
 }
 
+// Tells an item of a message, after a space where something stands before it.
+fn put_after<V: Kind, W: Wire, J: Keeper, C: Clock>(
+    item: &FetchItem,
+    is_separated: bool,
+    one: &Listed,
+    shown: Option<&Shown>,
+    pending: &mut Octets,
+    outside: &mut Outside<W, J, C>,
+) -> Result<(), Fault>
+    requires id { one.now.id < length outside.old.desk.store.kept.messages }
+    requires shown { HasShown V.mode (stored_octets outside.old.desk.store one.now.id) (shows (is_enabled V.mode) item.now) (option_copied shown) }
+    ensures carries { WithOracles (λ oracles. (store : StoreState) → ShowsAlike store outside.old.desk.store → Carries (part_octets oracles) outside.old outside.new (fault_of result)
+        pending.old pending.new (reply (parts_following is_separated (item_parts oracles V.mode store one.now item.now ∷ [])))) }
+    ensures desk { OnOk result (outside.new.desk ≡ outside.old.desk) }
+    ensures keeps { Keeps outside.old outside.new (fault_of result) }
+{
+    push_space(pending, is_separated)?;
+    put_item::<V, W, J, C>(item, one, shown, pending, outside)
+}
+
 // Tells items of a message, with a space between any two, and before the first where others stand before them.
 fn put_items<V: Kind, W: Wire, J: Keeper, C: Clock>(
     items: &[FetchItem],
+    after_others: bool,
     one: &Listed,
     shown: Option<&Shown>,
-    after_others: bool,
     pending: &mut Octets,
     outside: &mut Outside<W, J, C>,
 ) -> Result<(), Fault>
@@ -238,8 +258,7 @@ fn put_items<V: Kind, W: Wire, J: Keeper, C: Clock>(
 {
     let mut is_separated = after_others;
     for item in items {
-        push_space(pending, is_separated)?;
-        put_item::<V, W, J, C>(item, one, shown, pending, outside)?;
+        put_after::<V, W, J, C>(item, is_separated, one, shown, pending, outside)?;
         is_separated = true;
     }
     Ok(())
@@ -301,7 +320,7 @@ impl<'a, V: Kind> Fetching<'a, V> {
         push_front(pending, number)?;
         let uid_first = self.push_uid_first(one, pending)?;
         let shown = shown.as_ref();
-        put_items::<V, W, J, C>(self.items, one, shown, uid_first, pending, outside)?;
+        put_items::<V, W, J, C>(self.items, uid_first, one, shown, pending, outside)?;
         self.push_end(one, flags_changed, pending)?;
         Ok(())
     }

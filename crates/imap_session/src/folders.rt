@@ -1,15 +1,15 @@
 //! What is told of folders, and their making.
 ghost use Rattle.std.specs.Prelude.{◌≡◌, ◌<◌, ◌++◌, length, map, string_bytes, IfOk, IfSome, IsUtf8, OnOk};
-ghost use Rattle.kept_mail.specs.Kept.{listed};
-ghost use Rattle.imap_mailboxes.specs.Names.{shown_name as name_shown};
+ghost use Rattle.kept_mail.specs.Kept.{kept_folder_name, listed};
+ghost use Rattle.imap_mailboxes.specs.Names.{quoted, shown_name as name_shown};
 ghost use Rattle.surrogate_cache.specs.Served.{is_enabled};
 ghost use Rattle.session_core.specs.Desks.{IsOpen};
 ghost use Rattle.session_core.specs.Keeps.{Keeps, fault_of};
 ghost use Rattle.session_core.specs.Doing.{Does};
 ghost use Rattle.session_core.specs.Oracles.{Oracles, WithOracles};
-ghost use Rattle.imap_session.specs.Machine.{create_by, folder_lines as lines_of_folder, folder_named, list_line as line_of_list, list_lines as lines_of_list, State, status_among, status_line as line_of_status, spaced, unseen_among};
+ghost use Rattle.imap_session.specs.Machine.{create_by, folder_lines as lines_of_folder, folder_named, list_line as line_of_list, list_lines as lines_of_list, State, status_among, status_line as line_of_status, status_text as status_of_item, spaced, unseen_among};
 ghost use Rattle.imap_session.specs.Replies.{part_octets, reply_octets};
-ghost use Rattle.imap_session.specs.private.Lines.{words_of_created};
+ghost use Rattle.imap_session.specs.private.Lines.{status_octets, words_of_created};
 
 use crate::replies::{DONE, TOO_LARGE, say};
 use crate::states::Kind;
@@ -169,6 +169,40 @@ fn status_texts(
     Ok(texts)
 }
 
+// What STATUS tells of items of a folder.
+fn status_of(
+    alloc: Global,
+    store: &Store,
+    folder: u32,
+    items: &[StatusItem],
+) -> Result<Octets, Memory>
+    requires { folder < length store.now.kept.folders }
+    ensures { IfOk result (λ texts. texts ≡ spaced (map (status_of_item store.now folder) items.now)) }
+{
+    let messages = store.list(folder)?;
+    status_texts(alloc, items, &messages, store.uid_next(folder))
+}
+
+// The name of a folder as the session shows it, quoted.
+fn quoted_name<V: Kind>(alloc: Global, store: &Store, folder: u32) -> Result<Octets, Memory>
+    requires { folder < length store.now.kept.folders }
+    ensures { IfOk result (λ text. text ≡ quoted (name_shown (is_enabled V.mode) (kept_folder_name store.now.kept folder))) }
+{
+    let shown = shown_text::<V>(alloc, store.folder_name(folder))?;
+    quote(alloc, shown.as_slice())
+}
+
+// Puts the line of STATUS last, of a folder's name and what is told of it.
+fn push_status(line: &mut Octets, name: &[u8], texts: &[u8]) -> Result<(), Memory>
+    ensures { OnOk result (line.new ≡ line.old ++ status_octets name.now texts.now) }
+{
+    line.push_slice(b"* STATUS ")?;
+    line.push_slice(name)?;
+    line.push_slice(b" (")?;
+    line.push_slice(texts)?;
+    line.push_slice(b")\r\n")
+}
+
 /// The line of STATUS.
 pub fn status_line<V: Kind>(
     alloc: Global,
@@ -179,15 +213,10 @@ pub fn status_line<V: Kind>(
     requires { folder < length store.now.kept.folders }
     ensures { IfOk result (λ line. (oracles : Oracles) → line ≡ reply_octets oracles (line_of_status V.mode store.now folder items.now)) }
 {
-    let messages = store.list(folder)?;
-    let texts = status_texts(alloc, items, &messages, store.uid_next(folder))?;
-    let shown = shown_text::<V>(alloc, store.folder_name(folder))?;
-    let quoted = quote(alloc, shown.as_slice())?;
-    let mut line = Octets::from_slice(alloc, b"* STATUS ")?;
-    line.push_slice(quoted.as_slice())?;
-    line.push_slice(b" (")?;
-    line.push_slice(texts.as_slice())?;
-    line.push_slice(b")\r\n")?;
+    let name = quoted_name::<V>(alloc, store, folder)?;
+    let texts = status_of(alloc, store, folder, items)?;
+    let mut line = Octets::new(alloc);
+    push_status(&mut line, name.as_slice(), texts.as_slice())?;
     Ok(line)
 }
 

@@ -1,8 +1,9 @@
 //! Sections of a message (RFC 3501, 6.4.5): their names in a reply, and the literals that follow these.
-ghost use Rattle.std.specs.Prelude.{◌≡◌, ◌<◌, ◌≤◌, ◌+◌, ◌^◌, ◌++◌, ◌&&◌, ◌==◌, not, length, map, codes, decimal, IfSome, OnOk};
+ghost use Rattle.std.specs.Prelude.{◌≡◌, ◌<◌, ◌≤◌, ◌+◌, ◌^◌, ◌++◌, ◌&&◌, ◌==◌, None, not, length, map, codes, decimal, IfSome, OnOk};
 ghost use Rattle.std.specs.List.{join_with_byte, list_all};
 ghost use Rattle.imap_words.specs.Tokens.{is_atom_char};
 ghost use Rattle.mime_tree.specs.Sections.{section};
+ghost use Rattle.mime_tree.specs.declared.sections.Part.{Part};
 ghost use Rattle.surrogate_cache.specs.Served.{is_enabled};
 ghost use Rattle.surrogate_rope.specs.Served.{IsShownOf, shown_octets, shown_outlines};
 ghost use Rattle.mail_store.specs.StoreState.{StoreState};
@@ -384,6 +385,53 @@ fn find(asked: &Asked<'_>, shown: &Shown, msg: &[u8]) -> Option<Span>
     shown.section(asked.path, place_of(asked.wanted))
 }
 
+// Puts the fields of a header that is shown last, or that there is no such header.
+fn put_chosen<V: Kind, W: Wire, J: Keeper, C: Clock>(
+    asked: &Asked<'_>,
+    chosen: Chosen<'_>,
+    one: &Listed,
+    shown: &Shown,
+    pending: &mut Octets,
+    outside: &Outside<W, J, C>,
+) -> Result<(), Memory>
+    requires id { one.now.id < length outside.now.desk.store.kept.messages }
+    requires shown { IsShownIn V.mode (stored_octets outside.now.desk.store one.now.id) shown.now }
+    requires chosen { asked.now.wanted ≡ Wanted.Fields chosen }
+    ensures { WithOracles (λ oracles. (store : StoreState) → ShowsAlike store outside.now.desk.store
+        → OnOk result (Carries (part_octets oracles) outside.now outside.now None pending.old pending.new (reply (asked_parts oracles V.mode store one.now asked.now)))) }
+{
+    let alloc = outside.alloc();
+    let msg = outside.octets(one.id);
+    let Some(span) = find(asked, shown, msg) else {
+        return push_nil(alloc, pending, asked);
+    };
+    let header = read_range(alloc, shown, msg, span)?;
+    put_fields(alloc, asked, chosen, header.as_slice(), pending)
+}
+
+// Tells octets of what is shown of a message, or that there are none.
+fn put_octets<V: Kind, W: Wire, J: Keeper, C: Clock>(
+    asked: &Asked<'_>,
+    one: &Listed,
+    shown: &Shown,
+    pending: &mut Octets,
+    outside: &mut Outside<W, J, C>,
+) -> Result<(), Fault>
+    requires id { one.now.id < length outside.old.desk.store.kept.messages }
+    requires shown { IsShownIn V.mode (stored_octets outside.old.desk.store one.now.id) shown.now }
+    requires octets { (what : Part) × (asked.now.wanted ≡ Wanted.Octets what) }
+    ensures carries { WithOracles (λ oracles. (store : StoreState) → ShowsAlike store outside.old.desk.store → Carries (part_octets oracles) outside.old outside.new (fault_of result)
+        pending.old pending.new (reply (asked_parts oracles V.mode store one.now asked.now))) }
+    ensures desk { OnOk result (outside.new.desk ≡ outside.old.desk) }
+    ensures keeps { Keeps outside.old outside.new (fault_of result) }
+{
+    let Some(span) = find(asked, shown, outside.octets(one.id)) else {
+        return Ok(push_nil(outside.alloc(), pending, asked)?);
+    };
+    let span = partial_span(asked.partial, span);
+    give_span::<V, W, J, C>(asked, span, one, shown, pending, outside)
+}
+
 /// Tells a section of what is shown of a message, or that there is none. What is to be given may stay pending.
 pub fn put_section<V: Kind, W: Wire, J: Keeper, C: Clock>(
     asked: &Asked<'_>,
@@ -399,17 +447,10 @@ pub fn put_section<V: Kind, W: Wire, J: Keeper, C: Clock>(
     ensures desk { OnOk result (outside.new.desk ≡ outside.old.desk) }
     ensures keeps { Keeps outside.old outside.new (fault_of result) }
 {
-    let Some(span) = find(asked, shown, outside.octets(one.id)) else {
-        return Ok(push_nil(outside.alloc(), pending, asked)?);
-    };
     match asked.wanted {
-        Wanted::Octets(_) => {
-            let span = partial_span(asked.partial, span);
-            give_span::<V, W, J, C>(asked, span, one, shown, pending, outside)
-        }
-        Wanted::Fields(chosen) => {
-            let header = read_range(outside.alloc(), shown, outside.octets(one.id), span)?;
-            Ok(put_fields(outside.alloc(), asked, chosen, header.as_slice(), pending)?)
-        }
+        Wanted::Octets(_) => put_octets::<V, W, J, C>(asked, one, shown, pending, outside),
+        Wanted::Fields(chosen) => Ok(put_chosen::<V, W, J, C>(
+            asked, chosen, one, shown, pending, outside,
+        )?),
     }
 }

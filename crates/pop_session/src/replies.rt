@@ -1,5 +1,5 @@
 //! Replies on messages.
-ghost use Rattle.std.specs.Prelude.{◌≡◌, ◌<◌, ◌-◌, ◌^◌, min, ℕ, ◌++◌, length, IfOk, IfSome, string_bytes, codes, []};
+ghost use Rattle.std.specs.Prelude.{◌≡◌, ◌<◌, ◌-◌, ◌^◌, min, ℕ, ◌++◌, length, IfOk, IfSome, OnOk, string_bytes, codes, []};
 ghost use Rattle.mail_wire.specs.Lines.{crlf};
 ghost use Rattle.session_core.specs.Desks.{IsOpen, stored_octets};
 ghost use Rattle.session_core.specs.Doing.{Asks, AsksAndReplies, Replies, wanting};
@@ -65,6 +65,26 @@ fn listing_line(alloc: Global, number: usize, value: usize) -> Result<String, Me
     Ok(format!(in alloc; "{number} {value}\r\n")?)
 }
 
+// Puts the line of a message last, with its size.
+fn push_listing<V: View, W: Wire, J: Keeper, C: Clock>(
+    text: &mut String,
+    number: usize,
+    one: &Listed,
+    outside: &mut Outside<W, J, C>,
+) -> Result<(), Memory>
+    requires opens { IsOpen outside.old.desk }
+    requires id { one.now.id < length outside.old.desk.store.kept.messages }
+    ensures text { OnOk result (WithOracles (λ oracles.
+        string_bytes text.new ≡ string_bytes text.old ++ (two_numbers [] number (size_of oracles V.mode outside.old.desk.store one.now) ++ crlf))) }
+    ensures asks { Asks outside.old outside.new (wanting result) (asked_for V.mode outside.old.desk.store one.now) }
+    ensures keeps { Keeps outside.old outside.new (wanting result) }
+{
+    let value = size::<V, W, J, C>(one, outside)?;
+    let line = listing_line(outside.alloc(), number, value)?;
+    text.push_str(line.as_str())?;
+    Ok(())
+}
+
 /// A line for each message that isn't marked, with its size.
 pub fn list<V: View, W: Wire, J: Keeper, C: Clock>(
     maildrop: &[MaildropMessage],
@@ -77,13 +97,10 @@ pub fn list<V: View, W: Wire, J: Keeper, C: Clock>(
     ensures asks { Asks outside.old outside.new (wanting result) (asked_for_left V.mode outside.old.desk.store maildrop.now) }
     ensures keeps { Keeps outside.old outside.new (wanting result) }
 {
-    let alloc = outside.alloc();
-    let mut text = String::from_str(alloc, "+OK\r\n")?;
+    let mut text = String::from_str(outside.alloc(), "+OK\r\n")?;
     for (place, one) in maildrop.iter().enumerate() {
         if !one.deleted {
-            let size = size::<V, W, J, C>(&one.listed, outside)?;
-            let line = listing_line(alloc, place + 1, size)?;
-            text.push_str(line.as_str())?;
+            push_listing::<V, W, J, C>(&mut text, place + 1, &one.listed, outside)?;
         }
     }
     text.push_str(".\r\n")?;

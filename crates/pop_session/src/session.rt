@@ -1,5 +1,5 @@
 //! The rows of a session, and serving it.
-ghost use Rattle.std.specs.Prelude.{◌≡◌, [], Some, Err, IfOk, OnErr, ◌⊎◌, map, false, refl, string_bytes};
+ghost use Rattle.std.specs.Prelude.{◌≡◌, [], None, Some, Err, IfOk, OnErr, ◌⊎◌, map, false, refl, string_bytes};
 ghost use Rattle.std.specs.Option.{option_copied};
 ghost use Rattle.mail_wire.specs.Numbers.{number_of};
 ghost use Rattle.session_core.specs.Desks.{IsOpen};
@@ -107,6 +107,27 @@ fn give_text<W: Wire, J: Keeper, C: Clock>(
     outside.give(text.as_bytes())
 }
 
+// The replies of TRANSACTION on all messages of the maildrop.
+fn give_of_maildrop<V: Kind, W: Wire, J: Keeper, C: Clock>(
+    keyword: Keyword,
+    maildrop: &[MaildropMessage],
+    outside: &mut Outside<W, J, C>,
+) -> Result<(), Fault>
+    requires keyword { (keyword ≡ Keyword.Stat) ⊎ (keyword ≡ Keyword.List) ⊎ (keyword ≡ Keyword.Uidl) }
+    requires opens { IsOpen outside.old.desk }
+    requires known { Knows outside.old.desk.store maildrop.now }
+    ensures replies { WithOracles (λ oracles. AsksAndReplies outside.old outside.new (fault_of result)
+        (transaction_asks V.mode maildrop.now outside.old.desk.store keyword None)
+        (reply_octets oracles (transaction_reply oracles V.mode maildrop.now outside.old.desk.store keyword None))) }
+    ensures keeps { Keeps outside.old outside.new (fault_of result) }
+{
+    match keyword {
+        Keyword::Stat => give_text(stat::<V, W, J, C>(maildrop, outside), outside),
+        Keyword::List => give_text(list::<V, W, J, C>(maildrop, outside), outside),
+        _ => give_text(uidl(outside.alloc(), maildrop), outside),
+    }
+}
+
 // The replies of TRANSACTION that ask for one message.
 fn give_of_message<V: Kind, W: Wire, J: Keeper, C: Clock>(
     keyword: Keyword,
@@ -173,9 +194,9 @@ fn give_reply<V: Kind, W: Wire, J: Keeper, C: Clock>(
         (Keyword::User | Keyword::Pass | Keyword::Utf8, _) => outside.give(OUT_OF_ORDER),
         (Keyword::Capa, None) => outside.give(CAPABILITIES),
         (Keyword::Noop, None) => outside.give(DONE),
-        (Keyword::Stat, None) => give_text(stat::<V, W, J, C>(maildrop, outside), outside),
-        (Keyword::List, None) => give_text(list::<V, W, J, C>(maildrop, outside), outside),
-        (Keyword::Uidl, None) => give_text(uidl(outside.alloc(), maildrop), outside),
+        (Keyword::Stat | Keyword::List | Keyword::Uidl, None) => {
+            give_of_maildrop::<V, W, J, C>(command.keyword, maildrop, outside)
+        }
         (Keyword::List | Keyword::Uidl | Keyword::Retr, Some(text)) => {
             give_of_message::<V, W, J, C>(command.keyword, text, maildrop, outside)
         }

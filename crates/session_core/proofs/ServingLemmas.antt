@@ -33,6 +33,8 @@ use Rattle.session_core.specs.Steps.{Standing}
 use Rattle.session_core.specs.declared.desk.Desk.{Desk}
 use Rattle.session_core.specs.declared.feeding.Session.{Session}
 use Rattle.session_core.specs.declared.feeding.Session.TheVariants as session
+use Rattle.session_core.specs.private.Taking.{FeedsTaken, TakesAndFeeds}
+use Rattle.session_core.specs.declared.serving.Fed.{Fed}
 use Rattle.session_core.specs.declared.serving.Served.{Served}
 use Rattle.session_core.specs.declared.serving.Served.TheVariants.{Ended, Limit}
 use Rattle.session_core.proofs.DoingLemmas.{DoesAll-nil, DoesFirst-between, DoesFirst-none}
@@ -479,6 +481,24 @@ input_ends protocol stands laws a b c at taken n into opens still leaves piece n
   are_told = goes.are_told;
   holds = λ oracles are more. input_by protocol stands laws oracles are (goes.told ++ more) more a b c at taken n into opens still leaves piece none low (goes.goes oracles are more);
 }
+
+-- ---- a take, and what was fed
+
+-- one piece more
+pub fed_on : (protocol : Protocol) {M : Type 0} (stands : Standing protocol M) → AreLaws protocol stands → (a b c : Around) (at : Session M) (taken room : ℕ) (fed : Fed M) → b.clock ≡ a.clock → (HasEnded at → ⊥)
+    → room ≤ PIECE → Goes protocol stands a b at taken → FeedsTaken protocol stands b c at room fed.count (Ok fed.session) → Goes protocol stands a c fed.session (taken + fed.count)
+fed_on protocol stands laws a b c at taken room fed clock still few goes one =
+    goes_on protocol stands laws a b one.between c at fed.session taken fed.count one.into (take fed.count one.into) clock one.clock still one.leaves one.takes one.bound (omega (arith, one.bound, one.fits)) refl goes one.feeds
+
+-- the take failed, or the feeding
+pub fed_fails : (protocol : Protocol) {M : Type 0} (stands : Standing protocol M) → AreLaws protocol stands → (a b c : Around) (at : Session M) (taken room : ℕ) (met : Fault) → b.clock ≡ a.clock → (HasEnded at → ⊥)
+    → room ≤ PIECE → taken + room ≤ a.desk.limits.session_max → Goes protocol stands a b at taken → TakesAndFeeds protocol stands b c at room (Err met) → ServesBy protocol a c (served_of (Err met))
+fed_fails protocol stands laws a b c at taken room met clock still few most goes (inl none) =
+    take_fails protocol stands laws a b c at taken met none.0 (omega (arith, most)) none.1 none.2 goes
+fed_fails protocol stands laws a b c at taken room met clock still few most goes (inr failed) =
+    let one = failed.1 in
+    feed_fails protocol stands laws a b one.between c at taken failed.0 one.into (take failed.0 one.into) met (omega (arith, most, one.bound, one.fits)) clock one.clock still one.leaves one.takes one.bound
+    (omega (arith, one.bound, one.fits, few)) refl goes one.feeds
 
 -- the limit was reached
 limit_by : (protocol : Protocol) {M : Type 0} (stands : Standing protocol M) → AreLaws protocol stands → (oracles : Oracles) → AreOracles oracles → (moments more : List Moment) (a b : Around) (at : Session M) (taken : ℕ)

@@ -17,3 +17,4 @@ pub mod FramedRows
 pub mod laws
 pub mod Served
 pub mod Serving
+pub mod private

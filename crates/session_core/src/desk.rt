@@ -1,5 +1,5 @@
 //! What sessions are served from, and within which limits.
-ghost use Rattle.std.specs.Prelude.{◌≡◌, length, IfOk, IfErr, IfSome, OnErr, OnOk, is_err};
+ghost use Rattle.std.specs.Prelude.{◌≡◌, Some, length, IfOk, IfErr, IfSome, OnErr, OnOk, is_err};
 ghost use Rattle.mail_wire.specs.Keeping.{HasKeeperCause};
 ghost use Rattle.mail_store.specs.Answers.{IsFold, OpensTo, IsJournalFault, LeavesRecords};
 ghost use Rattle.mail_store.specs.Catching.{ReadsOn, CatchesUp, IsCatchFault};
@@ -86,6 +86,38 @@ impl Desk {
     }
 }
 
+// The desk that was kept, once it has caught up, or one that is opened anew where the journal doesn't go on from what it had.
+fn caught_up<J: Keeper>(
+    alloc: Global,
+    desk: Desk,
+    keeper: &mut J,
+    limits: Limits,
+) -> Result<Desk, OpenFault>
+    requires limits { AreLimits limits }
+    requires kept { WorksWithin limits desk }
+    ensures opens { IfOk result (λ next. IfSome (J.observed keeper.old).octets (λ old. HasFirst (Some desk) old → OpensTo old (J.observed keeper.new).octets next.store.kept)) }
+    ensures anew { IfOk result (λ next. IfSome (J.observed keeper.old).octets (λ old. OpensOrCatchesUp (Some desk) old (J.observed keeper.new).octets next.store.kept)) }
+    ensures end { IfOk result (λ next. IfSome (J.observed keeper.new).octets (λ octets. next.store.end ≡ length octets)) }
+    ensures open { IfOk result IsOpen }
+    ensures limits { IfOk result (λ next. next.limits ≡ limits) }
+    ensures cache { IfOk result (λ next. IfSome (J.observed keeper.old).octets (λ old. IsNextCache limits (Some desk) old next.cache)) }
+
+    ensures fault { IfErr result (λ fault. IfSome (J.observed keeper.old).octets (λ old. IsJournalFault old (J.observed keeper.new).octets fault)) }
+    ensures cause { HasKeeperCause (J.observed keeper.old) (J.observed keeper.new) result OpenFault.Keeper }
+    ensures leaves { OnErr result (LeavesRecords (J.observed keeper.old).octets (J.observed keeper.new).octets) }
+{
+    let mut desk = desk;
+    match desk.catch_up(keeper) {
+        Ok(()) => Ok(desk),
+        Err(OpenFault::BadJournal { .. }) => {
+            drop(desk);
+            open_desk(alloc, keeper, limits)
+        }
+        Err(OpenFault::Keeper) => Err(OpenFault::Keeper),
+        Err(OpenFault::Memory) => Err(OpenFault::Memory),
+    }
+}
+
 /// The desk for the next session: the one that was kept, once it has caught up. Where there is none, or the journal doesn't go on from what
 /// it had, one that is opened anew. A fault of the keeper and want of memory are answered, and the desk that was kept is gone then.
 pub fn next_desk<J: Keeper>(
@@ -110,16 +142,8 @@ pub fn next_desk<J: Keeper>(
     ensures cause { HasKeeperCause (J.observed keeper.old) (J.observed keeper.new) result OpenFault.Keeper }
     ensures leaves { OnErr result (LeavesRecords (J.observed keeper.old).octets (J.observed keeper.new).octets) }
 {
-    let Some(mut desk) = kept else {
-        return open_desk(alloc, keeper, limits);
-    };
-    match desk.catch_up(keeper) {
-        Ok(()) => Ok(desk),
-        Err(OpenFault::BadJournal { .. }) => {
-            drop(desk);
-            open_desk(alloc, keeper, limits)
-        }
-        Err(OpenFault::Keeper) => Err(OpenFault::Keeper),
-        Err(OpenFault::Memory) => Err(OpenFault::Memory),
+    match kept {
+        Some(desk) => caught_up(alloc, desk, keeper, limits),
+        None => open_desk(alloc, keeper, limits),
     }
 }

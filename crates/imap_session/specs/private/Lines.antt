@@ -11,6 +11,10 @@ use Rattle.imap_session.specs.Machine.{done}
 abbrev pub tagged_octets : (tag words : List ℕ) → List ℕ
 tagged_octets tag words = tag ++ (codes " " ++ (words ++ crlf))
 
+-- the line of STATUS: a folder's name, quoted, and what is told of the folder
+abbrev pub status_octets : (name texts : List ℕ) → List ℕ
+status_octets name texts = codes "* STATUS " ++ (name ++ ((codes " (" ++ (texts ++ codes ")")) ++ crlf))
+
 -- what CREATE answers
 abbrev pub words_of_created : Created → List ℕ
 words_of_created created.Made = done

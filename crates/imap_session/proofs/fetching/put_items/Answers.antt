@@ -1,8 +1,7 @@
-use Rattle.std.proofs.Common.{◌≡◌, ◌+◌, ◌<◌, List, [], length, map, take, None, Some, refl, sym, subst, ◌∙◌, arith}
+use Rattle.std.proofs.Common.{◌≡◌, ◌+◌, ◌<◌, List, length, map, take, None, Some, refl, sym, subst, ◌∙◌, arith}
 use Rattle.std.specs.Option.{option_copied}
 use Rattle.std.proofs.lemmas.List.{take_all}
 use Rattle.std.proofs.lemmas.Result.{err_from_is_err_and}
-use Rattle.mail_wire.specs.declared.outside.Fault.TheVariants as fault
 use Rattle.imap_grammar.specs.declared.command.FetchItem.{FetchItem}
 use Rattle.session_core.proofs.KeepsLemmas.{Keeps-nil, Keeps-then}
 use Rattle.session_core.specs.Desks.{stored_octets}
@@ -13,7 +12,7 @@ use Rattle.imap_session.specs.Replies.{part_octets}
 use Rattle.imap_session.specs.private.Messages.{ShowsAlike}
 use Rattle.imap_session.specs.private.Pending.{Carries}
 use Rattle.imap_session.proofs.FetchLemmas.{Carries-cut, Carries-item, HasShown-at, stands_next}
-use Rattle.imap_session.proofs.PendingLemmas.{Carries-nil, Carries-on, Carries-stop}
+use Rattle.imap_session.proofs.PendingLemmas.{Carries-nil}
 use Rattle.imap_session.proofs.fetching.put_items.Goals as goal
 
 pub loop-item-init : goal.loop-item-init
@@ -24,8 +23,8 @@ loop-item-init g c = record {
   keeps = Keeps-nil c.args.outside.now;
 }
 
-pub put_item-requires : goal.put_item-requires
-put_item-requires g c =
+pub put_after-requires : goal.put_after-requires
+put_after-requires g c =
     let low : c.loop-item.item-index < length c.args.items.now = omega arith in
     record {
       id = rw c.loop-item.invariant.desk c.requires.id;
@@ -33,28 +32,17 @@ put_item-requires g c =
           c.item-item.is c.requires.shown);
     }
 
-pub returns-in_err-push_space-clause-carries : goal.returns-in_err-push_space-clause-carries
-returns-in_err-push_space-clause-carries g c = λ oracles are store alike.
+pub returns-in_err-put_after-clause-carries : goal.returns-in_err-put_after-clause-carries
+returns-in_err-put_after-clause-carries g c = λ oracles are store alike.
     let failed = err_from_is_err_and c.from_residual.result c.from_residual.ensures.1 in
-    let f = item_parts oracles g.V.View.mode store c.args.one.now in
-    let spelled = part_octets oracles in
-    let acts = reply (parts_following c.args.after_others (map f (take c.loop-item.item-index c.args.items.now))) in
-    rw (failed.1, failed.2) (Carries-cut oracles c.args.outside.now c.loop-item.outside fault.Memory c.args.pending.now c.push_space.new.pending c.push_space.new.pending c.args.after_others f c.args.items.now c.loop-item.item-index
-    (Carries-on spelled c.args.outside.now c.loop-item.outside c.loop-item.outside (Some fault.Memory) c.args.pending.now c.loop-item.pending c.push_space.new.pending acts (c.loop-item.invariant.carries oracles are store alike)
-    (Carries-stop spelled c.loop-item.outside fault.Memory c.loop-item.pending c.push_space.new.pending [] (λ bad. cc))))
-
-pub returns-in_err-put_item-clause-carries : goal.returns-in_err-put_item-clause-carries
-returns-in_err-put_item-clause-carries g c = λ oracles are store alike.
-    let failed = err_from_is_err_and c.from_residual-in_err-put_item.result c.from_residual-in_err-put_item.ensures.1 in
     let low : c.loop-item.item-index < length c.args.items.now = omega arith in
     let f = item_parts oracles g.V.View.mode store c.args.one.now in
     let alike_now = subst (λ (desk : Desk). ShowsAlike store desk.store) (sym c.loop-item.invariant.desk) alike in
-    rw (failed.1, failed.2) (Carries-cut oracles c.args.outside.now c.put_item.new.outside c.in_err-put_item.field-0.0 c.args.pending.now c.put_item.new.pending c.put_item.new.pending
+    rw (failed.1, failed.2) (Carries-cut oracles c.args.outside.now c.put_after.new.outside c.in_err-put_after.field-0.0 c.args.pending.now c.put_after.new.pending c.put_after.new.pending
     c.args.after_others f c.args.items.now (c.loop-item.item-index + 1)
-    (Carries-item oracles c.args.outside.now c.loop-item.outside c.put_item.new.outside (Some c.in_err-put_item.field-0.0) c.args.pending.now c.loop-item.pending c.push_space.new.pending c.put_item.new.pending
-    c.args.after_others c.loop-item.is_separated
-    f c.args.items.now c.loop-item.item-index c.item-item.result low c.item-item.is (c.loop-item.invariant.carries oracles are store alike) c.loop-item.invariant.is_separated c.in_ok-push_space.ensures
-    (c.in_err-put_item.ensures.carries oracles are store alike_now)))
+    (Carries-item oracles c.args.outside.now c.loop-item.outside c.put_after.new.outside (Some c.in_err-put_after.field-0.0) c.args.pending.now c.loop-item.pending c.put_after.new.pending
+    c.args.after_others c.loop-item.is_separated f c.args.items.now c.loop-item.item-index c.item-item.result low c.item-item.is (c.loop-item.invariant.carries oracles are store alike) c.loop-item.invariant.is_separated
+    (c.in_err-put_after.ensures.carries oracles are store alike_now)))
 
 pub loop-item-preserved : goal.loop-item-preserved
 loop-item-preserved g c =
@@ -64,11 +52,11 @@ loop-item-preserved g c =
       carries = λ oracles are store alike.
           let f = item_parts oracles g.V.View.mode store c.args.one.now in
           let alike_now = subst (λ (desk : Desk). ShowsAlike store desk.store) (sym c.loop-item.invariant.desk) alike in
-          Carries-item oracles c.args.outside.now c.loop-item.outside c.put_item.new.outside None c.args.pending.now c.loop-item.pending c.push_space.new.pending c.put_item.new.pending c.args.after_others c.loop-item.is_separated
-          f c.args.items.now c.loop-item.item-index c.item-item.result low c.item-item.is (c.loop-item.invariant.carries oracles are store alike) c.loop-item.invariant.is_separated c.in_ok-push_space.ensures
-          (c.in_ok-put_item.ensures.carries oracles are store alike_now);
-      desk = c.in_ok-put_item.ensures.desk ∙ c.loop-item.invariant.desk;
-      keeps = Keeps-then c.args.outside.now c.loop-item.outside c.put_item.new.outside None c.loop-item.invariant.keeps c.in_ok-put_item.ensures.keeps;
+          Carries-item oracles c.args.outside.now c.loop-item.outside c.put_after.new.outside None c.args.pending.now c.loop-item.pending c.put_after.new.pending c.args.after_others c.loop-item.is_separated
+          f c.args.items.now c.loop-item.item-index c.item-item.result low c.item-item.is (c.loop-item.invariant.carries oracles are store alike) c.loop-item.invariant.is_separated
+          (c.in_ok-put_after.ensures.carries oracles are store alike_now);
+      desk = c.in_ok-put_after.ensures.desk ∙ c.loop-item.invariant.desk;
+      keeps = Keeps-then c.args.outside.now c.loop-item.outside c.put_after.new.outside None c.loop-item.invariant.keeps c.in_ok-put_after.ensures.keeps;
     }
 
 pub returns-clause-carries : goal.returns-clause-carries

@@ -7,7 +7,7 @@ use Rattle.pop_session.specs.Machine.{size_of}
 use Rattle.pop_session.specs.declared.states.MaildropMessage.{MaildropMessage}
 use Rattle.pop_session.proofs.AskLemmas.{asks_all, asks_kept, asks_lost, asks_marked, keeps_lost, known_at}
 use Rattle.pop_session.proofs.ListLemmas.{listing_turn, listing_over, listing_end}
-use Rattle.pop_session.proofs.replies.list.Goals.{then-not-one+in_ok-size+in_ok-line+in_ok-push_str, else-not-one}
+use Rattle.pop_session.proofs.replies.list.Goals.{then-not-one+in_ok-push_listing, else-not-one}
 use Rattle.pop_session.proofs.replies.list.Goals as goal
 
 -- what stands past the end
@@ -24,11 +24,11 @@ returns-in_err-text-clause-keeps g c =
     let failed = err_from_is_err_and c.from_residual.result c.from_residual.ensures.1 in
     keeps_lost c.args.outside.now c.args.outside.now c.from_residual.result (rw failed.1 refl) (Keeps-nil c.args.outside.now)
 
-pub size-requires-clause-opens : goal.size-requires-clause-opens
-size-requires-clause-opens g c = Keeps-opens c.args.outside.now c.loop-place.outside c.loop-place.invariant.keeps c.requires.opens
+pub push_listing-requires-clause-opens : goal.push_listing-requires-clause-opens
+push_listing-requires-clause-opens g c = Keeps-opens c.args.outside.now c.loop-place.outside c.loop-place.invariant.keeps c.requires.opens
 
-pub size-requires-clause-id : goal.size-requires-clause-id
-size-requires-clause-id g c =
+pub push_listing-requires-clause-id : goal.push_listing-requires-clause-id
+push_listing-requires-clause-id g c =
     known_at c.args.outside.now.desk.store c.loop-place.outside.desk.store c.args.maildrop.now c.loop-place.place d c.requires.known c.loop-place-test.true c.loop-place.invariant.asks.store
 
 pub loop-place-preserved : goal.loop-place-preserved
@@ -39,13 +39,12 @@ loop-place-preserved g c =
     let place = c.loop-place.place in
     let so_far = c.loop-place.invariant in
     elim c.if-not-one.branch [
-      | then-not-one+in_ok-size+in_ok-line+in_ok-push_str w ↦ record {
+      | then-not-one+in_ok-push_listing w ↦ record {
         text = λ oracles are.
-            listing_turn oracles (size_of oracles g.V.View.mode before.desk.store) items d place _ (string_bytes c.loop-place.text) w.as_str.result.now (string_bytes c.if-not-one.text) _
-            c.loop-place-test.true w.if-not-one.true (rw so_far.asks.store at (w.in_ok-size.ensures.size oracles are)) (w.as_str.ensures.value ∙ w.in_ok-line.ensures)
-            (ap string_bytes w.text-is ∙ w.in_ok-push_str.ensures.bytes) (so_far.text oracles are);
-        asks = rw w.outside-is (asks_kept g.V.View.mode before mid w.size.new.outside items place d c.loop-place-test.true w.if-not-one.true so_far.asks w.in_ok-size.ensures.asks);
-        keeps = rw w.outside-is (Keeps-then before mid w.size.new.outside None so_far.keeps w.in_ok-size.ensures.keeps);
+            listing_turn oracles (size_of oracles g.V.View.mode before.desk.store) items d place _ (string_bytes c.loop-place.text) _ (string_bytes c.if-not-one.text) _
+            c.loop-place-test.true w.if-not-one.true refl refl (ap string_bytes w.text-is ∙ rw so_far.asks.store at (w.in_ok-push_listing.ensures.text oracles are)) (so_far.text oracles are);
+        asks = rw w.outside-is (asks_kept g.V.View.mode before mid w.push_listing.new.outside items place d c.loop-place-test.true w.if-not-one.true so_far.asks w.in_ok-push_listing.ensures.asks);
+        keeps = rw w.outside-is (Keeps-then before mid w.push_listing.new.outside None so_far.keeps w.in_ok-push_listing.ensures.keeps);
       }
       | else-not-one w ↦ record {
         text = λ oracles are.
@@ -56,55 +55,31 @@ loop-place-preserved g c =
       }
     ]
 
-pub returns-in_err-size-clause-asks : goal.returns-in_err-size-clause-asks
-returns-in_err-size-clause-asks g c =
-    let failed = err_from_is_err_and c.from_residual-in_err-size.result c.from_residual-in_err-size.ensures.1 in
-    asks_lost c.args.outside.now c.size.new.outside c.from_residual-in_err-size.result (Some fault.Memory) _ _ (rw failed.1 refl)
-    (Asks-then c.args.outside.now c.loop-place.outside c.size.new.outside (Some fault.Memory) _ _ c.loop-place.invariant.asks c.in_err-size.ensures.asks)
+pub returns-in_err-push_listing-clause-asks : goal.returns-in_err-push_listing-clause-asks
+returns-in_err-push_listing-clause-asks g c =
+    let failed = err_from_is_err_and c.from_residual-in_err-push_listing.result c.from_residual-in_err-push_listing.ensures.1 in
+    asks_lost c.args.outside.now c.push_listing.new.outside c.from_residual-in_err-push_listing.result (Some fault.Memory) _ _ (rw failed.1 refl)
+    (Asks-then c.args.outside.now c.loop-place.outside c.push_listing.new.outside (Some fault.Memory) _ _ c.loop-place.invariant.asks c.in_err-push_listing.ensures.asks)
 
-pub returns-in_err-size-clause-keeps : goal.returns-in_err-size-clause-keeps
-returns-in_err-size-clause-keeps g c =
-    let failed = err_from_is_err_and c.from_residual-in_err-size.result c.from_residual-in_err-size.ensures.1 in
-    rw failed.1 (Keeps-then c.args.outside.now c.loop-place.outside c.size.new.outside (Some fault.Memory) c.loop-place.invariant.keeps c.in_err-size.ensures.keeps)
-
-pub returns-in_err-line-clause-asks : goal.returns-in_err-line-clause-asks
-returns-in_err-line-clause-asks g c =
-    let failed = err_from_is_err_and c.from_residual-in_err-line.result c.from_residual-in_err-line.ensures.1 in
-    asks_lost c.args.outside.now c.size.new.outside c.from_residual-in_err-line.result None _ _ (rw failed.1 refl)
-    (Asks-then c.args.outside.now c.loop-place.outside c.size.new.outside None _ _ c.loop-place.invariant.asks c.in_ok-size.ensures.asks)
-
-pub returns-in_err-line-clause-keeps : goal.returns-in_err-line-clause-keeps
-returns-in_err-line-clause-keeps g c =
-    let failed = err_from_is_err_and c.from_residual-in_err-line.result c.from_residual-in_err-line.ensures.1 in
-    keeps_lost c.args.outside.now c.size.new.outside c.from_residual-in_err-line.result (rw failed.1 refl)
-    (Keeps-then c.args.outside.now c.loop-place.outside c.size.new.outside None c.loop-place.invariant.keeps c.in_ok-size.ensures.keeps)
+pub returns-in_err-push_listing-clause-keeps : goal.returns-in_err-push_listing-clause-keeps
+returns-in_err-push_listing-clause-keeps g c =
+    let failed = err_from_is_err_and c.from_residual-in_err-push_listing.result c.from_residual-in_err-push_listing.ensures.1 in
+    rw failed.1 (Keeps-then c.args.outside.now c.loop-place.outside c.push_listing.new.outside (Some fault.Memory) c.loop-place.invariant.keeps c.in_err-push_listing.ensures.keeps)
 
 pub returns-in_err-push_str-clause-asks : goal.returns-in_err-push_str-clause-asks
 returns-in_err-push_str-clause-asks g c =
     let failed = err_from_is_err_and c.from_residual-in_err-push_str.result c.from_residual-in_err-push_str.ensures.1 in
-    asks_lost c.args.outside.now c.size.new.outside c.from_residual-in_err-push_str.result None _ _ (rw failed.1 refl)
-    (Asks-then c.args.outside.now c.loop-place.outside c.size.new.outside None _ _ c.loop-place.invariant.asks c.in_ok-size.ensures.asks)
+    asks_lost c.args.outside.now c.loop-place.outside c.from_residual-in_err-push_str.result None _ _ (rw failed.1 refl) c.loop-place.invariant.asks
 
 pub returns-in_err-push_str-clause-keeps : goal.returns-in_err-push_str-clause-keeps
 returns-in_err-push_str-clause-keeps g c =
     let failed = err_from_is_err_and c.from_residual-in_err-push_str.result c.from_residual-in_err-push_str.ensures.1 in
-    keeps_lost c.args.outside.now c.size.new.outside c.from_residual-in_err-push_str.result (rw failed.1 refl)
-    (Keeps-then c.args.outside.now c.loop-place.outside c.size.new.outside None c.loop-place.invariant.keeps c.in_ok-size.ensures.keeps)
-
-pub returns-in_err-push_str-2-clause-asks : goal.returns-in_err-push_str-2-clause-asks
-returns-in_err-push_str-2-clause-asks g c =
-    let failed = err_from_is_err_and c.from_residual-in_err-push_str-2.result c.from_residual-in_err-push_str-2.ensures.1 in
-    asks_lost c.args.outside.now c.loop-place.outside c.from_residual-in_err-push_str-2.result None _ _ (rw failed.1 refl) c.loop-place.invariant.asks
-
-pub returns-in_err-push_str-2-clause-keeps : goal.returns-in_err-push_str-2-clause-keeps
-returns-in_err-push_str-2-clause-keeps g c =
-    let failed = err_from_is_err_and c.from_residual-in_err-push_str-2.result c.from_residual-in_err-push_str-2.ensures.1 in
-    keeps_lost c.args.outside.now c.loop-place.outside c.from_residual-in_err-push_str-2.result (rw failed.1 refl) c.loop-place.invariant.keeps
+    keeps_lost c.args.outside.now c.loop-place.outside c.from_residual-in_err-push_str.result (rw failed.1 refl) c.loop-place.invariant.keeps
 
 pub returns-clause-text : goal.returns-clause-text
 returns-clause-text g c = λ oracles are.
-    listing_end oracles (size_of oracles g.V.View.mode c.args.outside.now.desk.store) c.args.maildrop.now c.loop-place.place (string_bytes c.loop-place.text) (string_bytes c.push_str-2.new.self)
-    c.loop-place-test.false c.in_ok-push_str-2.ensures.bytes (c.loop-place.invariant.text oracles are)
+    listing_end oracles (size_of oracles g.V.View.mode c.args.outside.now.desk.store) c.args.maildrop.now c.loop-place.place (string_bytes c.loop-place.text) (string_bytes c.push_str.new.self)
+    c.loop-place-test.false c.in_ok-push_str.ensures.bytes (c.loop-place.invariant.text oracles are)
 
 pub returns-clause-asks : goal.returns-clause-asks
 returns-clause-asks g c = asks_all g.V.View.mode c.args.outside.now c.loop-place.outside c.args.maildrop.now c.loop-place.place c.loop-place-test.false c.loop-place.invariant.asks
