@@ -1,6 +1,0 @@
-use Rattle.session_core.proofs.CaughtLemmas.{opened_on}
-use Rattle.session_core.proofs.desk.next_desk.Goals as goal
-
-pub returns-in-Ok-clause-opens : goal.returns-in-Ok-clause-opens
-returns-in-Ok-clause-opens g c =
-    rw c.in-Some.is (opened_on (g.J.Keeper.observed c.args.keeper.now).octets (g.J.Keeper.observed c.catch_up.new.keeper).octets c.in-Some.desk c.catch_up.new.self.store.kept c.in-Ok.ensures.catches)
