@@ -129,13 +129,25 @@ SAFE = (string.ascii_letters + string.digits + "!*+-/").encode()
 IN_Q_TEXT = [b"_" if it == 32 else bytes([it]) if it in SAFE else b"=%02X" % it for it in range(256)]
 
 
-def words_of(text):
-    """Encoded words of the most whole characters that fit 45 octets each: Q words, or B words where these are shorter."""
+def chunks_of(text):
+    """The text in parts, each of the most whole characters that fit 45 octets."""
     chunks = [b""]
     for character in text.decode("utf-8"):
         octets = character.encode("utf-8")
         if len(chunks[-1]) + len(octets) > 45:
             chunks.append(b"")
         chunks[-1] += octets
-    both = [(b"=?UTF-8?Q?" + b"".join(map(IN_Q_TEXT.__getitem__, chunk)) + b"?=", b"=?UTF-8?B?" + base64.b64encode(chunk) + b"?=") for chunk in chunks if chunk]
-    return [min(pair, key=len) for pair in both]
+    return [chunk for chunk in chunks if chunk]
+
+
+def b_word(chunk):
+    return b"=?UTF-8?B?" + base64.b64encode(chunk) + b"?="
+
+
+def q_word(chunk):
+    return b"=?UTF-8?Q?" + b"".join(map(IN_Q_TEXT.__getitem__, chunk)) + b"?="
+
+
+def words_of(text):
+    """Encoded words, one for each part: its Q word, or its B word where that is shorter."""
+    return [min(q_word(chunk), b_word(chunk), key=len) for chunk in chunks_of(text)]

@@ -1,16 +1,23 @@
-"""Vectors that are older than Q words: which of them the rule of words changes. A Q word stood as a B word there."""
+"""Vectors that are older than Q words: which of them the rule of words changes. Each word was a B word there."""
 
+from unittest import mock
+
+from oracle import units
 from oracle.addresses import Uncertain
 from oracle.downgrade_oracle import outcome
 from oracle.pop_store import Unopened, open_journal
 
-Q_WORD = b"=?UTF-8?Q?"
+
+def b_words_of(text):
+    return [units.b_word(chunk) for chunk in units.chunks_of(text)]
 
 
-def gains_q_words(octets):
-    """Whether the surrogate of a message has a Q word that the message hasn't, as far as the oracle can tell."""
+def is_changed(octets):
+    """Whether the surrogate of a message was another one when each word was a B word, as far as the oracle can tell."""
     try:
-        return outcome([b"downgrade"], octets)[1].count(Q_WORD) > octets.count(Q_WORD)
+        now = outcome([b"downgrade"], octets)
+        with mock.patch.object(units, "words_of", b_words_of):
+            return outcome([b"downgrade"], octets) != now
     except Uncertain:
         return True
 
@@ -22,4 +29,4 @@ def has_older_words(case):
     except (Unopened, Uncertain):
         return False
     kept = [octets for _, octets in store.messages] + [octets for _, _, octets in store.letters]
-    return any(map(gains_q_words, set(kept)))
+    return any(map(is_changed, set(kept)))
