@@ -53,6 +53,17 @@ pub no_says : (ts : List TokenValue) → are_blank ts ≡ false → (IsPhrase ts
 no_says ts not_blank not_phrase true units s = not_phrase s.0
 no_says ts not_blank not_phrase false units s = both_ways (are_blank ts) not_blank s.0
 
+-- ---- angle brackets
+
+not_true : (b : Bool) → (b ≡ true → ⊥) → b ≡ false
+not_true true other = absurd (other refl)
+not_true false other = refl
+
+pub angled_opens : (ts before inner : List TokenValue) → IsFirstAngled ts before inner → lacks_special 60 ts ≡ false
+angled_opens ts before inner is =
+    let a = is.angled in
+    not_true (lacks_special 60 ts) (λ lacks. not_lacking 60 before (inner ++ a.close_mark ∷ a.after) a.open_mark a.opens (rw (a.whole) at lacks))
+
 -- ---- routes
 
 pub hop_lacks : (m : ℕ) (ts : List TokenValue) → m ≢ 46 → m ≢ 64 → IsHop ts → lacks_special m ts ≡ true

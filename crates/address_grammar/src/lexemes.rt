@@ -1,9 +1,10 @@
 //! What the grammar of addresses asks of the tokens of a text.
 ghost use Rattle.std.specs.Prelude.{◌≡◌, ◌<◌, ◌++◌, ◌∷◌, [], ℕ, true, false, List, length, IfOk, IfSome, IfNone, OnOk};
+ghost use Rattle.std.specs.List.{list_all};
 ghost use Rattle.field_tokens.specs.Tokens.{TokenValue, HasTokens};
 ghost use Rattle.field_tokens.specs.Lexemes.{value_of, values_of, lexemes_in};
 ghost use Rattle.field_tokens.specs.declared.Style.TheVariants.{Mail};
-ghost use Rattle.address_grammar.specs.private.Lexemes.{HasMailTokens, is_blank_token, are_blank as are_blank_of, is_special_of as is_mark_of, lacks_special, is_atom as is_atom_of, is_word as is_word_of, unquoted, content as content_of, contents as contents_of, inner_octets as inner_octets_of, SplitsAt};
+ghost use Rattle.address_grammar.specs.private.Lexemes.{HasMailTokens, is_blank_token, are_blank as are_blank_of, is_special_of as is_mark_of, lacks_special, is_atom as is_atom_of, is_word as is_word_of, unquoted, content as content_of, contents as contents_of, inner_octets as inner_octets_of, says_itself, SplitsAt};
 ghost use Rattle.field_tokens.specs.Squeezed.{words_of};
 
 use crate::AddressFault;
@@ -185,6 +186,29 @@ fn room_for(alloc: Global, lexemes: Lexemes<'_, '_>) -> Result<Octets, Memory>
     Ok(Octets::from_vec(Vec::with_capacity(alloc, room)?))
 }
 
+fn is_plain(lexeme: Lexeme<'_>) -> bool
+    ensures { result ≡ says_itself (value_of lexeme.entry) }
+{
+    matches!(
+        lexeme.kind,
+        TokenKind::Atom | TokenKind::Literal | TokenKind::Special
+    )
+}
+
+// Whether each token says its octets.
+fn are_plain(lexemes: Lexemes<'_, '_>) -> bool
+    ensures { result ≡ list_all says_itself (values_of lexemes.entry) }
+{
+    let mut rest = lexemes;
+    while let Some((lexeme, following)) = rest.split_first() {
+        if !is_plain(lexeme) {
+            return false;
+        }
+        rest = following;
+    }
+    true
+}
+
 /// What a token says.
 pub fn content(alloc: Global, lexeme: Lexeme<'_>) -> Result<Octets, Memory>
     ensures { IfOk result (λ made. made ≡ content_of (value_of lexeme.entry)) }
@@ -198,6 +222,9 @@ pub fn content(alloc: Global, lexeme: Lexeme<'_>) -> Result<Octets, Memory>
 pub fn contents(alloc: Global, lexemes: Lexemes<'_, '_>) -> Result<Octets, Memory>
     ensures { IfOk result (λ made. made ≡ contents_of (values_of lexemes.entry)) }
 {
+    if are_plain(lexemes) {
+        return Octets::from_slice(alloc, lexemes.octets());
+    }
     let mut made = room_for(alloc, lexemes)?;
     let mut rest = lexemes;
     while let Some((lexeme, following)) = rest.split_first() {

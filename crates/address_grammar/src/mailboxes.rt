@@ -103,13 +103,13 @@ pub fn find_mailbox(alloc: Global, lexemes: Lexemes<'_, '_>) -> Result<FoundMail
     ensures ok { IfOk result (IsFoundMailbox (values_of lexemes.entry)) }
     ensures malformed { result ≡ Err AddressFault.Malformed → (m : MailboxValue) → ¬ IsMailbox (values_of lexemes.entry) m }
 {
+    if let Some((before, inner)) = split_angled(lexemes) {
+        return find_named(alloc, before, inner);
+    }
     if lacks_mark(lexemes, b'<') {
         return find_bare(alloc, lexemes);
     }
-    let Some((before, inner)) = split_angled(lexemes) else {
-        return Err(AddressFault::Malformed);
-    };
-    find_named(alloc, before, inner)
+    Err(AddressFault::Malformed)
 }
 
 // What the phrase of a mailbox says.

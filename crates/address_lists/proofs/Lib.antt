@@ -1,4 +1,5 @@
 pub mod PhraseWriting
+pub mod PlainWords
 pub mod UnitStream
 pub mod SoundPhrases
 pub mod WrittenPhrases

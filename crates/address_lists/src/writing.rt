@@ -1,10 +1,12 @@
 //! The writer of phrases.
-ghost use Rattle.std.specs.Prelude.{◌≡◌, ◌||◌, ◌++◌, true, OnOk};
+ghost use Rattle.std.specs.Prelude.{◌≡◌, ◌||◌, ◌++◌, ◌↔◌, true, false, IsTrue, IfSome, OnOk};
 ghost use Rattle.std.specs.List.{AllByRecursion, list_all};
 ghost use Rattle.mail_wire.specs.Octets.{is_ascii as is_ascii_octet};
 ghost use Rattle.encoded_words.specs.Folding.{AddsLines};
+ghost use Rattle.encoded_words.specs.Words.{UnitValue, IsEncodedWord};
 ghost use Rattle.encoded_words.specs.PhraseUnits.{IsUtf8Item};
 ghost use Rattle.field_tokens.specs.Comments.{AreWritableComments};
+ghost use Rattle.field_tokens.specs.declared.TokenKind.TheVariants.{Atom};
 ghost use Rattle.field_tokens.specs.Lexemes.{value_of, values_of};
 ghost use Rattle.field_tokens.specs.Squeezed.{is_gap as is_gap_kind, is_there, octets_of, comments_of};
 ghost use Rattle.address_grammar.specs.Phrases.{IsPhrase, phrase_items};
@@ -12,10 +14,11 @@ ghost use Rattle.address_lists.specs.PhrasePieces.{PhrasePieces, HasCore, PlaceP
 ghost use Rattle.address_grammar.specs.private.PhraseSteps.{SkipsGaps, SplitsTrail};
 ghost use Rattle.address_grammar.specs.private.ListViews.{unit_values};
 ghost use Rattle.address_lists.specs.private.Emptied.{GivesUnits};
+ghost use Rattle.address_lists.specs.private.ListWriting.{IsPlainWord};
 
 use crate::ascii_texts::are_ascii;
 use address_grammar::{PhraseReader, front_before, is_blank};
-use encoded_words::{Unit, push_line, write_units};
+use encoded_words::{Unit, push_line, push_words, write_units};
 use field_tokens::{Lexeme, Lexemes, TokenKind, write_comments};
 use mail_wire::{Memory, Octets};
 use std::alloc::Global;
@@ -117,6 +120,38 @@ fn write_said(alloc: Global, lexemes: Lexemes<'_, '_>, made: &mut Octets) -> Res
     push_line(made, b"\"\"")
 }
 
+fn is_atom(lexeme: Lexeme<'_>) -> bool
+    ensures { IsTrue result ↔ ((value_of lexeme.entry).kind ≡ Atom) }
+{
+    matches!(lexeme.kind, TokenKind::Atom)
+}
+
+// Whether a word begins as encoded words do.
+fn begins_encoded(word: &[u8]) -> bool
+    ensures { result ≡ false → (unit : UnitValue) → ¬ IsEncodedWord word.now unit }
+{
+    matches!(word, [b'=', b'?', ..])
+}
+
+// The one atom that tokens are, where it is no encoded word.
+fn plain_word<'a>(lexemes: Lexemes<'a, '_>) -> Option<&'a [u8]>
+    ensures { IfSome result (λ word. IsPlainWord (values_of lexemes.entry) word.now) }
+{
+    let Some((lexeme, following)) = lexemes.split_first() else {
+        return None;
+    };
+    if !following.is_empty() {
+        return None;
+    }
+    if !is_atom(lexeme) {
+        return None;
+    }
+    if begins_encoded(lexeme.octets) {
+        return None;
+    }
+    Some(lexeme.octets)
+}
+
 // Puts the pieces of a phrase last that ends with its last word.
 pub(crate) fn push_core(
     alloc: Global,
@@ -130,6 +165,10 @@ pub(crate) fn push_core(
 {
     if are_ascii(lexemes) {
         return push_joined(lexemes, made);
+    }
+    // most names are one word
+    if let Some(word) = plain_word(lexemes) {
+        return push_words(made, b' ', word);
     }
     write_said(alloc, lexemes, made)?;
     write_comments(alloc, lexemes, made)

@@ -29,7 +29,7 @@ fn push_bare(address: &Address, made: &mut Octets) -> Result<(), Memory>
 pub(crate) fn push_angled(address: &Address, made: &mut Octets) -> Result<(), Memory>
     ensures { OnOk result (made.new ≡ made.old ++ lines_of (in_angles (address_text address.now) ∷ [])) }
 {
-    push_line(made, b"<")?;
+    made.push_slice(b"\r\n <")?;
     push_address(made, address)?;
     made.push(b'>')
 }

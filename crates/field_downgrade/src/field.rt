@@ -11,7 +11,7 @@ ghost use Rattle.field_downgrade.specs.private.Steps.{AddsOctets, MakesUnstructu
 ghost use Rattle.field_downgrade.specs.private.Views.{made_from, IsKeep};
 
 use crate::global_bodies::change_global;
-use crate::kind::{is_type, keeps_words};
+use crate::kind::{is_type, keeps_words, kind_of};
 use crate::segments::write_body;
 use crate::structured::push_structured;
 use mail_wire::{Memory, Octets, is_ascii};
@@ -44,10 +44,11 @@ fn push_high(alloc: Global, raw: &[u8], open_global: bool, made: &mut Octets) ->
     ensures { OnOk result (AddsOctets (IsServedField open_global raw.now) made.old made.new) }
 {
     let parts = split_field(raw);
-    if keeps_words(parts.name) {
+    let kind = kind_of(parts.name);
+    if keeps_words(kind, parts.name) {
         push_unstructured(alloc, &parts, made)
     } else {
-        push_structured(alloc, open_global, made, &parts)
+        push_structured(alloc, open_global, kind, &parts, made)
     }
 }
 

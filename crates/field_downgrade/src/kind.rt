@@ -99,17 +99,18 @@ pub fn kind_of(name: &[u8]) -> Kind
     find_by_length(&KINDS_BY_LENGTH, name).unwrap_or(Kind::Unstructured)
 }
 
-fn is_unstructured(name: &[u8]) -> bool
-    ensures { IsTrue result ↔ (kind_named name.now ≡ Kind.Unstructured) }
+fn is_unstructured(kind: Kind) -> bool
+    ensures { IsTrue result ↔ (kind ≡ Kind.Unstructured) }
 {
-    matches!(kind_of(name), Kind::Unstructured)
+    matches!(kind, Kind::Unstructured)
 }
 
-/// Whether the words of fields of a name are rewritten under that name.
-pub(crate) fn keeps_words(name: &[u8]) -> bool
+/// Whether the words of fields of a name, and so of this kind, are rewritten under that name.
+pub(crate) fn keeps_words(kind: Kind, name: &[u8]) -> bool
+    requires { kind ≡ kind_named name.now }
     ensures { IsTrue result ↔ KeepsWords name.now }
 {
-    is_unstructured(name) && !name.starts_with(b"-")
+    is_unstructured(kind) && !name.starts_with(b"-")
 }
 
 /// Whether fields of a name tell the type of a body.

@@ -3,7 +3,8 @@ ghost use Rattle.std.specs.Prelude.{◌≡◌, ◌∷◌, ◌++◌, [], not, tru
 ghost use Rattle.std.specs.List.{list_all};
 ghost use Rattle.encoded_words.specs.Folding.{lines_of, AddsLines};
 ghost use Rattle.field_tokens.specs.declared.Style.TheVariants.{Mail};
-ghost use Rattle.field_tokens.specs.Lexemes.{value_of, values_of};
+ghost use Rattle.field_tokens.specs.Lexemes.{lexemes_in, value_of, values_of};
+ghost use Rattle.field_tokens.specs.Tokens.{HasTokenValues};
 ghost use Rattle.field_downgrade.specs.Received.{is_clause_word as is_clause_word_of, starts_clause as starts_clause_of, is_semicolon as is_semicolon_of, is_host_word as is_host_word_of, holds_clause_word as holds_clause_word_of, served_text as served_text_of, date_text as date_text_of, date_tokens, with_space_before, ClausePieces, DatePieces, ReceivedPieces};
 ghost use Rattle.field_downgrade.specs.private.ReceivedSteps.{AreRead, EndsOrBeginsSo, CutsTokens, CutsDate, tokens_after, clause_at, WritesClauses};
 ghost use Rattle.field_downgrade.specs.private.Steps.{WritesWhere};
@@ -11,7 +12,7 @@ ghost use Rattle.field_downgrade.specs.private.Steps.{WritesWhere};
 use crate::lines::begin_line;
 use crate::squeezing::squeezed;
 use address_grammar::{are_blank, front_before, split_at_mark};
-use field_tokens::{Lexeme, Lexemes, Style, TokenKind, read_marks, write_comments};
+use field_tokens::{Lexeme, Lexemes, Mark, Style, TokenKind, read_marks, write_comments};
 use mail_wire::{Memory, Octets, is_ascii, is_same_name};
 use std::alloc::Global;
 
@@ -171,14 +172,12 @@ fn put_date(
     write_comments(alloc, following, made)
 }
 
-/// Puts the pieces of a Received field's text last, and answers whether it has any.
-pub fn rewrite_received(alloc: Global, text: &[u8], made: &mut Octets) -> Result<bool, Memory>
+// Puts the pieces of a text with these marks last, and answers whether it has any.
+fn put_pieces(alloc: Global, text: &[u8], marks: &[Mark], made: &mut Octets) -> Result<bool, Memory>
+    requires { HasTokenValues Mail text.now (lexemes_in text.now marks.now) }
     ensures { IfOk result (λ wrote. WritesWhere wrote (ReceivedPieces text.now) made.old made.new) }
 {
-    let Some(marks) = read_marks(alloc, Style::Mail, text)? else {
-        return Ok(false);
-    };
-    let (head, date) = split_head(Lexemes::new(text, &marks));
+    let (head, date) = split_head(Lexemes::new(text, marks));
     let (front, clauses) = split_clause(head);
     if !are_blank(front) {
         return Ok(false);
@@ -191,4 +190,14 @@ pub fn rewrite_received(alloc: Global, text: &[u8], made: &mut Octets) -> Result
     put_clauses(alloc, clauses, made)?;
     put_date(alloc, date, said.as_slice(), made)?;
     Ok(true)
+}
+
+/// Puts the pieces of a Received field's text last, and answers whether it has any.
+pub fn rewrite_received(alloc: Global, text: &[u8], made: &mut Octets) -> Result<bool, Memory>
+    ensures { IfOk result (λ wrote. WritesWhere wrote (ReceivedPieces text.now) made.old made.new) }
+{
+    match read_marks(alloc, Style::Mail, text)? {
+        Some(marks) => put_pieces(alloc, text, &marks, made),
+        None => Ok(false),
+    }
 }

@@ -12,7 +12,7 @@ ghost use Rattle.field_downgrade.specs.Kinds.{kind_named};
 ghost use Rattle.field_downgrade.specs.Stands.{PiecesAs, is_encoding_name as is_encoding_of, keeps_name as keeps_name_of};
 ghost use Rattle.field_downgrade.specs.private.Steps.{named_of, AddsOctets, AddsWordField, HasNoPieces, IsOther, MakesField, PutsPieces, WritesWhere};
 
-use crate::kind::{Kind, kind_of};
+use crate::kind::Kind;
 use crate::plain::rewrite_plain;
 use crate::received::rewrite_received;
 use crate::typed::rewrite_typed;
@@ -107,22 +107,17 @@ fn write_value(
 fn push_pieces(
     alloc: Global,
     open_global: bool,
+    kind: Kind,
     parts: &Parts<'_>,
     value: &[u8],
     made: &mut Octets,
 ) -> Result<bool, Memory>
+    requires { kind ≡ kind_named parts.now.name.now }
     ensures { IfOk result (λ wrote. PutsPieces wrote open_global (parts_value parts.now) value.now made.old made.new) }
 {
     made.push_slice(parts.name)?;
     made.push(b':')?;
-    if !write_value(
-        alloc,
-        kind_of(parts.name),
-        open_global,
-        parts.name,
-        value,
-        made,
-    )? {
+    if !write_value(alloc, kind, open_global, parts.name, value, made)? {
         return Ok(false);
     }
     made.push_slice(parts.ending)?;
@@ -170,17 +165,19 @@ fn push_whole(
 fn push_valued(
     alloc: Global,
     open_global: bool,
-    made: &mut Octets,
+    kind: Kind,
     parts: &Parts<'_>,
     value: &[u8],
+    made: &mut Octets,
 ) -> Result<(), Memory>
+    requires kind { kind ≡ kind_named parts.now.name.now }
     requires other { IsOther (parts_value parts.now) }
     requires value { HasValue parts.now.body.now value.now }
     requires utf8 { IsUtf8 value.now }
     ensures { OnOk result (AddsOctets (MakesField open_global (parts_value parts.now)) made.old made.new) }
 {
     let len = made.len();
-    if push_pieces(alloc, open_global, parts, value, made)? {
+    if push_pieces(alloc, open_global, kind, parts, value, made)? {
         return Ok(());
     }
     made.truncate(len);
@@ -191,9 +188,11 @@ fn push_valued(
 pub fn push_structured(
     alloc: Global,
     open_global: bool,
-    made: &mut Octets,
+    kind: Kind,
     parts: &Parts<'_>,
+    made: &mut Octets,
 ) -> Result<(), Memory>
+    requires kind { kind ≡ kind_named parts.now.name.now }
     requires other { IsOther (parts_value parts.now) }
     requires folded { IsFolded parts.now.body.now }
     requires utf8 { IsUtf8 parts.now.body.now }
@@ -201,8 +200,8 @@ pub fn push_structured(
     ensures { OnOk result (AddsOctets (MakesField open_global (parts_value parts.now)) made.old made.new) }
 {
     if let Some(value) = line_value(parts.body) {
-        return push_valued(alloc, open_global, made, parts, value);
+        return push_valued(alloc, open_global, kind, parts, value, made);
     }
     let value = value_of(alloc, parts.body)?;
-    push_valued(alloc, open_global, made, parts, value.as_slice())
+    push_valued(alloc, open_global, kind, parts, value.as_slice(), made)
 }

@@ -1,5 +1,5 @@
 //! The words of an unstructured body, found one after another.
-ghost use Rattle.std.specs.Prelude.{◌≡◌, ◌++◌, ℕ, List, position, IfOk};
+ghost use Rattle.std.specs.Prelude.{◌≡◌, ◌++◌, ℕ, List, false, position, IfOk};
 ghost use Rattle.mail_wire.specs.Spans.{IsSpan};
 ghost use Rattle.field_downgrade.specs.Words.{is_word_octet, is_gap_octet, TellsEncoded};
 ghost use Rattle.field_downgrade.specs.private.Stretches.{first_where, TellsSide, SplitsLow, SplitsFirst};
@@ -65,11 +65,18 @@ fn split_word(octets: &[u8]) -> (&[u8], &[u8])
     }
 }
 
+// Whether a word begins as encoded words do.
+fn begins_encoded(word: &[u8]) -> bool
+    ensures { result ≡ false → TellsEncoded false word.now }
+{
+    matches!(word, [b'=', b'?', ..])
+}
+
 // Whether a word is an encoded word.
 fn is_encoded(alloc: Global, word: &[u8]) -> Result<bool, Memory>
     ensures { IfOk result (λ is. TellsEncoded is word.now) }
 {
-    if !word.starts_with(b"=?") {
+    if !begins_encoded(word) {
         return Ok(false);
     }
     Ok(read_word(alloc, word)?.is_some())

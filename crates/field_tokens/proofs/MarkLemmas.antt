@@ -1,13 +1,27 @@
 -- Tokens by their marks.
-use Rattle.std.proofs.Common.{◌≡◌, ℕ, zero, suc, ◌+◌, ◌-◌, ◌<◌, ◌≤◌, List, [], ◌∷◌, ◌++◌, length, min, take, drop, refl, sym, ap, ◌∙◌, subst, arith, Bool, ◌==◌, ◌↔◌, IsTrue}
+use Rattle.std.proofs.Common.{◌≡◌, ℕ, zero, suc, ◌+◌, ◌-◌, ◌<◌, ◌≤◌, List, [], ◌∷◌, ◌++◌, length, get_or, min, take, drop, refl, sym, ap, ◌∙◌, subst, arith, Bool, true, ◌==◌, ◌↔◌, IsTrue}
+use Rattle.std.proofs.lemmas.Bool.{and_parts, and_from}
 use Rattle.std.proofs.lemmas.Bool.Decides.{nat_tests}
-use Rattle.std.proofs.lemmas.List.{length-append, take_at, drop_at, take_min}
+use Rattle.std.specs.List.{list_all}
+use Rattle.field_tokens.specs.TokenOctets.{is_above_cr, is_line_octet}
+use Rattle.std.proofs.lemmas.List.{length-append, append_assoc, take-append-drop, take_at, drop_at, take_min, drop_min, drop_more, drop_all}
 use Rattle.field_tokens.specs.declared.Style.{Style}
 use Rattle.field_tokens.specs.declared.TokenKind.{TokenKind}
 use Rattle.field_tokens.specs.declared.lexemes.Mark.{Mark}
 use Rattle.field_tokens.specs.Tokens.{BeginsToken, TokenValue, IsLine, HasTokenValues}
+use Rattle.field_tokens.specs.Squeezed.{octets_of}
 use Rattle.field_tokens.specs.Lexemes.{marked_kind, marked_len, lexemes_in}
 use Rattle.field_tokens.proofs.TokenLists.{ReadsTokens, ReadsTokens-none, ReadsTokens-push, no_tokens, all_tokens, token_some}
+
+line_octet : (x : ℕ) → is_above_cr x ≡ true → is_line_octet x ≡ true
+line_octet x above = grind (arith, nat_tests)
+
+-- no octet above CR ends a line
+pub above_cr : (text : List ℕ) → list_all is_above_cr text ≡ true → list_all is_line_octet text ≡ true
+above_cr [] above = refl
+above_cr (x ∷ xs) above =
+    let parts = and_parts (is_above_cr x) (list_all is_above_cr xs) above in
+    and_from (is_line_octet x) (list_all is_line_octet xs) (line_octet x parts.0) (above_cr xs parts.1)
 
 -- what stands after the tokens of marks
 abbrev pub after_marks : List ℕ → List Mark → List ℕ
@@ -38,6 +52,32 @@ lexemes_in-take (suc n) text (m ∷ ms) = ap (λ r. record { kind = marked_kind 
 -- the first so many marks are of the first tokens
 pub front_marks : (n k : ℕ) (text : List ℕ) (ms front : List Mark) → k ≡ min n (length ms) → front ≡ take k ms → lexemes_in text front ≡ take n (lexemes_in text ms)
 front_marks n k text ms front k_is e = ap (lexemes_in text) (e ∙ ap (λ j. take j ms) k_is ∙ take_min n ms) ∙ lexemes_in-take n text ms
+
+octets_joined : (text : List ℕ) (ms : List Mark) → octets_of (lexemes_in text ms) ++ after_marks text ms ≡ text
+octets_joined text [] = refl
+octets_joined text (m ∷ ms) =
+    let n = marked_len m in
+    append_assoc (take n text) (octets_of (lexemes_in (drop n text) ms)) (after_marks (drop n text) ms) ∙ ap (λ r. take n text ++ r) (octets_joined (drop n text) ms) ∙ take-append-drop n text
+
+-- the next mark was passed
+pub marks_turn : (text rest after : List ℕ) (ms : List Mark) (d : Mark) (i n k : ℕ) → after_marks rest (drop i ms) ≡ after_marks text ms → i < length ms
+    → after ≡ drop k rest → k ≡ min n (length rest) → n ≡ marked_len (get_or ms i d) → after_marks after (drop (i + 1) ms) ≡ after_marks text ms
+marks_turn text rest after ms d i n k so more e k_is n_is =
+    let m = get_or ms i d in
+    let next : drop i ms ≡ m ∷ drop (i + 1) ms = drop_more ms i d more in
+    let left : after ≡ drop (marked_len m) rest = e ∙ ap (λ j. drop j rest) k_is ∙ drop_min n rest ∙ ap (λ k. drop k rest) n_is in
+    ap (λ r. after_marks r (drop (i + 1) ms)) left ∙ sym (ap (after_marks rest) next) ∙ so
+
+-- what stands before what is left after all marks
+pub marks_octets : (text rest out : List ℕ) (ms : List Mark) (i n : ℕ) → after_marks rest (drop i ms) ≡ after_marks text ms → length ms ≤ i → out ≡ take n text → n ≡ length text - length rest
+    → out ≡ octets_of (lexemes_in text ms)
+marks_octets text rest out ms i n passed end e n_is =
+    let so : rest ≡ after_marks text ms = sym (ap (after_marks rest) (drop_all i ms end)) ∙ passed in
+    let o = octets_of (lexemes_in text ms) in
+    let whole : o ++ rest ≡ text = ap (λ r. o ++ r) so ∙ octets_joined text ms in
+    let size : length o ≡ length text - length rest = omega (arith, ap length whole, length-append o rest) in
+    let same : n ≡ length o = n_is ∙ sym size in
+    e ∙ ap (take n) (sym whole) ∙ take_at o rest n (sym same)
 
 -- the marks of the tokens before rest
 pub record ReadsMarks (style : Style) (text : List ℕ) (marks : List Mark) (rest : List ℕ) : Type 0 where

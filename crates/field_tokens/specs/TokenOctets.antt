@@ -1,7 +1,7 @@
 -- Kinds of octets in the text of a structured field (RFC 5322, 3.2.3; RFC 2045, 5.1).
 use Rattle.std.specs.Prelude.{ℕ, ◌==◌, nat_lt, Bool, true, false, not, ◌&&◌, ◌||◌, codes}
 use Rattle.std.specs.List.{list_any}
-use Rattle.mail_wire.specs.Characters.{nul, tab, delete}
+use Rattle.mail_wire.specs.Characters.{nul, tab, carriage_return, delete}
 use Rattle.mail_wire.specs.Octets.{is_white, is_line_end}
 use Rattle.field_tokens.specs.declared.Style.{Style}
 use Rattle.field_tokens.specs.declared.Style.TheVariants.{Mail, Mime}
@@ -28,6 +28,10 @@ is_control x = (nat_lt x 32 && not (x == tab)) || (x == delete)
 -- Every other octet stands in atoms, those of characters beyond ASCII too (RFC 6532, 3.2).
 abbrev pub is_atom_octet : Style → ℕ → Bool
 is_atom_octet style x = not (is_white x) && (not (is_special style x) && (not (is_mark style x) && not (is_control x)))
+
+-- an octet above CR, and so none of NUL, CR and LF
+abbrev pub is_above_cr : ℕ → Bool
+is_above_cr x = nat_lt carriage_return x
 
 -- no NUL, CR or LF
 abbrev pub is_line_octet : ℕ → Bool

@@ -1,6 +1,7 @@
 //! The tokens of a text by their octets, each as a number beside the text.
 ghost use Rattle.std.specs.Prelude.{◌≡◌, ◌<◌, ◌↔◌, ◌∷◌, [], List, length, take, IfOk, IfSome, IfNone, IsTrue};
 ghost use Rattle.field_tokens.specs.Tokens.{TokenValue, HasTokenValues};
+ghost use Rattle.field_tokens.specs.Squeezed.{octets_of};
 ghost use Rattle.field_tokens.specs.Lexemes.{value_of, values_of, kind_number, kind_numbered, marked_kind, marked_len, lexemes_in};
 
 use crate::reading::{first_token, is_line};
@@ -156,6 +157,21 @@ impl<'a, 'b> Lexemes<'a, 'b> {
         ensures { result ≡ length (values_of self.entry) }
     {
         self.marks.len()
+    }
+
+    /// The octets of all tokens, one after another.
+    pub fn octets(self) -> &'a [u8]
+        ensures { result.now ≡ octets_of (values_of self.entry) }
+    {
+        let text = self.text;
+        let marks = self.marks;
+        let mut rest = text;
+        for mark in marks {
+            let (_, after) = rest.split_at(mark.len().min(rest.len()));
+            rest = after;
+        }
+        let (octets, _) = text.split_at(text.len().saturating_sub(rest.len()));
+        octets
     }
 
     /// The first token, and those after it.

@@ -1,15 +1,15 @@
 //! The reader of tokens.
-ghost use Rattle.std.specs.Prelude.{◌≡◌, ◌<◌, ℕ, List, length, not, position, ◌&&◌, ◌==◌, IfSome, IfNone, IfOk, MatchResult, IsTrue, ◌↔◌};
+ghost use Rattle.std.specs.Prelude.{◌≡◌, ◌<◌, ℕ, List, length, not, position, ◌&&◌, ◌==◌, IfSome, IfNone, IfOk, MatchResult, IsTrue, IsUtf8, ◌↔◌};
 ghost use Rattle.std.specs.List.{list_all};
 ghost use Rattle.mail_wire.specs.Spans.{IsSpan};
-ghost use Rattle.field_tokens.specs.TokenOctets.{is_mail, is_special as is_special_of, is_mark as is_mark_of, is_atom_octet as is_atom_octet_of, is_line_octet};
+ghost use Rattle.field_tokens.specs.TokenOctets.{is_mail, is_special as is_special_of, is_mark as is_mark_of, is_atom_octet as is_atom_octet_of, is_above_cr, is_line_octet};
 ghost use Rattle.field_tokens.specs.Tokens.{IsLine, BeginsToken, HasTokens};
 ghost use Rattle.field_tokens.specs.declared.Token.{Token};
 ghost use Rattle.field_tokens.specs.declared.TokenKind.{TokenKind};
 
 use crate::groups::{COMMENT, LITERAL, QUOTED, group_rest, is_control};
 use crate::{Style, Token, TokenFault, TokenKind};
-use mail_wire::{Memory, Span, is_utf8, is_white, split_white};
+use mail_wire::{Memory, Span, is_ascii, is_white, split_white};
 use std::alloc::Global;
 
 // Whether an octet is a token of its own.
@@ -112,10 +112,33 @@ pub fn first_token(style: Style, text: &[u8]) -> Option<(TokenKind, &[u8])>
     None
 }
 
+// Whether the octets are UTF-8. Most are ASCII, and that is sooner seen. The baseline goes by comparisons, many octets
+// together: the shuffles of the other way are done octet by octet.
+fn is_utf8(text: &[u8]) -> bool
+    ensures { IsTrue result ↔ IsUtf8 text.now }
+{
+    is_ascii(text) || simdutf8::is_utf8_baseline(text)
+}
+
+// Whether each octet is above CR. It is told without a branch, so that many are looked at together.
+fn are_above_cr(text: &[u8]) -> bool
+    ensures { result ≡ list_all is_above_cr text.now }
+{
+    let mut lowest: u8 = 255;
+    for octet in text {
+        lowest = lowest.min(*octet);
+    }
+    b'\r' < lowest
+}
+
 // Whether no octet is NUL, CR or LF.
 fn are_line_octets(text: &[u8]) -> bool
     ensures { result ≡ list_all is_line_octet text.now }
 {
+    // most texts have no tab either
+    if are_above_cr(text) {
+        return true;
+    }
     text.iter().all(|octet| *octet > b'\r' || !matches!(*octet, 0 | b'\r' | b'\n'))
 }
 

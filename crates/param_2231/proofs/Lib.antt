@@ -19,3 +19,4 @@ pub mod SameOctets
 pub mod GlobalPlaces
 pub mod GlobalLemmas
 pub mod WrittenParamLemmas
+pub mod NoComments

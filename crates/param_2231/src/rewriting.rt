@@ -1,5 +1,6 @@
 //! The rewriting of parameters in ASCII.
 ghost use Rattle.std.specs.Prelude.{◌≡◌, ◌<◌, ◌++◌, ℕ, [], true, false, List, length, take, codes, IfOk, IfSome, IfNone, OnOk};
+ghost use Rattle.std.specs.List.{list_all};
 ghost use Rattle.std.specs.Str.{str_to_ascii_lowercase};
 ghost use Rattle.encoded_words.specs.Folding.{AddsLines};
 ghost use Rattle.field_tokens.specs.declared.Style.TheVariants.{Mime};
@@ -12,7 +13,7 @@ ghost use Rattle.param_grammar.specs.Placed.{HasPlaced};
 ghost use Rattle.param_grammar.specs.Places.{IsPlaced, piece_in};
 ghost use Rattle.param_2231.specs.Layout.{ParamPieces, PieceGives, PiecesGive, is_global as is_global_of, written_main as written_main_of, ParamsPieces};
 ghost use Rattle.param_2231.specs.ParamsReadBack.{AreParamsAgain};
-ghost use Rattle.param_2231.specs.private.Given.{is_ascii_role, SaysPlaced};
+ghost use Rattle.param_2231.specs.private.Given.{is_no_parenthesis, is_ascii_role, SaysPlaced};
 ghost use Rattle.param_2231.specs.private.Lines.{AddsAfter, line_after};
 
 use crate::writing::{begin_line, push_param};
@@ -124,11 +125,22 @@ fn push_all_given(
     Ok(())
 }
 
+// Whether no octet opens a comment.
+fn has_no_parenthesis(text: &[u8]) -> bool
+    ensures { result ≡ list_all is_no_parenthesis text.now }
+{
+    text.iter().all(|octet| *octet != b'(')
+}
+
 // Puts the pieces of the comments of a text last.
 fn push_comments(alloc: Global, text: &[u8], made: &mut Octets) -> Result<(), Memory>
     requires { (tokens : List TokenValue) × HasTokenValues Mime text.now tokens }
     ensures { (tokens : List TokenValue) → HasTokenValues Mime text.now tokens → OnOk result (AddsLines (CommentsPieces (comments_of tokens)) made.old made.new) }
 {
+    // most texts have no comments
+    if has_no_parenthesis(text) {
+        return Ok(());
+    }
     let Some(marks) = read_marks(alloc, Style::Mime, text)? else {
         unreachable!();
     };

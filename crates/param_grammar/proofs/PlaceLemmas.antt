@@ -19,7 +19,7 @@ use Rattle.param_grammar.specs.Joining.{decimal_value}
 use Rattle.param_grammar.specs.Names.{NameParts, HasNameParts, number_suffix, star_suffix}
 use Rattle.param_grammar.specs.Bodies.{is_mark_at, solid, is_first, SaysOctets, value_content, IsParameterOf, IsPieceOf, IsPiece}
 use Rattle.param_grammar.specs.Places.{span_of, base_span, IsPlaced, ArePlaced, piece_in}
-use Rattle.param_grammar.specs.private.Placing.{is_value, content_by, SaysSome, IsPieceBy, IsSides, IsValueAt}
+use Rattle.param_grammar.specs.private.Placing.{is_value, content_by, SaysSome, SaysThese, IsPieceBy, IsSides, IsValueAt}
 use Rattle.param_grammar.specs.private.Putting.{PlacesPiece}
 use Rattle.param_grammar.proofs.BodyLemmas.{SaysOctets-once, piece_made, piece_moved}
 use Rattle.param_grammar.proofs.NameLemmas.{HasNameParts-once}
@@ -43,6 +43,14 @@ pub not-IsPieceBy-octets : (name : List ℕ) (quoted : Bool) (value : List ℕ) 
 not-IsPieceBy-octets name quoted value p has none piece is =
     let parts = HasNameParts-once name is.parts p is.has_parts has in
     none piece.charset piece.octets (subst (λ (n : NameParts). SaysOctets n.is_extended (is_first n.number) (content_by quoted value) piece.charset piece.octets) parts is.says)
+
+pub says_as : (name : List ℕ) (quoted : Bool) (value : List ℕ) (p : NameParts) (charset octets : List ℕ) → HasNameParts name p
+    → SaysOctets p.is_extended (is_first p.number) (content_by quoted value) charset octets → SaysThese name quoted value charset octets
+says_as name quoted value p charset octets has says piece is =
+    let parts = HasNameParts-once name is.parts p is.has_parts has in
+    let moved : SaysOctets p.is_extended (is_first p.number) (content_by quoted value) piece.charset piece.octets =
+    subst (λ (n : NameParts). SaysOctets n.is_extended (is_first n.number) (content_by quoted value) piece.charset piece.octets) parts is.says in
+    SaysOctets-once p.is_extended (is_first p.number) (content_by quoted value) charset octets piece.charset piece.octets says moved
 
 -- what is not extended says its octets
 pub says_plain : (extended first : Bool) (content : List ℕ) → extended ≡ false → SaysSome extended first content

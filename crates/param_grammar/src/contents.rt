@@ -4,7 +4,7 @@ ghost use Rattle.std.specs.Option.{option_copied};
 ghost use Rattle.param_grammar.specs.declared.Piece.{Piece};
 ghost use Rattle.param_grammar.specs.declared.names.Name.{Name};
 ghost use Rattle.param_grammar.specs.Bodies.{inner as inner_of, unquoted as unquoted_of, is_first as is_first_of, SaysOctets};
-ghost use Rattle.param_grammar.specs.private.Placing.{content_by, IsPieceBy, SaysSome};
+ghost use Rattle.param_grammar.specs.private.Placing.{content_by, IsPieceBy, SaysThese, SaysSome};
 
 use crate::Piece;
 use crate::escapes::read_escaped;
@@ -52,7 +52,7 @@ fn first_unquoted(octets: &[u8]) -> (u8, &[u8])
 pub fn unquoted(alloc: Global, octets: &[u8]) -> Result<Octets, Memory>
     ensures { IfOk result (λ made. made ≡ unquoted_of octets.now) }
 {
-    let mut made = Octets::new(alloc);
+    let mut made = Octets::from_vec(Vec::with_capacity(alloc, octets.len())?);
     let mut rest = octets;
     while !rest.is_empty() {
         let (octet, after) = first_unquoted(rest);
@@ -157,6 +157,26 @@ fn written(alloc: Global, name: &[u8], value: &[u8]) -> Result<Octets, Memory>
     made.push(b'=')?;
     made.push_slice(value)?;
     Ok(made)
+}
+
+// The charset and the octets that a name and a value say.
+pub(crate) fn said_by(
+    alloc: Global,
+    name: &[u8],
+    value: &[u8],
+    is_quoted: bool,
+) -> Result<Option<(Octets, Octets)>, Memory>
+    ensures found { IfOk result (λ o. IfSome o (λ x. SaysThese name.now is_quoted value.now x.0 x.1)) }
+    ensures none { IfOk result (λ o. IfNone o ((piece : Piece) → ¬ IsPieceBy name.now is_quoted value.now piece)) }
+{
+    let Some(parts) = read_name(name) else {
+        return Ok(None);
+    };
+    let content = content(alloc, value, is_quoted)?;
+    let Some(said) = read_octets(alloc, parts.is_extended, is_first(parts.number), content)? else {
+        return Ok(None);
+    };
+    Ok(Some(said))
 }
 
 // The piece that a name and a value are.

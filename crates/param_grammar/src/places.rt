@@ -15,7 +15,7 @@ ghost use Rattle.param_grammar.specs.private.Placing.{IsSides};
 ghost use Rattle.param_grammar.specs.private.Putting.{PlacesPiece};
 
 use crate::Piece;
-use crate::contents::{piece_of, says_some};
+use crate::contents::{piece_of, said_by, says_some};
 use crate::names::read_name;
 use crate::tokens::{
     Tokens, is_atom, is_filled, is_mark, next_solid, octets_of, split_section, value_span,
@@ -191,6 +191,19 @@ pub fn piece_at(alloc: Global, text: &[u8], place: Place) -> Result<Piece, Memor
     let value = octets_of(text, place.value.span());
     match piece_of(alloc, name, value, place.is_quoted)? {
         Some(piece) => Ok(piece),
+        None => unreachable!(),
+    }
+}
+
+/// The charset and the octets of the piece at a place.
+pub(crate) fn said_at(alloc: Global, text: &[u8], place: Place) -> Result<(Octets, Octets), Memory>
+    requires { (piece : Piece) × IsPlaced text.now place piece }
+    ensures { (piece : Piece) → IsPlaced text.now place piece → IfOk result (λ x. (x.0 ≡ piece.charset) × (x.1 ≡ piece.octets)) }
+{
+    let name = octets_of(text, place.name.span());
+    let value = octets_of(text, place.value.span());
+    match said_by(alloc, name, value, place.is_quoted)? {
+        Some(said) => Ok(said),
         None => unreachable!(),
     }
 }

@@ -15,7 +15,7 @@ use crate::joining::{in_order, joined_unit};
 use crate::names_order::{
     Named, are_ascii, in_name_order, is_ascii, is_numbered, parts_among, run_of, split_run,
 };
-use crate::places::{Place, piece_at};
+use crate::places::{Place, said_at};
 use encoded_words::{Unit, lower_case};
 use mail_wire::{Memory, Octets};
 use std::alloc::Global;
@@ -191,9 +191,8 @@ fn whole_unit(alloc: Global, text: &[u8], place: Place) -> Result<Unit, Memory>
     requires { (piece : Piece) × IsPlaced text.now place piece }
     ensures { (piece : Piece) → IsPlaced text.now place piece → IfOk result (λ unit. value_of unit ≡ unit_value piece.charset piece.octets) }
 {
-    let piece = piece_at(alloc, text, place)?;
-    let octets = Octets::from_slice(alloc, piece.octets.as_slice())?;
-    unit_of(alloc, piece.charset.as_slice(), octets)
+    let (charset, octets) = said_at(alloc, text, place)?;
+    unit_of(alloc, charset.as_slice(), octets)
 }
 
 impl Placed {

@@ -34,9 +34,11 @@ pub(crate) fn touch(order: &mut Order, id: u32) -> Option<u32>
     ensures place { result ≡ lookup (nat_eq id) order.old.entries }
     ensures order { order.new ≡ lru_cache (promoted (nat_eq id) order.old.entries) order.old.cap }
 {
-    let place = order.peek(&id).copied();
+    let Some(place) = order.peek(&id).copied() else {
+        return None;
+    };
     order.promote(&id);
-    place
+    Some(place)
 }
 
 // The rope whose stored form is at this place.

@@ -85,6 +85,18 @@ said_content Special octets = octets
 abbrev pub content : TokenValue → List ℕ
 content t = said_content t.kind t.octets
 
+abbrev pub says_itself_kind : TokenKind → Bool
+says_itself_kind Atom = true
+says_itself_kind Literal = true
+says_itself_kind Special = true
+says_itself_kind Quoted = false
+says_itself_kind Gap = false
+says_itself_kind Comment = false
+
+-- what a token says is its octets
+abbrev pub says_itself : TokenValue → Bool
+says_itself t = says_itself_kind t.kind
+
 -- what tokens say, one after another
 abbrev pub contents : List TokenValue → List ℕ
 contents tokens = flat_map content tokens

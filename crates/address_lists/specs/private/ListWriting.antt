@@ -2,9 +2,10 @@
 use Rattle.std.specs.Prelude.{◌≡◌, ℕ, Bool, not, ◌&&◌, ◌||◌, List, [], ◌∷◌, ◌++◌, IsUtf8, true, false, if◌then◌else◌}
 use Rattle.std.specs.List.{AllByRecursion, list_all, list_any}
 use Rattle.mail_wire.specs.Octets.{is_ascii}
-use Rattle.encoded_words.specs.Words.{UnitValue}
+use Rattle.encoded_words.specs.Words.{UnitValue, IsEncodedWord}
 use Rattle.encoded_words.specs.PhraseUnits.{IsUtf8Item}
 use Rattle.encoded_words.specs.Written.{AreWritable}
+use Rattle.field_tokens.specs.declared.TokenKind.TheVariants.{Atom}
 use Rattle.field_tokens.specs.Tokens.{TokenValue}
 use Rattle.field_tokens.specs.Squeezed.{is_gap, octets_of, comments_of}
 use Rattle.field_tokens.specs.Comments.{AreWritableComments, CommentsPieces}
@@ -35,6 +36,11 @@ pub record IsWritableMailbox (m : MailboxValue) : Type 0 where
 
 abbrev pub AreWritableMailboxes : List MailboxValue → Type 0
 AreWritableMailboxes ms = AllByRecursion IsWritableMailbox ms
+
+-- the tokens are one atom, which is no encoded word
+pub record IsPlainWord (tokens : List TokenValue) (word : List ℕ) : Type 0 where
+  pub one : tokens ≡ record { kind = Atom; octets = word } ∷ []
+  pub plain : (unit : UnitValue) → ¬ IsEncodedWord word unit
 
 -- ---- pieces
 

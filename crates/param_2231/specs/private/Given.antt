@@ -1,5 +1,6 @@
 -- What is told of a text that is rewritten.
-use Rattle.std.specs.Prelude.{ℕ, Bool, List}
+use Rattle.std.specs.Prelude.{ℕ, ◌==◌, Bool, not, List}
+use Rattle.mail_wire.specs.Characters.{left_parenthesis}
 use Rattle.field_tokens.specs.declared.Style.TheVariants.{Mime}
 use Rattle.field_tokens.specs.declared.Token.{Token}
 use Rattle.field_tokens.specs.Tokens.{HasTokens}
@@ -15,6 +16,10 @@ use Rattle.param_grammar.specs.Placed.{HasPlaced}
 abbrev pub is_ascii_role : Role → Bool
 is_ascii_role (GoesOn is_ascii) = is_ascii
 is_ascii_role (Begins is_ascii doubled) = is_ascii
+
+-- the octet opens no comment
+abbrev pub is_no_parenthesis : ℕ → Bool
+is_no_parenthesis x = not (x == left_parenthesis)
 
 -- The text has parameters and a main part, which is written so, and these are the places of its pieces.
 pub record SaysPlaced (kind : ParamKind) (text written : List ℕ) (placed : Placed) : Type 0 where

@@ -44,3 +44,7 @@ pub record IsPieceBy (name : List ℕ) (quoted : Bool) (value : List ℕ) (piece
   pub base_is : piece.base ≡ str_to_ascii_lowercase parts.base
   pub number_is : piece.number ≡ parts.number
   pub written_is : piece.written ≡ name ++ 61 ∷ value
+
+-- what a piece says of this name and this value
+abbrev pub SaysThese : List ℕ → Bool → List ℕ → List ℕ → List ℕ → Type 0
+SaysThese name quoted value charset octets = (piece : Piece) → IsPieceBy name quoted value piece → (charset ≡ piece.charset) × (octets ≡ piece.octets)

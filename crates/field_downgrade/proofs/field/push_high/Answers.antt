@@ -14,7 +14,7 @@ pub push_structured-requires : goal.push_structured-requires
 push_structured-requires c =
     let can = CanRewrite-structured c.args.raw.now (parts_value c.split_field-parts.result) c.split_field-parts.ensures c.requires.field c.requires.high
     (iff_false c.keeps_words.ensures c.if-keeps_words.false) in
-    record { other = can.other; folded = can.folded; utf8 = can.utf8; high = can.high }
+    record { kind = c.kind_of-kind.ensures; other = can.other; folded = can.folded; utf8 = can.utf8; high = can.high }
 
 pub returns-else-keeps_words : goal.returns-else-keeps_words
 returns-else-keeps_words c =

@@ -6,9 +6,9 @@ use Rattle.field_downgrade.proofs.structured.push_pieces.Goals as goal
 pub returns-then-not-branch : goal.returns-then-not-branch
 returns-then-not-branch c =
     puts_none c.args.open_global (parts_value c.args.parts.now) c.args.value.now c.args.made.now c.push.new.self c.write_value.new.made (c.in_ok-push.ensures.ok ∙ rw c.in_ok-push_slice.ensures.ok refl)
-    (rw (c.kind_of.ensures, c.if-not-branch.true) at c.in_ok-write_value.ensures)
+    (rw (c.requires, c.if-not-branch.true) at c.in_ok-write_value.ensures)
 
 pub returns : goal.returns
 returns c =
     puts_pieces c.args.open_global (parts_value c.args.parts.now) c.args.value.now c.args.made.now c.push.new.self c.write_value.new.made c.push_slice-2.new.self
-    (c.in_ok-push.ensures.ok ∙ rw c.in_ok-push_slice.ensures.ok refl) (rw (c.kind_of.ensures, c.if-not-branch.false) at c.in_ok-write_value.ensures) c.in_ok-push_slice-2.ensures.ok
+    (c.in_ok-push.ensures.ok ∙ rw c.in_ok-push_slice.ensures.ok refl) (rw (c.requires, c.if-not-branch.false) at c.in_ok-write_value.ensures) c.in_ok-push_slice-2.ensures.ok
