@@ -23,6 +23,10 @@ pub after_put : (old : List ℕ) (texts : List (List ℕ)) (next made new : List
 after_put old texts next made new e put =
     put ∙ one_after made next ∙ ap (λ m. m ++ after_spaces (next ∷ [])) e ∙ append_assoc old (after_spaces texts) (after_spaces (next ∷ [])) ∙ ap (λ r. old ++ r) (after_append texts (next ∷ []))
 
+-- the same, where the space was put before it
+pub after_put-apart : (old : List ℕ) (texts : List (List ℕ)) (next made between new : List ℕ) → made ≡ old ++ after_spaces texts → between ≡ made ++ 32 ∷ [] → new ≡ between ++ next → new ≡ old ++ after_spaces (texts ++ next ∷ [])
+after_put-apart old texts next made between new e apart put = after_put old texts next made new e (put ∙ ap (λ m. m ++ next) apart ∙ append_assoc made (32 ∷ []) next)
+
 pub spaced_one : (old text made : List ℕ) → made ≡ old ++ text → made ≡ old ++ spaced (text ∷ [])
 unfolding spaced
 spaced_one old text made e = e

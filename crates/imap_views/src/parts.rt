@@ -3,7 +3,7 @@ ghost use Rattle.std.specs.Prelude.{◌≡◌, ◌++◌, ◌∷◌, codes, IfOk,
 ghost use Rattle.mime_tree.specs.Openings.{IsFirstValue};
 ghost use Rattle.imap_views.specs.Parts.{IsByFirst, IsDispositionBy, IsEncodingBy, IsTypeBy, SaysPart, main_type, sub_type};
 ghost use Rattle.imap_views.specs.Structures.{basic_words};
-ghost use Rattle.imap_views.specs.private.Reading.{IsRead, part_value, raws_in};
+ghost use Rattle.imap_views.specs.private.Reading.{IsRead, other_words, part_value, raws_in};
 
 use crate::headers::Header;
 use crate::params::{disposition_of, encoding_of, type_of};
@@ -96,6 +96,18 @@ pub fn push_sub_type(made: &mut Octets, main: &[u8]) -> Result<(), Memory>
     push_quoted_string(made, sub)
 }
 
+// Puts id, description and encoding last, each after a space.
+fn push_other_words(made: &mut Octets, part: &PartWords) -> Result<(), Memory>
+    ensures { OnOk result (made.new ≡ made.old ++ other_words (part_value part.now)) }
+{
+    made.push(b' ')?;
+    push_nstring(made, slice_of(&part.id))?;
+    made.push(b' ')?;
+    push_nstring(made, slice_of(&part.description))?;
+    made.push(b' ')?;
+    push_quoted_string(made, part.encoding.as_slice())
+}
+
 /// Puts type, subtype, parameters, id, description, encoding and size last.
 pub fn push_basic_words(
     alloc: Global,
@@ -109,12 +121,7 @@ pub fn push_basic_words(
     made.push(b' ')?;
     push_sub_type(made, part.main.as_slice())?;
     push_after_space(made, part.params.as_slice())?;
-    made.push(b' ')?;
-    push_nstring(made, slice_of(&part.id))?;
-    made.push(b' ')?;
-    push_nstring(made, slice_of(&part.description))?;
-    made.push(b' ')?;
-    push_quoted_string(made, part.encoding.as_slice())?;
+    push_other_words(made, part)?;
     made.push(b' ')?;
     push_number(alloc, made, size)
 }

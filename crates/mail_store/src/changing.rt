@@ -210,25 +210,27 @@ impl Store {
         ensures untouched { IfErr result (LeavesKeeper (J.observed keeper.old) (J.observed keeper.new)) }
     {
         let made = self.new_account(address, password)?;
-        self.put_new_account(keeper, made)
+        let own = made.own;
+        self.put_new_account(keeper, &made.named, own)
     }
 
     // Puts an account last that isn't refused, and writes it.
     fn put_new_account<J: Keeper>(
         &mut self,
         keeper: &mut J,
-        made: NewAccount,
+        named: &Named,
+        own: Account,
     ) -> Result<u32, StoreFault>
-        requires { IsNewAccount self.old made.named.name made.named.number made.named.text made.own }
+        requires { IsNewAccount self.old named.now.name named.now.number named.now.text own }
         ensures changes { Changes self.old self.new (J.observed keeper.old).octets (J.observed keeper.new).octets result
-            (records.Account made.own.address made.own.password ∷ []) }
+            (records.Account own.address own.password ∷ []) }
         ensures number { IfOk result (λ account. account ≡ length self.old.kept.accounts) }
         ensures refusal { IsRefusedAs result None }
         ensures cause { HasKeeperCause (J.observed keeper.old) (J.observed keeper.new) result StoreFault.Keeper }
         ensures once { OnOk result ((J.observed keeper.new).appends ≡ one_more (J.observed keeper.old).appends) }
         ensures untouched { IfErr result (LeavesKeeper (J.observed keeper.old) (J.observed keeper.new)) }
     {
-        let account = made.named.number;
+        let account = named.number;
         let inbox = reserve_account(
             self.alloc,
             &mut self.accounts,
@@ -240,7 +242,7 @@ impl Store {
             self.alloc,
             keeper,
             &mut self.mailboxes,
-            &made.named,
+            named,
             &mut self.progress,
         )?;
         put_account(
@@ -248,7 +250,7 @@ impl Store {
             &mut self.folders,
             &mut self.contents,
             &mut self.inboxes,
-            made.own,
+            own,
             inbox,
         );
         Ok(account)

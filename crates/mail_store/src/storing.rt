@@ -4,7 +4,7 @@ ghost use Rattle.std.specs.List.{All};
 ghost use Rattle.address_grammar.specs.Paths.{ComesInPath};
 ghost use Rattle.kept_mail.specs.declared.limits.TheConstants.{MESSAGE_MAX, THINGS_MAX};
 ghost use Rattle.journal_records.specs.declared.records.Record.TheVariants as records;
-ghost use Rattle.mail_store.specs.private.Adding.{AddsRecord, IsKeyed, lengthened, marked};
+ghost use Rattle.mail_store.specs.private.Adding.{AddsRecord, IsKeyed, IsFolderKeyed, lengthened, marked};
 ghost use Rattle.journal_records.specs.Addresses.{WithPaths};
 ghost use Rattle.kept_mail.specs.Kept.{nothing, inbox_of, uid_next, listed, logged_in, find_account, is_local, name_of};
 ghost use Rattle.kept_mail.specs.Records.{IsInOrder};
@@ -170,17 +170,24 @@ impl Store {
         Ok(())
     }
 
+    // What the folder of a record is known by, or that it is none.
+    fn recorded_folder_key(&self, account: u32, name: &[u8]) -> Result<Octets, ReadFault>
+        ensures { IsFolderKeyed result self.now.kept account name.now }
+    {
+        if account as usize >= self.accounts.len()
+            || !has_room(self.folders.len())
+            || !is_folder_name(self.alloc, name)?
+        {
+            return Err(ReadFault::NoRecord);
+        }
+        Ok(folder_key(self.alloc, account, name)?)
+    }
+
     // The record of a folder is put last.
     fn add_folder_record(&mut self, account: u32, name: Octets) -> Result<(), ReadFault>
         ensures { AddsRecord self.old self.new result (records.Folder account name) }
     {
-        if account as usize >= self.accounts.len()
-            || !has_room(self.folders.len())
-            || !is_folder_name(self.alloc, name.as_slice())?
-        {
-            return Err(ReadFault::NoRecord);
-        }
-        let key = folder_key(self.alloc, account, name.as_slice())?;
+        let key = self.recorded_folder_key(account, name.as_slice())?;
         let number = self.folders.len();
         reserve_folder(&mut self.folders, &mut self.contents)?;
         put_first(self.alloc, &mut self.names, key.as_slice(), number as u32)?;

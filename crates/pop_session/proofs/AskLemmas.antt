@@ -133,6 +133,15 @@ asks_lost a b result met asked others is asks = rw is (record { wire = asks.wire
 pub keeps_lost : {T : Type 0} (a b : Around) (result : Result T Memory) → wanting result ≡ Some fault.Memory → Keeps a b None → Keeps a b (wanting result)
 keeps_lost a b result is keeps = rw is (Keeps-memory a b keeps)
 
+-- what comes last may want memory
+pub asks_ended : {T : Type 0} (a b : Around) (result : Result T Memory) (asked : List Asked) → Asks a b None asked → Asks a b (wanting result) asked
+asks_ended a b (Ok x) asked asks = asks
+asks_ended a b (Err memory) asked asks = record { wire = asks.wire; store = asks.store; keeper = asks.keeper; fetched = λ whole. cc }
+
+pub keeps_ended : {T : Type 0} (a b : Around) (result : Result T Memory) → Keeps a b None → Keeps a b (wanting result)
+keeps_ended a b (Ok x) keeps = keeps
+keeps_ended a b (Err memory) keeps = Keeps-memory a b keeps
+
 -- ---- the messages of a maildrop are there
 
 live_within : (messages : List Message) (id : ℕ) (found : Option Message) → slice_get messages id ≡ found → IsLive found → id < length messages

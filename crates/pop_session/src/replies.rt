@@ -85,6 +85,14 @@ fn push_listing<V: View, W: Wire, J: Keeper, C: Clock>(
     Ok(())
 }
 
+// The text with the line last that ends a listing.
+fn ended(mut text: String) -> Result<String, Memory>
+    ensures { IfOk result (λ whole. string_bytes whole ≡ string_bytes text ++ codes ".\r\n") }
+{
+    text.push_str(".\r\n")?;
+    Ok(text)
+}
+
 /// A line for each message that isn't marked, with its size.
 pub fn list<V: View, W: Wire, J: Keeper, C: Clock>(
     maildrop: &[MaildropMessage],
@@ -103,8 +111,7 @@ pub fn list<V: View, W: Wire, J: Keeper, C: Clock>(
             push_listing::<V, W, J, C>(&mut text, place + 1, &one.listed, outside)?;
         }
     }
-    text.push_str(".\r\n")?;
-    Ok(text)
+    ended(text)
 }
 
 /// A line for each message that isn't marked, with its UID.

@@ -177,6 +177,54 @@ fn give_top<V: Kind, W: Wire, J: Keeper, C: Clock>(
     }
 }
 
+// The replies of TRANSACTION that leave the state, to a command without an argument.
+fn give_bare<V: Kind, W: Wire, J: Keeper, C: Clock>(
+    keyword: Keyword,
+    maildrop: &[MaildropMessage],
+    outside: &mut Outside<W, J, C>,
+) -> Result<(), Fault>
+    requires opens { IsOpen outside.old.desk }
+    requires known { Knows outside.old.desk.store maildrop.now }
+    ensures replies { WithOracles (λ oracles. AsksAndReplies outside.old outside.new (fault_of result)
+        (transaction_asks V.mode maildrop.now outside.old.desk.store keyword None)
+        (reply_octets oracles (transaction_reply oracles V.mode maildrop.now outside.old.desk.store keyword None))) }
+    ensures keeps { Keeps outside.old outside.new (fault_of result) }
+{
+    match keyword {
+        Keyword::User | Keyword::Pass | Keyword::Utf8 => outside.give(OUT_OF_ORDER),
+        Keyword::Capa => outside.give(CAPABILITIES),
+        Keyword::Noop => outside.give(DONE),
+        Keyword::Stat | Keyword::List | Keyword::Uidl => {
+            give_of_maildrop::<V, W, J, C>(keyword, maildrop, outside)
+        }
+        _ => outside.give(SYNTAX),
+    }
+}
+
+// Those to a command with an argument.
+fn give_by_argument<V: Kind, W: Wire, J: Keeper, C: Clock>(
+    keyword: Keyword,
+    text: &[u8],
+    maildrop: &[MaildropMessage],
+    outside: &mut Outside<W, J, C>,
+) -> Result<(), Fault>
+    requires opens { IsOpen outside.old.desk }
+    requires known { Knows outside.old.desk.store maildrop.now }
+    ensures replies { WithOracles (λ oracles. AsksAndReplies outside.old outside.new (fault_of result)
+        (transaction_asks V.mode maildrop.now outside.old.desk.store keyword (Some text.now))
+        (reply_octets oracles (transaction_reply oracles V.mode maildrop.now outside.old.desk.store keyword (Some text.now)))) }
+    ensures keeps { Keeps outside.old outside.new (fault_of result) }
+{
+    match keyword {
+        Keyword::User | Keyword::Pass | Keyword::Utf8 => outside.give(OUT_OF_ORDER),
+        Keyword::List | Keyword::Uidl | Keyword::Retr => {
+            give_of_message::<V, W, J, C>(keyword, text, maildrop, outside)
+        }
+        Keyword::Top => give_top::<V, W, J, C>(text, maildrop, outside),
+        _ => outside.give(SYNTAX),
+    }
+}
+
 // The replies of TRANSACTION that leave the state.
 fn give_reply<V: Kind, W: Wire, J: Keeper, C: Clock>(
     maildrop: &[MaildropMessage],
@@ -190,18 +238,9 @@ fn give_reply<V: Kind, W: Wire, J: Keeper, C: Clock>(
         (reply_octets oracles (transaction_reply oracles V.mode maildrop.now outside.old.desk.store command.entry.keyword (option_copied command.entry.argument)))) }
     ensures keeps { Keeps outside.old outside.new (fault_of result) }
 {
-    match (command.keyword, command.argument) {
-        (Keyword::User | Keyword::Pass | Keyword::Utf8, _) => outside.give(OUT_OF_ORDER),
-        (Keyword::Capa, None) => outside.give(CAPABILITIES),
-        (Keyword::Noop, None) => outside.give(DONE),
-        (Keyword::Stat | Keyword::List | Keyword::Uidl, None) => {
-            give_of_maildrop::<V, W, J, C>(command.keyword, maildrop, outside)
-        }
-        (Keyword::List | Keyword::Uidl | Keyword::Retr, Some(text)) => {
-            give_of_message::<V, W, J, C>(command.keyword, text, maildrop, outside)
-        }
-        (Keyword::Top, Some(text)) => give_top::<V, W, J, C>(text, maildrop, outside),
-        _ => outside.give(SYNTAX),
+    match command.argument {
+        Some(text) => give_by_argument::<V, W, J, C>(command.keyword, text, maildrop, outside),
+        None => give_bare::<V, W, J, C>(command.keyword, maildrop, outside),
     }
 }
 

@@ -8,6 +8,7 @@ use Rattle.session_core.proofs.TurnsLemmas.{all_turns-go}
 use Rattle.session_core.specs.Acts.{Act}
 use Rattle.session_core.specs.Around.{Around}
 use Rattle.session_core.specs.Doing.{DoesAll, DoesFirst}
+use Rattle.session_core.specs.Grammar.{Grammar, Answers, StandingRows}
 use Rattle.session_core.specs.Oracles.{Oracles}
 use Rattle.session_core.specs.Moments.{Moment, IsTold}
 use Rattle.session_core.specs.Protocol.{Protocol}
@@ -66,4 +67,11 @@ Steps-stop protocol stands a machine kept keeps piece met fine = record {
     does = DoesFirst-none (protocol.spelled oracles) a met [] fine;
     stays = tt;
   };
+}
+
+pub Answers-stop : (grammar : Grammar) {R : Type 0} (stands : StandingRows grammar R) (a : Around) (rows : R) (unit : List ℕ) (met : Fault) → (met ≡ fault.Keeper → ⊥) → Answers grammar stands a a rows unit (Err met)
+Answers-stop grammar stands a rows unit met fine = record {
+  told = [];
+  are_told = All-nil (IsTold a.clock);
+  answers = λ oracles are more state has. record { does = DoesFirst-none (grammar.spelled oracles) a met (grammar.row oracles state unit).acts fine; next = tt };
 }

@@ -109,12 +109,14 @@ fn caught_up<J: Keeper>(
     let mut desk = desk;
     match desk.catch_up(keeper) {
         Ok(()) => Ok(desk),
-        Err(OpenFault::BadJournal { .. }) => {
+        Err(fault) => {
             drop(desk);
-            open_desk(alloc, keeper, limits)
+            match fault {
+                OpenFault::BadJournal { .. } => open_desk(alloc, keeper, limits),
+                OpenFault::Keeper => Err(OpenFault::Keeper),
+                OpenFault::Memory => Err(OpenFault::Memory),
+            }
         }
-        Err(OpenFault::Keeper) => Err(OpenFault::Keeper),
-        Err(OpenFault::Memory) => Err(OpenFault::Memory),
     }
 }
 

@@ -1,5 +1,5 @@
 //! The usual machine: it reads lines and blocks of octets, and a protocol gives its rows alone.
-ghost use Rattle.std.specs.Prelude.{◌≡◌, ◌<◌, ◌≤◌, ◌++◌, ℕ, List, Option, Some, None, IfOk, IfSome, length, []};
+ghost use Rattle.std.specs.Prelude.{◌≡◌, ◌<◌, ◌≤◌, ◌++◌, ℕ, List, Option, Some, None, IfOk, OnOk, IfSome, length, []};
 ghost use Rattle.mail_wire.specs.Framing.{waiting, framed_as, ends_in};
 ghost use Rattle.session_core.specs.declared.desk.Desk.{Desk as DeskValue};
 ghost use Rattle.session_core.specs.declared.rows.Wants.{Wants as Wanted};
@@ -125,6 +125,27 @@ fn advance_of<R: Rows>(next: Option<R>, used: usize) -> Advance<Framed<R>>
     }
 }
 
+// Puts octets last that end a unit, and does the acts of its row. Nothing is kept then.
+fn answer_unit<R: Rows, W: Wire, J: Keeper, C: Clock>(
+    rows: R,
+    kept: &mut Octets,
+    front: &[u8],
+    outside: &mut Outside<W, J, C>,
+) -> Result<Option<R>, Fault>
+    requires opens { IsOpen outside.old.desk }
+    requires knows { R.knows rows outside.old.desk }
+    requires unit { IsUnit (R.wanted rows) (kept.old ++ front.now) }
+    ensures answers { Answers R.grammar R.stands outside.old outside.new rows (kept.old ++ front.now) result }
+    ensures known { IfOk result (λ next. IfSome next (λ rows. R.knows rows outside.new.desk)) }
+    ensures cleared { OnOk result (kept.new ≡ []) }
+    ensures keeps { Keeps outside.old outside.new (fault_of result) }
+{
+    kept.push_slice(front)?;
+    let next = rows.answer(kept.as_slice(), outside)?;
+    kept.clear();
+    Ok(next)
+}
+
 impl<R: Rows> Machine for Framed<R> {
     ghost protocol = { protocol_of R.grammar };
 
@@ -146,9 +167,7 @@ impl<R: Rows> Machine for Framed<R> {
         match find_unit(self.rows.wants(), kept.as_slice(), piece) {
             FoundLine::Whole(used) => {
                 let (front, _) = piece.split_at(used);
-                kept.push_slice(front)?;
-                let next = self.rows.answer(kept.as_slice(), outside)?;
-                kept.clear();
+                let next = answer_unit(self.rows, kept, front, outside)?;
                 Ok(advance_of(next, used))
             }
             FoundLine::TooLong => {

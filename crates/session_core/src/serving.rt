@@ -57,7 +57,7 @@ fn take_and_feed<M: Machine, W: Wire, J: Keeper, C: Clock>(
 
 // Serves a session that has begun, until it has taken so many octets. Whether it or its input ended before.
 fn serve_begun<M: Machine, W: Wire, J: Keeper, C: Clock>(
-    session: Session<M>,
+    mut session: Session<M>,
     max: u64,
     outside: &mut Outside<W, J, C>,
 ) -> Result<bool, Fault>
@@ -69,7 +69,6 @@ fn serve_begun<M: Machine, W: Wire, J: Keeper, C: Clock>(
         → ServesBy M.protocol start outside.new (served_of result) }
     ensures keeps { Keeps outside.old outside.new (fault_of result) }
 {
-    let mut session = session;
     let mut piece = [0; PIECE];
     let mut taken: u64 = 0;
     while taken < max {

@@ -43,29 +43,39 @@ const COMMANDS: [(&str, &str); 11] = [
     ("help", "Give this text"),
 ];
 
-// The command of which the others are subcommands.
-fn all_commands<'a>(alloc: Global) -> Result<Command<'a>, Memory> {
-    let mut all = Command::new(alloc, "dervlask")
+// The program, as yet without its commands.
+fn program<'a>(alloc: Global) -> Command<'a> {
+    Command::new(alloc, "dervlask")
         .version(VERSION)
         .about("A mail server over standard input and output, or over a port")
         .override_usage("dervlask COMMAND [WORDS]")
         .after_help("License: Apache-2.0 OR MIT")
         .disable_version_flag(true)
         .disable_help_flag(true)
-        .disable_help_subcommand(true);
+        .disable_help_subcommand(true)
+}
+
+// The command of which the others are subcommands.
+fn all_commands<'a>(alloc: Global) -> Result<Command<'a>, Memory> {
+    let mut all = program(alloc);
     for (name, does) in COMMANDS {
         all = all.subcommand(Command::new(alloc, name).about(does))?;
     }
     Ok(all)
 }
 
-// The text of `help`: a line with the version, and then the commands.
-fn help_text(alloc: Global) -> Result<String, Memory> {
-    let mut all = all_commands(alloc)?;
+// A line with the version, and then the commands.
+fn described(all: &mut Command) -> Result<String, Memory> {
     let help = all.render_help()?;
     let mut text = all.render_version()?;
     text.push_str(help.as_str())?;
     Ok(text)
+}
+
+// The text of `help`.
+fn help_text(alloc: Global) -> Result<String, Memory> {
+    let mut all = all_commands(alloc)?;
+    described(&mut all)
 }
 
 /// Gives the text of `help`, which begins with the version.

@@ -1,12 +1,12 @@
 //! Makes the surrogate of a message, block by block.
-ghost use Rattle.std.specs.Prelude.{◌↔◌, ◌≡◌, ◌+◌, ◌-◌, ◌^◌, ◌<◌, ◌≤◌, length, slice_range, IfOk, OnOk, IsTrue};
+ghost use Rattle.std.specs.Prelude.{◌↔◌, ◌≡◌, ◌+◌, ◌-◌, ◌^◌, ◌<◌, ◌≤◌, ◌++◌, ◌∷◌, [], length, slice_range, IfOk, OnOk, IsTrue};
 ghost use Rattle.utf8_fields.specs.Parts.{IsField};
 ghost use Rattle.field_downgrade.specs.Message.{IsServedField};
 ghost use Rattle.mime_tree.specs.Openings.{AreFieldsWithin, AreFieldsJoined};
 ghost use Rattle.mime_tree.specs.Tree.{HasTree, raws_of};
 ghost use Rattle.surrogate_rope.specs.Layout.{IsOpenGlobal, InEntity};
 ghost use Rattle.surrogate_rope.specs.Ropes.{size_of, range_size};
-ghost use Rattle.surrogate_rope.specs.private.Building.{ReachesPlace, written, with_kept, AddsField, AddsBlock, IsAllMade};
+ghost use Rattle.surrogate_rope.specs.private.Building.{ReachesPlace, written, with_kept, end_at, AddsField, AddsBlock, IsAllMade};
 
 use crate::moving::End;
 use crate::pieces::Pieces;
@@ -115,6 +115,29 @@ impl Made {
         Ok(())
     }
 
+    // The same, and puts last where the block ends.
+    fn push_entity(
+        &mut self,
+        alloc: Global,
+        msg: &[u8],
+        entity: &Entity,
+        ends: &mut Vec<End>,
+    ) -> Result<(), Memory>
+        requires within { AreFieldsWithin msg.now entity.now.block.fields }
+        requires joined { AreFieldsJoined entity.now.at entity.now.block.fields entity.now.block.end }
+        requires stands { ReachesPlace msg.now entity.now.at self.old }
+        ensures stands { OnOk result (ReachesPlace msg.now entity.now.block.end self.new) }
+        ensures adds { OnOk result (AddsBlock (InEntity IsServedField msg.now entity.now) (raws_of msg.now entity.now.block)
+            (written msg.now entity.now.at self.old) (written msg.now entity.now.block.end self.new)) }
+        ensures ends { OnOk result (ends.new.items ≡ ends.old.items ++ end_at entity.now.block.end self.new ∷ []) }
+    {
+        let at = entity.block.end;
+        self.push_block(alloc, msg, entity)?;
+        let made = self.place(at);
+        ends.push(End { at, made })?;
+        Ok(())
+    }
+
     // Where this place of the message is in the surrogate.
     fn place(&self, at: usize) -> usize
         requires from { self.now.from ≤ at }
@@ -137,11 +160,7 @@ pub fn make_pieces(alloc: Global, msg: &[u8], tree: &Tree) -> Result<(Made, Vec<
     };
     let mut ends = Vec::with_capacity(alloc, tree.entities.len())?;
     for entity in tree.entities.as_slice() {
-        made.push_block(alloc, msg, entity)?;
-        ends.push(End {
-            at: entity.block.end,
-            made: made.place(entity.block.end),
-        })?;
+        made.push_entity(alloc, msg, entity, &mut ends)?;
     }
     made.put_kept(msg.len())?;
     Ok((made, ends))

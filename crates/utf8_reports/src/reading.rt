@@ -100,7 +100,9 @@ fn read_failed(alloc: Global, heading: &Heading<'_>) -> Result<Option<FailedReci
         → IfOk result (λ o. IsSomeAnd o (λ found. found ≡ failed)) }
 {
     let front = status_heading(alloc, heading.global, heading.name)?;
-    let Some(fields) = following(heading.rest, front.as_slice()) else {
+    let after_front = following(heading.rest, front.as_slice());
+    drop(front);
+    let Some(fields) = after_front else {
         return Ok(None);
     };
     let Some((failed, rest)) = read_recipients(alloc, fields, heading.global)? else {

@@ -6,8 +6,9 @@ ghost use Rattle.mime_tree.specs.declared.entity.Entity.{Entity};
 ghost use Rattle.mime_tree.specs.Tree.{HasTree};
 ghost use Rattle.utf8_reports.specs.Destinations.{is_global};
 ghost use Rattle.utf8_reports.specs.Reports.{IsFailure, IsReportOn, fixed_lines, heading, status_type as status_type_of, status_heading, header_type as header_type_of, header_heading, header_part};
+ghost use Rattle.utf8_reports.specs.private.Writing.{report_text};
 
-use crate::destinations::destination_of;
+use crate::destinations::{Destination, destination_of};
 use crate::failure::Failure;
 use crate::fields::{push_field, push_line};
 use crate::recipients::push_recipients;
@@ -92,6 +93,25 @@ fn push_header_part(made: &mut Octets, global: bool, header: &[u8]) -> Result<()
     push_line(made, b"--report--")
 }
 
+// Puts a report to this destination last, of this date, that returns this header.
+fn push_report(
+    alloc: Global,
+    made: &mut Octets,
+    failure: &Failure,
+    to: &Destination,
+    date: &[u8],
+    header: &[u8],
+) -> Result<(), Memory>
+    requires { IsFailure failure.now }
+    ensures { OnOk result (made.new ≡ made.old ++ report_text failure.now to.now.text to.now.global date.now header.now) }
+{
+    let name = failure.name.as_slice();
+    push_heading(made, name, to.text.as_slice(), date)?;
+    push_status_heading(made, to.global, name)?;
+    push_recipients(alloc, made, failure.failed.as_slice(), to.global)?;
+    push_header_part(made, to.global, header)
+}
+
 /// The report of a failure to deliver a message, whose tree this is. It is in ASCII unless the path can't be.
 pub fn make_report(
     alloc: Global,
@@ -108,11 +128,14 @@ pub fn make_report(
     let to = destination_of(alloc, &failure.path)?;
     let date = date_text(alloc, failure.seconds)?;
     let header = shown_header(alloc, msg, tree, to.global)?;
-    let name = failure.name.as_slice();
     let mut made = Octets::new(alloc);
-    push_heading(&mut made, name, to.text.as_slice(), date.as_slice())?;
-    push_status_heading(&mut made, to.global, name)?;
-    push_recipients(alloc, &mut made, failure.failed.as_slice(), to.global)?;
-    push_header_part(&mut made, to.global, header.as_slice())?;
+    push_report(
+        alloc,
+        &mut made,
+        failure,
+        &to,
+        date.as_slice(),
+        header.as_slice(),
+    )?;
     Ok(made)
 }

@@ -7,6 +7,7 @@ use Rattle.mime_tree.specs.declared.entity.Shape.{Shape}
 use Rattle.mime_tree.specs.declared.entity.Shape.TheVariants.{Leaf, Multipart, Message}
 use Rattle.mime_tree.specs.Outlines.{Outline}
 use Rattle.mime_tree.specs.Sections.{children_from}
+use Rattle.address_grammar.specs.Addresses.{quoted_string}
 use Rattle.surrogate_rope.specs.Served.{IsShownOf, seen_outline, shown_octets, shown_outlines}
 use Rattle.imap_views.specs.declared.headers.Header.{Header}
 use Rattle.imap_views.specs.declared.parts.PartWords.{PartWords}
@@ -14,6 +15,7 @@ use Rattle.imap_views.specs.declared.structures.Seeing.{Seeing}
 use Rattle.imap_views.specs.Envelopes.{AreAddressesOf, AreAddressesOr}
 use Rattle.imap_views.specs.Fields.{HasSomeBlock}
 use Rattle.imap_views.specs.Parts.{PartValue}
+use Rattle.imap_views.specs.Strings.{nstring}
 use Rattle.imap_views.specs.Structures.{Seen, after_spaces, header_at}
 
 -- the header was read: its block is that of its octets
@@ -73,6 +75,10 @@ goes_on_counting is_after_cr (x ∷ rest) = if is_after_cr && x == 10 then suc (
 -- a set that has these names, and no others, in lower case
 abbrev pub HoldsNames : List (List ℕ) → (List ℕ → Bool) → Type 0
 HoldsNames asked has = (name : List ℕ) → has name ≡ list_any (λ one. bytes_eq name (str_to_ascii_lowercase one)) asked
+
+-- a part's id, description and encoding, each after a space
+abbrev pub other_words : PartValue → List ℕ
+other_words part = after_spaces (nstring part.id ∷ nstring part.description ∷ quoted_string part.encoding ∷ [])
 
 -- new is old with a space after it, and then a text of which this holds
 abbrev pub AddsAfterSpace : (List ℕ → Type 0) → List ℕ → List ℕ → Type 0

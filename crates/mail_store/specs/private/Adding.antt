@@ -8,6 +8,7 @@ use Rattle.journal_records.specs.declared.records.Record.TheVariants as records
 use Rattle.journal_records.specs.Addresses.{IsTextOfAddress, mailbox_key}
 use Rattle.kept_mail.specs.Kept.{Kept, after_record, after_all}
 use Rattle.kept_mail.specs.Records.{IsInOrder, IsRecord}
+use Rattle.kept_mail.specs.private.Names.{folder_key}
 use Rattle.journal_records.specs.Spelling.{fields_of}
 use Rattle.mail_store.specs.StoreState.{StoreState, with_records}
 
@@ -43,6 +44,12 @@ abbrev pub IsKeyed : Result (List ℕ) ReadFault → Kept → List ℕ → List 
 IsKeyed (Ok key) kept address password = HasKey kept address password key
 IsKeyed (Err Memory) kept address password = Unit {0}
 IsKeyed (Err NoRecord) kept address password = ¬ IsInOrder kept (records.Account address password)
+
+-- the same of a folder
+abbrev pub IsFolderKeyed : Result (List ℕ) ReadFault → Kept → ℕ → List ℕ → Type 0
+IsFolderKeyed (Ok key) kept account name = IsInOrder kept (records.Folder account name) × (key ≡ folder_key account name)
+IsFolderKeyed (Err Memory) kept account name = Unit {0}
+IsFolderKeyed (Err NoRecord) kept account name = ¬ IsInOrder kept (records.Folder account name)
 
 -- a record was put last whose fields these are
 pub record Added (old new : StoreState) (fields : List ℕ) : Type 0 where

@@ -9,7 +9,7 @@ use Rattle.mime_tree.specs.Rewriting.{RewritesBlocks}
 use Rattle.surrogate_rope.specs.declared.building.Made.{Made}
 use Rattle.surrogate_rope.specs.declared.moving.End.{End}
 use Rattle.surrogate_rope.specs.Layout.{InEntity}
-use Rattle.surrogate_rope.specs.Ropes.{RopePiece, Range, AreWithin, joined_pieces, range_size, new_size, changed_by, WeighsChanged}
+use Rattle.surrogate_rope.specs.Ropes.{RopePiece, Range, AreWithin, joined_pieces, range_size, new_size, size_of, changed_by, WeighsChanged}
 use Rattle.surrogate_rope.specs.Stored.{HasFewPieces, new_count, range_count}
 use Rattle.surrogate_rope.specs.private.Moving.{IsNear, AreEnds}
 
@@ -42,6 +42,10 @@ pub record Copies (msg : List ℕ) (from to : ℕ) (old new : Written) : Type 0 
   pub octets : new.octets ≡ old.octets ++ slice_range msg from to
   pub rewritten : new.rewritten ≡ old.rewritten
   pub fresh : new.fresh ≡ old.fresh
+
+-- where this place of the message is in what is made
+abbrev pub end_at : ℕ → Made → End
+end_at at made = record { at = at; made = size_of made.pieces + (at - made.from) }
 
 -- each field counts as one
 abbrev pub one : List ℕ → ℕ

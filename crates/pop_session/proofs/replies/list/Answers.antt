@@ -5,8 +5,8 @@ use Rattle.session_core.proofs.AskingLemmas.{Asks-nil, Asks-then}
 use Rattle.session_core.proofs.KeepsLemmas.{Keeps-nil, Keeps-opens, Keeps-then}
 use Rattle.pop_session.specs.Machine.{size_of}
 use Rattle.pop_session.specs.declared.states.MaildropMessage.{MaildropMessage}
-use Rattle.pop_session.proofs.AskLemmas.{asks_all, asks_kept, asks_lost, asks_marked, keeps_lost, known_at}
-use Rattle.pop_session.proofs.ListLemmas.{listing_turn, listing_over, listing_end}
+use Rattle.pop_session.proofs.AskLemmas.{asks_all, asks_ended, asks_kept, asks_lost, asks_marked, keeps_ended, keeps_lost, known_at}
+use Rattle.pop_session.proofs.ListLemmas.{listing_turn, listing_over, listing_ended}
 use Rattle.pop_session.proofs.replies.list.Goals.{then-not-one+in_ok-push_listing, else-not-one}
 use Rattle.pop_session.proofs.replies.list.Goals as goal
 
@@ -66,20 +66,14 @@ returns-in_err-push_listing-clause-keeps g c =
     let failed = err_from_is_err_and c.from_residual-in_err-push_listing.result c.from_residual-in_err-push_listing.ensures.1 in
     rw failed.1 (Keeps-then c.args.outside.now c.loop-place.outside c.push_listing.new.outside (Some fault.Memory) c.loop-place.invariant.keeps c.in_err-push_listing.ensures.keeps)
 
-pub returns-in_err-push_str-clause-asks : goal.returns-in_err-push_str-clause-asks
-returns-in_err-push_str-clause-asks g c =
-    let failed = err_from_is_err_and c.from_residual-in_err-push_str.result c.from_residual-in_err-push_str.ensures.1 in
-    asks_lost c.args.outside.now c.loop-place.outside c.from_residual-in_err-push_str.result None _ _ (rw failed.1 refl) c.loop-place.invariant.asks
-
-pub returns-in_err-push_str-clause-keeps : goal.returns-in_err-push_str-clause-keeps
-returns-in_err-push_str-clause-keeps g c =
-    let failed = err_from_is_err_and c.from_residual-in_err-push_str.result c.from_residual-in_err-push_str.ensures.1 in
-    keeps_lost c.args.outside.now c.loop-place.outside c.from_residual-in_err-push_str.result (rw failed.1 refl) c.loop-place.invariant.keeps
-
 pub returns-clause-text : goal.returns-clause-text
-returns-clause-text g c = λ oracles are.
-    listing_end oracles (size_of oracles g.V.View.mode c.args.outside.now.desk.store) c.args.maildrop.now c.loop-place.place (string_bytes c.loop-place.text) (string_bytes c.push_str.new.self)
-    c.loop-place-test.false c.in_ok-push_str.ensures.bytes (c.loop-place.invariant.text oracles are)
+returns-clause-text g c =
+    listing_ended string_bytes c.ended.result (λ oracles. size_of oracles g.V.View.mode c.args.outside.now.desk.store) c.args.maildrop.now c.loop-place.place (string_bytes c.loop-place.text)
+    c.loop-place-test.false c.ended.ensures c.loop-place.invariant.text
 
 pub returns-clause-asks : goal.returns-clause-asks
-returns-clause-asks g c = asks_all g.V.View.mode c.args.outside.now c.loop-place.outside c.args.maildrop.now c.loop-place.place c.loop-place-test.false c.loop-place.invariant.asks
+returns-clause-asks g c =
+    asks_ended c.args.outside.now c.loop-place.outside c.ended.result _ (asks_all g.V.View.mode c.args.outside.now c.loop-place.outside c.args.maildrop.now c.loop-place.place c.loop-place-test.false c.loop-place.invariant.asks)
+
+pub returns-clause-keeps : goal.returns-clause-keeps
+returns-clause-keeps g c = keeps_ended c.args.outside.now c.loop-place.outside c.ended.result c.loop-place.invariant.keeps

@@ -1,26 +1,22 @@
-use Rattle.std.proofs.Common.{rules}
+use Rattle.std.proofs.Common.{rules, refl}
 use Rattle.surrogate_rope.proofs.AddedBlocks.{block_stands}
-use Rattle.surrogate_rope.proofs.KeptPlaces.{place_fits}
 use Rattle.surrogate_rope.proofs.MadePieces.{nothing_made, block_next, block_made, last_room, all_pieces}
 use Rattle.surrogate_rope.proofs.building.make_pieces.Goals as goal
 
 pub loop-entity-init : goal.loop-entity-init
 loop-entity-init c = rw c.in_ok-ends.ensures.items (nothing_made c.args.msg.now c.args.tree.now.entities c.as_slice-entity-items.result.now _ c.requires c.as_slice-entity-items.ensures c.in_ok-with_room.ensures)
 
-pub push_block-requires-clause-stands : goal.push_block-requires-clause-stands
-push_block-requires-clause-stands c =
+pub push_entity-requires-clause-stands : goal.push_entity-requires-clause-stands
+push_entity-requires-clause-stands c =
     block_next c.args.msg.now c.as_slice-entity-items.result.now c.loop-entity.entity-index c.loop-entity.made c.loop-entity.ends.items c.entity-item.result c.loop-entity-test.true c.entity-item.is c.loop-entity.invariant
 
-pub push_block-requires-clause-within : goal.push_block-requires-clause-within
-push_block-requires-clause-within c =
+pub push_entity-requires-clause-within : goal.push_entity-requires-clause-within
+push_entity-requires-clause-within c =
     (block_stands c.args.msg.now c.args.tree.now.entities c.as_slice-entity-items.result.now c.loop-entity.entity-index c.entity-item.result c.requires c.as_slice-entity-items.ensures c.loop-entity-test.true c.entity-item.is).fields
 
-pub push_block-requires-clause-joined : goal.push_block-requires-clause-joined
-push_block-requires-clause-joined c =
+pub push_entity-requires-clause-joined : goal.push_entity-requires-clause-joined
+push_entity-requires-clause-joined c =
     (block_stands c.args.msg.now c.args.tree.now.entities c.as_slice-entity-items.result.now c.loop-entity.entity-index c.entity-item.result c.requires c.as_slice-entity-items.ensures c.loop-entity-test.true c.entity-item.is).joined
-
-pub place-requires-clause-fits : goal.place-requires-clause-fits
-place-requires-clause-fits c = place_fits c.args.msg.now c.entity-item.result.block.end c.push_block.new.self c.in_ok-push_block.ensures.stands (search rules)
 
 pub put_kept-requires : goal.put_kept-requires
 put_kept-requires c =
@@ -28,8 +24,9 @@ put_kept-requires c =
 
 pub loop-entity-preserved : goal.loop-entity-preserved
 loop-entity-preserved c =
-    rw c.in_ok-push.ensures.items (block_made c.args.msg.now c.as_slice-entity-items.result.now c.loop-entity.entity-index c.loop-entity.made c.push_block.new.self c.loop-entity.ends.items c.entity-item.result _ c.loop-entity-test.true
-    c.entity-item.is c.loop-entity.invariant c.in_ok-push_block.ensures.stands c.in_ok-push_block.ensures.adds c.place.ensures)
+    let adds = c.in_ok-push_entity.ensures in
+    rw adds.ends (block_made c.args.msg.now c.as_slice-entity-items.result.now c.loop-entity.entity-index c.loop-entity.made c.push_entity.new.self c.loop-entity.ends.items c.entity-item.result _ c.loop-entity-test.true
+    c.entity-item.is c.loop-entity.invariant adds.stands adds.adds refl)
 
 pub returns : goal.returns
 returns c =

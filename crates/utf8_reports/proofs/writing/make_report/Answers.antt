@@ -1,4 +1,4 @@
-use Rattle.std.proofs.Common.{sym, subst, ◌∙◌}
+use Rattle.std.proofs.Common.{sym, subst}
 use Rattle.mail_wire.specs.Dates.{IsDateText}
 use Rattle.utf8_reports.specs.Shown.{IsShownHeader}
 use Rattle.utf8_reports.proofs.MadeReports.{HasPieces, made_report}
@@ -10,22 +10,17 @@ returns-clause-report c =
     let failure = c.args.failure.now in
     let msg = c.args.msg.now in
     let global = c.in_ok-to.to.global in
-    let name = c.as_slice-name.result.now in
-    let to = c.as_slice.result.now in
-    let date = c.as_slice-2.result.now in
-    let failed = c.as_slice-3.result.now in
-    let header = c.as_slice-4.result.now in
-    let pieces : HasPieces failure msg name to date header failed global = record {
+    let to = c.in_ok-to.to.text in
+    let date = c.as_slice.result.now in
+    let header = c.as_slice-2.result.now in
+    let pieces : HasPieces failure msg to date header global = record {
       is_failure = c.requires.failure;
-      name_is = c.as_slice-name.ensures;
-      to_is = c.as_slice.ensures ∙ c.in_ok-to.ensures.text;
+      to_is = c.in_ok-to.ensures.text;
       global_is = c.in_ok-to.ensures.global;
-      failed_is = c.as_slice-3.ensures;
-      is_date = subst (IsDateText failure.seconds) (sym c.as_slice-2.ensures) c.in_ok-date.ensures;
-      is_shown = subst (IsShownHeader global msg) (sym c.as_slice-4.ensures) c.in_ok-header.ensures;
+      is_date = subst (IsDateText failure.seconds) (sym c.as_slice.ensures) c.in_ok-date.ensures;
+      is_shown = subst (IsShownHeader global msg) (sym c.as_slice-2.ensures) c.in_ok-header.ensures;
     } in
-    made_report failure msg name to date header failed global c.new-made.result c.push_heading.new.made c.push_status_heading.new.made c.push_recipients.new.made c.push_header_part.new.made pieces
-    c.new-made.ensures c.in_ok-push_heading.ensures c.in_ok-push_status_heading.ensures c.in_ok-push_recipients.ensures c.in_ok-push_header_part.ensures
+    made_report failure msg to date header global c.new-made.result c.push_report.new.made pieces c.new-made.ensures c.in_ok-push_report.ensures
 
 pub returns-clause-tree : goal.returns-clause-tree
 returns-clause-tree c = has_tree c.args.failure.now c.args.msg.now _ (returns-clause-report c)

@@ -1,4 +1,4 @@
-use Rattle.std.proofs.Common.{◌++◌, ◌∙◌, take, drop, ap}
+use Rattle.std.proofs.Common.{◌++◌, take, drop, ap}
 use Rattle.std.proofs.lemmas.Result.{err_from_is_err_and}
 use Rattle.mail_wire.specs.declared.framing.TheConstants.{LINE_MAX}
 use Rattle.mail_wire.specs.declared.outside.Fault.TheVariants as fault
@@ -7,41 +7,38 @@ use Rattle.session_core.proofs.FramedSteps.{FramedStands, Steps-long, Steps-long
 use Rattle.session_core.proofs.StepLemmas.{Steps-stop}
 use Rattle.session_core.proofs.rows.FramedMachine.take_next.Goals as goal
 
-pub returns-in_err-push_slice-in-Whole-clause-steps : goal.returns-in_err-push_slice-in-Whole-clause-steps
-returns-in_err-push_slice-in-Whole-clause-steps g c =
-    let failed = err_from_is_err_and c.from_residual.result c.from_residual.ensures.1 in
-    rw (failed.1, failed.2)
-    (Steps-stop (protocol_of g.R.Rows.grammar) (FramedStands g.R.Rows.grammar g.R.Rows.stands) c.args.outside.now c.args.self c.args.kept.now c.push_slice.new.self c.args.piece.now fault.Memory (λ bad. cc))
-
-pub answer-requires-clause-unit : goal.answer-requires-clause-unit
-answer-requires-clause-unit g c =
+pub answer_unit-requires-clause-unit : goal.answer_unit-requires-clause-unit
+answer_unit-requires-clause-unit g c =
     let want = g.R.Rows.wanted c.args.self.rows in
-    let unit = c.as_slice-in-Whole.ensures ∙ c.in_ok-push_slice-in-Whole.ensures.ok ∙ ap (λ l. c.args.kept.now ++ l) {x = c.split_at.result.0.now} {y = take c.in-Whole.used c.args.piece.now} c.split_at.ensures.front in
-    unit_of want (c.args.kept.now ++ c.args.piece.now) c.as_slice-in-Whole.result.now (drop c.in-Whole.used c.args.piece.now)
-    (found_whole want c.find_unit.result c.args.kept.now c.args.piece.now c.as_slice-in-Whole.result.now c.in-Whole.used (rw (c.wants.ensures, c.as_slice.ensures) at c.find_unit.ensures.unit) c.in-Whole.is unit)
+    let octets = c.args.kept.now ++ c.split_at.result.0.now in
+    let unit = ap (λ l. c.args.kept.now ++ l) {x = c.split_at.result.0.now} {y = take c.in-Whole.used c.args.piece.now} c.split_at.ensures.front in
+    unit_of want (c.args.kept.now ++ c.args.piece.now) octets (drop c.in-Whole.used c.args.piece.now)
+    (found_whole want c.find_unit.result c.args.kept.now c.args.piece.now octets c.in-Whole.used (rw (c.wants.ensures, c.as_slice.ensures) at c.find_unit.ensures.unit) c.in-Whole.is unit)
 
 pub returns-in_err-next-in-Whole-clause-steps : goal.returns-in_err-next-in-Whole-clause-steps
 returns-in_err-next-in-Whole-clause-steps g c =
     let want = g.R.Rows.wanted c.args.self.rows in
-    let failed = err_from_is_err_and c.from_residual-in_err-next-in-Whole.result c.from_residual-in_err-next-in-Whole.ensures.1 in
-    let unit = c.as_slice-in-Whole.ensures ∙ c.in_ok-push_slice-in-Whole.ensures.ok ∙ ap (λ l. c.args.kept.now ++ l) {x = c.split_at.result.0.now} {y = take c.in-Whole.used c.args.piece.now} c.split_at.ensures.front in
-    let found = found_whole want c.find_unit.result c.args.kept.now c.args.piece.now c.as_slice-in-Whole.result.now c.in-Whole.used (rw (c.wants.ensures, c.as_slice.ensures) at c.find_unit.ensures.unit) c.in-Whole.is unit in
+    let failed = err_from_is_err_and c.from_residual.result c.from_residual.ensures.1 in
+    let octets = c.args.kept.now ++ c.split_at.result.0.now in
+    let unit = ap (λ l. c.args.kept.now ++ l) {x = c.split_at.result.0.now} {y = take c.in-Whole.used c.args.piece.now} c.split_at.ensures.front in
+    let found = found_whole want c.find_unit.result c.args.kept.now c.args.piece.now octets c.in-Whole.used (rw (c.wants.ensures, c.as_slice.ensures) at c.find_unit.ensures.unit) c.in-Whole.is unit in
     rw (failed.1, failed.2)
-    (Steps-unit_fails g.R.Rows.grammar g.R.Rows.stands want c.args.outside.now c.answer.new.outside c.args.self c.args.kept.now c.push_slice.new.self c.args.piece.now
-    c.as_slice-in-Whole.result.now c.in-Whole.used c.in_err-next-in-Whole.field-0.0 (λ more state. g.met.R.Rows.agrees more c.args.self.rows c.args.outside.now.desk state) found c.in_err-next-in-Whole.ensures.answers)
+    (Steps-unit_fails g.R.Rows.grammar g.R.Rows.stands want c.args.outside.now c.answer_unit.new.outside c.args.self c.args.kept.now c.answer_unit.new.kept c.args.piece.now
+    octets c.in-Whole.used c.in_err-next-in-Whole.field-0.0 (λ more state. g.met.R.Rows.agrees more c.args.self.rows c.args.outside.now.desk state) found c.in_err-next-in-Whole.ensures.answers)
 
 pub returns-in_ok-next-in-Whole-clause-steps : goal.returns-in_ok-next-in-Whole-clause-steps
 returns-in_ok-next-in-Whole-clause-steps g c =
     let want = g.R.Rows.wanted c.args.self.rows in
-    let unit = c.as_slice-in-Whole.ensures ∙ c.in_ok-push_slice-in-Whole.ensures.ok ∙ ap (λ l. c.args.kept.now ++ l) {x = c.split_at.result.0.now} {y = take c.in-Whole.used c.args.piece.now} c.split_at.ensures.front in
-    let found = found_whole want c.find_unit.result c.args.kept.now c.args.piece.now c.as_slice-in-Whole.result.now c.in-Whole.used (rw (c.wants.ensures, c.as_slice.ensures) at c.find_unit.ensures.unit) c.in-Whole.is unit in
-    rw (c.advance_of.ensures, c.clear.ensures)
-    (Steps-unit g.R.Rows.grammar g.R.Rows.stands want c.args.outside.now c.answer.new.outside c.args.self c.args.kept.now c.args.piece.now
-    c.as_slice-in-Whole.result.now c.in-Whole.used c.in_ok-next-in-Whole.next (λ more state. g.met.R.Rows.agrees more c.args.self.rows c.args.outside.now.desk state) found c.in_ok-next-in-Whole.ensures.answers)
+    let octets = c.args.kept.now ++ c.split_at.result.0.now in
+    let unit = ap (λ l. c.args.kept.now ++ l) {x = c.split_at.result.0.now} {y = take c.in-Whole.used c.args.piece.now} c.split_at.ensures.front in
+    let found = found_whole want c.find_unit.result c.args.kept.now c.args.piece.now octets c.in-Whole.used (rw (c.wants.ensures, c.as_slice.ensures) at c.find_unit.ensures.unit) c.in-Whole.is unit in
+    rw (c.advance_of.ensures, c.in_ok-next-in-Whole.ensures.cleared)
+    (Steps-unit g.R.Rows.grammar g.R.Rows.stands want c.args.outside.now c.answer_unit.new.outside c.args.self c.args.kept.now c.args.piece.now
+    octets c.in-Whole.used c.in_ok-next-in-Whole.next (λ more state. g.met.R.Rows.agrees more c.args.self.rows c.args.outside.now.desk state) found c.in_ok-next-in-Whole.ensures.answers)
 
 pub returns-in_ok-next-in-Whole-clause-ready : goal.returns-in_ok-next-in-Whole-clause-ready
 returns-in_ok-next-in-Whole-clause-ready g c =
-    rw (c.advance_of.ensures, c.clear.ensures) (next_ready g.R.Rows.wanted g.R.Rows.knows c.in_ok-next-in-Whole.next c.in-Whole.used c.answer.new.outside.desk c.in_ok-next-in-Whole.ensures.known)
+    rw (c.advance_of.ensures, c.in_ok-next-in-Whole.ensures.cleared) (next_ready g.R.Rows.wanted g.R.Rows.knows c.in_ok-next-in-Whole.next c.in-Whole.used c.answer_unit.new.outside.desk c.in_ok-next-in-Whole.ensures.known)
 
 pub returns-in_err-refuse_line-in-TooLong-clause-steps : goal.returns-in_err-refuse_line-in-TooLong-clause-steps
 returns-in_err-refuse_line-in-TooLong-clause-steps g c =
@@ -63,8 +60,8 @@ pub returns-in_err-push_slice-in-Waiting-clause-steps : goal.returns-in_err-push
 returns-in_err-push_slice-in-Waiting-clause-steps g c =
     let failed = err_from_is_err_and c.from_residual-in_err-push_slice-in-Waiting.result c.from_residual-in_err-push_slice-in-Waiting.ensures.1 in
     rw (failed.1, failed.2)
-    (Steps-stop (protocol_of g.R.Rows.grammar) (FramedStands g.R.Rows.grammar g.R.Rows.stands) c.args.outside.now c.args.self c.args.kept.now c.push_slice-in-Waiting.new.self c.args.piece.now fault.Memory (λ bad. cc))
+    (Steps-stop (protocol_of g.R.Rows.grammar) (FramedStands g.R.Rows.grammar g.R.Rows.stands) c.args.outside.now c.args.self c.args.kept.now c.push_slice.new.self c.args.piece.now fault.Memory (λ bad. cc))
 
 pub returns-in_ok-push_slice-in-Waiting-clause-steps : goal.returns-in_ok-push_slice-in-Waiting-clause-steps
 returns-in_ok-push_slice-in-Waiting-clause-steps g c =
-    Steps-more g.R.Rows.grammar g.R.Rows.stands c.args.outside.now c.args.self c.args.kept.now c.push_slice-in-Waiting.new.self c.args.piece.now c.in_ok-push_slice-in-Waiting.ensures.ok
+    Steps-more g.R.Rows.grammar g.R.Rows.stands c.args.outside.now c.args.self c.args.kept.now c.push_slice.new.self c.args.piece.now c.in_ok-push_slice-in-Waiting.ensures.ok
