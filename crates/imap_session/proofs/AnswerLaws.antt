@@ -28,7 +28,7 @@ use Rattle.imap_mailboxes.specs.Flags.{stored_flags}
 use Rattle.imap_mailboxes.specs.Sets.{is_refused}
 use Rattle.imap_session.specs.Answering.{adds_to_store, asked_as, changes_store, is_fetch, EndsTagged}
 use Rattle.imap_session.specs.Items.{asked_of, is_of_message}
-use Rattle.imap_session.specs.Machine.{Numbered, State, Step, answers, append_in, append_unless, appended, asks_utf8, authenticated, authenticated_step, becomes_seen, chosen, closing_up, common_step, completed, create_by, create_unless, date_or, deleted_ids, done, enable_step, ended, ends_with, exists_lines, expunge_step, fetch_one, fetch_reply, fetch_step, fetch_told, flags_change, flags_reply, folder_lines, folder_named, for_each, list_lines, login_by, mailbox_step, mode_of, names_folder, no_such_message, not_authenticated, not_authenticated_step, opened_in, opened_words, refused_as_read_only, reply, says, seen, select_by, selected, selected_step, status_by, status_line, step, store_one, store_step, tagged, taken_out, untagged, with_flags, with_uid}
+use Rattle.imap_session.specs.Machine.{Append, Context, Fetch, Fetching, Numbered, Selection, State, Step, Store, answers, append_in, append_unless, appended, asks_utf8, authenticated, authenticated_step, becomes_seen, chosen, closing_up, common_step, completed, context_of, create_by, create_unless, date_or, deleted_ids, done, enable_step, ended, ends_with, exists_lines, expunge_step, fetch_one, fetch_reply, fetch_step, fetch_told, fetching_in, flags_change, flags_reply, folder_lines, folder_named, for_each, list_lines, login_by, mailbox_step, mode_of, names_folder, no_such_message, not_authenticated, not_authenticated_step, opened_in, opened_words, refused_as_read_only, reply, says, seen, select_by, selected, selected_step, status_by, status_line, step, store_one, store_step, tagged, taken_out, untagged, with_flags, with_uid}
 use Rattle.imap_session.specs.Replies.{ReplyPart}
 
 -- ---- commands that are only answered
@@ -68,7 +68,7 @@ module _ (P : Step → Type 0) (tag : List ℕ) (answered : (words : List ℕ) (
 
   select_all : (mode : Mode) (account : ℕ) (read_only : Bool) (store : StoreState) (found : Option ℕ) → P (select_by tag mode account read_only store found)
   select_all mode account read_only store None = said_only (codes "NO no such folder") (authenticated mode account)
-  select_all mode account read_only store (Some folder) = answered (opened_words read_only) (folder_lines store folder read_only) (selected mode account folder read_only)
+  select_all mode account read_only store (Some folder) = answered (opened_words read_only) (folder_lines store folder read_only) (selected (record { mode = mode; account = account; folder = folder; read_only = read_only }))
 
   status_all : (state : State) (mode : Mode) (store : StoreState) (items : List StatusItem) (found : Option ℕ) → P (status_by tag state mode store items found)
   status_all state mode store items None = said_only (codes "NO no such folder") state
@@ -94,7 +94,7 @@ module _ (P : Step → Type 0) (tag : List ℕ) (answered : (words : List ℕ) (
   unauthenticated_all oracles store command.NotHere = common_all not_authenticated command.NotHere
 
   mailbox_all : (oracles : Oracles) (now : List ℕ) (state : State) (mode : Mode) (account : ℕ) (store : StoreState) (said : Command)
-      → (adds_to_store said ≡ true → P (mailbox_step oracles now tag state mode account store said)) → P (mailbox_step oracles now tag state mode account store said)
+      → (adds_to_store said ≡ true → P (mailbox_step (context_of oracles now tag store) state mode account said)) → P (mailbox_step (context_of oracles now tag store) state mode account said)
   mailbox_all oracles now state mode account store command.Capability more = common_all state command.Capability
   mailbox_all oracles now state mode account store command.Noop more = common_all state command.Noop
   mailbox_all oracles now state mode account store command.Check more = common_all state command.Check
@@ -114,7 +114,7 @@ module _ (P : Step → Type 0) (tag : List ℕ) (answered : (words : List ℕ) (
   mailbox_all oracles now state mode account store command.NotHere more = common_all state command.NotHere
 
   authenticated_all : (oracles : Oracles) (now : List ℕ) (mode : Mode) (account : ℕ) (store : StoreState) (said : Command)
-      → (adds_to_store said ≡ true → P (mailbox_step oracles now tag (authenticated mode account) mode account store said)) → P (authenticated_step oracles now tag mode account store said)
+      → (adds_to_store said ≡ true → P (mailbox_step (context_of oracles now tag store) (authenticated mode account) mode account said)) → P (authenticated_step (context_of oracles now tag store) mode account said)
   authenticated_all oracles now mode account store command.Capability more = mailbox_all oracles now (authenticated mode account) mode account store command.Capability more
   authenticated_all oracles now mode account store command.Noop more = mailbox_all oracles now (authenticated mode account) mode account store command.Noop more
   authenticated_all oracles now mode account store command.Check more = mailbox_all oracles now (authenticated mode account) mode account store command.Check more
@@ -133,25 +133,25 @@ module _ (P : Step → Type 0) (tag : List ℕ) (answered : (words : List ℕ) (
   authenticated_all oracles now mode account store command.Close more = mailbox_all oracles now (authenticated mode account) mode account store command.Close more
   authenticated_all oracles now mode account store command.NotHere more = mailbox_all oracles now (authenticated mode account) mode account store command.NotHere more
 
-  selected_all : (oracles : Oracles) (now : List ℕ) (mode : Mode) (account folder : ℕ) (read_only : Bool) (store : StoreState) (said : Command)
-      → (changes_store said ≡ true → P (selected_step oracles now tag mode account folder read_only store said)) → P (selected_step oracles now tag mode account folder read_only store said)
-  selected_all oracles now mode account folder read_only store command.Capability more = mailbox_all oracles now (selected mode account folder read_only) mode account store command.Capability more
-  selected_all oracles now mode account folder read_only store command.Noop more = mailbox_all oracles now (selected mode account folder read_only) mode account store command.Noop more
-  selected_all oracles now mode account folder read_only store command.Check more = said_only done (selected mode account folder read_only)
-  selected_all oracles now mode account folder read_only store command.Logout more = mailbox_all oracles now (selected mode account folder read_only) mode account store command.Logout more
-  selected_all oracles now mode account folder read_only store (command.Login user password) more = mailbox_all oracles now (selected mode account folder read_only) mode account store (command.Login user password) more
-  selected_all oracles now mode account folder read_only store (command.Enable words) more = mailbox_all oracles now (selected mode account folder read_only) mode account store (command.Enable words) more
-  selected_all oracles now mode account folder read_only store (command.Select written) more = mailbox_all oracles now (selected mode account folder read_only) mode account store (command.Select written) more
-  selected_all oracles now mode account folder read_only store (command.Examine written) more = mailbox_all oracles now (selected mode account folder read_only) mode account store (command.Examine written) more
-  selected_all oracles now mode account folder read_only store (command.Create written) more = more refl
-  selected_all oracles now mode account folder read_only store (command.List reference pattern) more = mailbox_all oracles now (selected mode account folder read_only) mode account store (command.List reference pattern) more
-  selected_all oracles now mode account folder read_only store (command.Status written items) more = mailbox_all oracles now (selected mode account folder read_only) mode account store (command.Status written items) more
-  selected_all oracles now mode account folder read_only store (command.Append written flags date in_utf8 octets) more = more refl
-  selected_all oracles now mode account folder read_only store (command.Fetch by_uid set items) more = more refl
-  selected_all oracles now mode account folder read_only store (command.Store by_uid set op silent flags) more = more refl
-  selected_all oracles now mode account folder read_only store command.Expunge more = more refl
-  selected_all oracles now mode account folder read_only store command.Close more = more refl
-  selected_all oracles now mode account folder read_only store command.NotHere more = mailbox_all oracles now (selected mode account folder read_only) mode account store command.NotHere more
+  selected_all : (oracles : Oracles) (now : List ℕ) (selection : Selection) (store : StoreState) (said : Command)
+      → (changes_store said ≡ true → P (selected_step (context_of oracles now tag store) selection said)) → P (selected_step (context_of oracles now tag store) selection said)
+  selected_all oracles now selection store command.Capability more = mailbox_all oracles now (selected selection) selection.mode selection.account store command.Capability more
+  selected_all oracles now selection store command.Noop more = mailbox_all oracles now (selected selection) selection.mode selection.account store command.Noop more
+  selected_all oracles now selection store command.Check more = said_only done (selected selection)
+  selected_all oracles now selection store command.Logout more = mailbox_all oracles now (selected selection) selection.mode selection.account store command.Logout more
+  selected_all oracles now selection store (command.Login user password) more = mailbox_all oracles now (selected selection) selection.mode selection.account store (command.Login user password) more
+  selected_all oracles now selection store (command.Enable words) more = mailbox_all oracles now (selected selection) selection.mode selection.account store (command.Enable words) more
+  selected_all oracles now selection store (command.Select written) more = mailbox_all oracles now (selected selection) selection.mode selection.account store (command.Select written) more
+  selected_all oracles now selection store (command.Examine written) more = mailbox_all oracles now (selected selection) selection.mode selection.account store (command.Examine written) more
+  selected_all oracles now selection store (command.Create written) more = more refl
+  selected_all oracles now selection store (command.List reference pattern) more = mailbox_all oracles now (selected selection) selection.mode selection.account store (command.List reference pattern) more
+  selected_all oracles now selection store (command.Status written items) more = mailbox_all oracles now (selected selection) selection.mode selection.account store (command.Status written items) more
+  selected_all oracles now selection store (command.Append written flags date in_utf8 octets) more = more refl
+  selected_all oracles now selection store (command.Fetch by_uid set items) more = more refl
+  selected_all oracles now selection store (command.Store by_uid set op silent flags) more = more refl
+  selected_all oracles now selection store command.Expunge more = more refl
+  selected_all oracles now selection store command.Close more = more refl
+  selected_all oracles now selection store command.NotHere more = mailbox_all oracles now (selected selection) selection.mode selection.account store command.NotHere more
 
 -- ---- what changes nothing
 
@@ -191,8 +191,8 @@ unfolding step
 others_quiet oracles now tag not_authenticated store said other = unauthenticated_all IsQuiet tag (answers_quiet tag) oracles store said
 others_quiet oracles now tag (authenticated mode account) store said other =
     authenticated_all IsQuiet tag (answers_quiet tag) oracles now mode account store said (none_true (adds_to_store said) (adds_quiet said other))
-others_quiet oracles now tag (selected mode account folder read_only) store said other =
-    selected_all IsQuiet tag (answers_quiet tag) oracles now mode account folder read_only store said (none_true (changes_store said) other)
+others_quiet oracles now tag (selected selection) store said other =
+    selected_all IsQuiet tag (answers_quiet tag) oracles now selection store said (none_true (changes_store said) other)
 others_quiet oracles now tag ended store said other = refl
 
 pub before_quiet : (oracles : Oracles) (now tag : List ℕ) (store : StoreState) (said : Command) → changes_in (step oracles now not_authenticated store tag said).acts ≡ []
@@ -219,7 +219,7 @@ each_step_quiet tag state by_uid set kept act quiet =
     (ends_quiet tag done (flat_map act (chosen by_uid set kept)) state (each_quiet act quiet (chosen by_uid set kept)))
 
 examined_all : (oracles : Oracles) (now tag : List ℕ) (mode : Mode) (account folder : ℕ) (store : StoreState) (said : Command) → adds_to_store said ≡ false → changes_store said ≡ true
-    → IsQuiet (selected_step oracles now tag mode account folder true store said)
+    → IsQuiet (selected_step (context_of oracles now tag store) (record { mode = mode; account = account; folder = folder; read_only = true }) said)
 examined_all oracles now tag mode account folder store command.Capability other is = absurd cc
 examined_all oracles now tag mode account folder store command.Noop other is = absurd cc
 examined_all oracles now tag mode account folder store command.Check other is = absurd cc
@@ -233,7 +233,7 @@ examined_all oracles now tag mode account folder store (command.List reference p
 examined_all oracles now tag mode account folder store (command.Status written items) other is = absurd cc
 examined_all oracles now tag mode account folder store (command.Append written flags date in_utf8 octets) other is = absurd cc
 examined_all oracles now tag mode account folder store (command.Fetch by_uid set items) other is =
-    each_step_quiet tag (selected mode account folder true) by_uid set (listed store.kept folder) (fetch_one oracles mode store by_uid true items)
+    each_step_quiet tag (selected (record { mode = mode; account = account; folder = folder; read_only = true })) by_uid set (listed store.kept folder) (fetch_one oracles store (record { mode = mode; read_only = true; by_uid = by_uid; items = items }))
     (λ one. changes_in-asking (asked_of mode store items one.listed.id) (reply (fetch_reply oracles mode store one.number one.listed (with_uid by_uid items)))
     ∙ reply_quiet (fetch_reply oracles mode store one.number one.listed (with_uid by_uid items)))
 examined_all oracles now tag mode account folder store (command.Store by_uid set op silent flags) other is = refl
@@ -242,10 +242,10 @@ examined_all oracles now tag mode account folder store command.Close other is = 
 examined_all oracles now tag mode account folder store command.NotHere other is = absurd cc
 
 pub examined_quiet : (oracles : Oracles) (now tag : List ℕ) (mode : Mode) (account folder : ℕ) (store : StoreState) (said : Command) → adds_to_store said ≡ false
-    → changes_in (step oracles now (selected mode account folder true) store tag said).acts ≡ []
+    → changes_in (step oracles now (selected (record { mode = mode; account = account; folder = folder; read_only = true })) store tag said).acts ≡ []
 unfolding step
 examined_quiet oracles now tag mode account folder store said other =
-    selected_all IsQuiet tag (answers_quiet tag) oracles now mode account folder true store said (examined_all oracles now tag mode account folder store said other)
+    selected_all IsQuiet tag (answers_quiet tag) oracles now (record { mode = mode; account = account; folder = folder; read_only = true }) store said (examined_all oracles now tag mode account folder store said other)
 
 -- ---- commands that may change the store
 
@@ -300,24 +300,24 @@ module _ (P : Step → Type 0) (tag : List ℕ) (ended_by : (words : List ℕ) (
       either_by (names_folder kept) (create_unless tag state account kept refused) (says tag (codes "NO bad name") state) (created_by state account kept refused)
       (answers_by (codes "NO bad name") [] state)
 
-  put_by : (state : State) (opened : Option ℕ) (kept : Kept) (folder : ℕ) (made : Record) (refused : Option StoreFault) → P (append_unless tag state opened kept folder made refused)
-  put_by state opened kept folder made None =
-      let told = exists_lines opened (after_record kept made) folder in ended_by done (changes (made ∷ []) ∷ reply told) state (reply_unasked told)
-  put_by state opened kept folder made (Some other) = answers_by (codes "NO too large") [] state
+  put_by : (state : State) (kept : Kept) (folder : ℕ) (made : Record) (refused : Option StoreFault) → P (append_unless tag state kept folder made refused)
+  put_by state kept folder made None =
+      let told = exists_lines (opened_in state) (after_record kept made) folder in ended_by done (changes (made ∷ []) ∷ reply told) state (reply_unasked told)
+  put_by state kept folder made (Some other) = answers_by (codes "NO too large") [] state
 
-  append_all : (oracles : Oracles) (state : State) (opened : Option ℕ) (mode : Mode) (store : StoreState) (flags : ℕ) (date : List ℕ) (in_utf8 : Bool) (octets : List ℕ) (found : Option ℕ)
-      → P (append_in oracles tag state opened mode store flags date in_utf8 octets found)
-  append_all oracles state opened mode store flags date in_utf8 octets None = answers_by (codes "NO no such folder") [] state
-  append_all oracles state opened mode store flags date in_utf8 octets (Some folder) =
-      let whole = completed octets in
-      let unless : Option StoreFault → Step = append_unless tag state opened store.kept folder (appended folder flags date whole) in
+  append_all : (oracles : Oracles) (now : List ℕ) (state : State) (mode : Mode) (store : StoreState) (append : Append) (found : Option ℕ)
+      → P (append_in (context_of oracles now tag store) state mode append found)
+  append_all oracles now state mode store append None = answers_by (codes "NO no such folder") [] state
+  append_all oracles now state mode store append (Some folder) =
+      let whole = completed append.octets in
+      let unless : Option StoreFault → Step = append_unless tag state store.kept folder (appended folder append.flags append.date whole) in
       let without : Step = says tag (codes "NO not a message") state in
-      either_by (in_utf8 && not (is_enabled mode)) (says tag (codes "NO not enabled") state) (if oracles.has_tree whole then unless (append_refusal store whole) else without)
+      either_by (append.in_utf8 && not (is_enabled mode)) (says tag (codes "NO not enabled") state) (if oracles.has_tree whole then unless (append_refusal store whole) else without)
       (answers_by (codes "NO not enabled") [] state)
-      (either_by (oracles.has_tree whole) (unless (append_refusal store whole)) without (put_by state opened store.kept folder (appended folder flags date whole) (append_refusal store whole)) (answers_by (codes "NO not a message") [] state))
+      (either_by (oracles.has_tree whole) (unless (append_refusal store whole)) without (put_by state store.kept folder (appended folder append.flags append.date whole) (append_refusal store whole)) (answers_by (codes "NO not a message") [] state))
 
   added_all : (oracles : Oracles) (now : List ℕ) (state : State) (mode : Mode) (account : ℕ) (store : StoreState) (said : Command) → adds_to_store said ≡ true
-      → P (mailbox_step oracles now tag state mode account store said)
+      → P (mailbox_step (context_of oracles now tag store) state mode account said)
   added_all oracles now state mode account store command.Capability is = absurd cc
   added_all oracles now state mode account store command.Noop is = absurd cc
   added_all oracles now state mode account store command.Check is = absurd cc
@@ -330,7 +330,7 @@ module _ (P : Step → Type 0) (tag : List ℕ) (ended_by : (words : List ℕ) (
   added_all oracles now state mode account store (command.List reference pattern) is = absurd cc
   added_all oracles now state mode account store (command.Status written items) is = absurd cc
   added_all oracles now state mode account store (command.Append written flags date in_utf8 octets) is =
-      append_all oracles state (opened_in state) mode store flags (date_or now date) in_utf8 octets (folder_named oracles mode store account written)
+      append_all oracles now state mode store (record { flags = flags; date = date_or now date; in_utf8 = in_utf8; octets = octets }) (folder_named oracles mode store account written)
   added_all oracles now state mode account store (command.Fetch by_uid set items) is = absurd cc
   added_all oracles now state mode account store (command.Store by_uid set op silent flags) is = absurd cc
   added_all oracles now state mode account store command.Expunge is = absurd cc
@@ -340,13 +340,13 @@ module _ (P : Step → Type 0) (tag : List ℕ) (ended_by : (words : List ℕ) (
   stored_unasked : (by_uid silent : Bool) (op : StoreOp) (named : ℕ) (one : Numbered) → asked_in (store_one by_uid silent op named one) ≡ []
   stored_unasked by_uid silent op named one = reply_unasked (flags_reply by_uid silent one (stored_flags op one.listed.flags named))
 
-  store_all : (state : State) (folder : ℕ) (read_only : Bool) (store : StoreState) (by_uid : Bool) (set : Set) (op : StoreOp) (silent : Bool) (named : ℕ)
-      → P (store_step tag state folder read_only store by_uid set op silent named)
-  store_all state folder read_only store by_uid set op silent named =
-      let act = store_one by_uid silent op named in
-      let messages = listed store.kept folder in
-      either_by read_only (refused_as_read_only tag state) (for_each tag state by_uid set messages act) (answers_by (codes "NO read only") [] state)
-      (each_by state by_uid set messages act (each_unasked act (stored_unasked by_uid silent op named) (chosen by_uid set messages)))
+  store_all : (oracles : Oracles) (now : List ℕ) (selection : Selection) (store : StoreState) (said : Store) → P (store_step (context_of oracles now tag store) selection said)
+  store_all oracles now selection store said =
+      let state = selected selection in
+      let act = store_one said.by_uid said.silent said.op said.flags in
+      let messages = listed store.kept selection.folder in
+      either_by selection.read_only (refused_as_read_only tag state) (for_each tag state said.by_uid said.set messages act) (answers_by (codes "NO read only") [] state)
+      (each_by state said.by_uid said.set messages act (each_unasked act (stored_unasked said.by_uid said.silent said.op said.flags) (chosen said.by_uid said.set messages)))
 
   expunge_all : (state : State) (read_only : Bool) (messages : List Listed) → P (expunge_step tag state read_only messages)
   expunge_all state read_only messages =
@@ -355,30 +355,31 @@ module _ (P : Step → Type 0) (tag : List ℕ) (ended_by : (words : List ℕ) (
       either_by read_only (refused_as_read_only tag state) (ends_with tag done (gone ++ reply told) state) (answers_by (codes "NO read only") [] state)
       (ended_by done (gone ++ reply told) state (asked_in-append gone (reply told) ∙ rw (taken_unasked (deleted_ids messages), reply_unasked told) refl))
 
-  changed_all : (oracles : Oracles) (now : List ℕ) (mode : Mode) (account folder : ℕ) (read_only : Bool) (store : StoreState) (said : Command) → changes_store said ≡ true
-      → ((by_uid : Bool) (set : Set) (items : List FetchItem) → said ≡ command.Fetch by_uid set items → P (fetch_step oracles tag (selected mode account folder read_only) mode folder read_only store by_uid set items))
-      → P (selected_step oracles now tag mode account folder read_only store said)
-  changed_all oracles now mode account folder read_only store command.Capability is fetched = absurd cc
-  changed_all oracles now mode account folder read_only store command.Noop is fetched = absurd cc
-  changed_all oracles now mode account folder read_only store command.Check is fetched = absurd cc
-  changed_all oracles now mode account folder read_only store command.Logout is fetched = absurd cc
-  changed_all oracles now mode account folder read_only store (command.Login user password) is fetched = absurd cc
-  changed_all oracles now mode account folder read_only store (command.Enable words) is fetched = absurd cc
-  changed_all oracles now mode account folder read_only store (command.Select written) is fetched = absurd cc
-  changed_all oracles now mode account folder read_only store (command.Examine written) is fetched = absurd cc
-  changed_all oracles now mode account folder read_only store (command.Create written) is fetched =
-      added_all oracles now (selected mode account folder read_only) mode account store (command.Create written) refl
-  changed_all oracles now mode account folder read_only store (command.List reference pattern) is fetched = absurd cc
-  changed_all oracles now mode account folder read_only store (command.Status written items) is fetched = absurd cc
-  changed_all oracles now mode account folder read_only store (command.Append written flags date in_utf8 octets) is fetched =
-      added_all oracles now (selected mode account folder read_only) mode account store (command.Append written flags date in_utf8 octets) refl
-  changed_all oracles now mode account folder read_only store (command.Fetch by_uid set items) is fetched = fetched by_uid set items refl
-  changed_all oracles now mode account folder read_only store (command.Store by_uid set op silent flags) is fetched =
-      store_all (selected mode account folder read_only) folder read_only store by_uid set op silent flags
-  changed_all oracles now mode account folder read_only store command.Expunge is fetched = expunge_all (selected mode account folder read_only) read_only (listed store.kept folder)
-  changed_all oracles now mode account folder read_only store command.Close is fetched =
-      ended_by done (if read_only then [] else taken_out (deleted_ids (listed store.kept folder))) (authenticated mode account) (closed_unasked read_only (deleted_ids (listed store.kept folder)))
-  changed_all oracles now mode account folder read_only store command.NotHere is fetched = absurd cc
+  changed_all : (oracles : Oracles) (now : List ℕ) (selection : Selection) (store : StoreState) (said : Command) → changes_store said ≡ true
+      → ((by_uid : Bool) (set : Set) (items : List FetchItem) → said ≡ command.Fetch by_uid set items → P (fetch_step (context_of oracles now tag store) selection (record { by_uid = by_uid; set = set; items = items })))
+      → P (selected_step (context_of oracles now tag store) selection said)
+  changed_all oracles now selection store command.Capability is fetched = absurd cc
+  changed_all oracles now selection store command.Noop is fetched = absurd cc
+  changed_all oracles now selection store command.Check is fetched = absurd cc
+  changed_all oracles now selection store command.Logout is fetched = absurd cc
+  changed_all oracles now selection store (command.Login user password) is fetched = absurd cc
+  changed_all oracles now selection store (command.Enable words) is fetched = absurd cc
+  changed_all oracles now selection store (command.Select written) is fetched = absurd cc
+  changed_all oracles now selection store (command.Examine written) is fetched = absurd cc
+  changed_all oracles now selection store (command.Create written) is fetched =
+      added_all oracles now (selected selection) selection.mode selection.account store (command.Create written) refl
+  changed_all oracles now selection store (command.List reference pattern) is fetched = absurd cc
+  changed_all oracles now selection store (command.Status written items) is fetched = absurd cc
+  changed_all oracles now selection store (command.Append written flags date in_utf8 octets) is fetched =
+      added_all oracles now (selected selection) selection.mode selection.account store (command.Append written flags date in_utf8 octets) refl
+  changed_all oracles now selection store (command.Fetch by_uid set items) is fetched = fetched by_uid set items refl
+  changed_all oracles now selection store (command.Store by_uid set op silent flags) is fetched =
+      store_all oracles now selection store (record { by_uid = by_uid; set = set; op = op; silent = silent; flags = flags })
+  changed_all oracles now selection store command.Expunge is fetched = expunge_all (selected selection) selection.read_only (listed store.kept selection.folder)
+  changed_all oracles now selection store command.Close is fetched =
+      ended_by done (if selection.read_only then [] else taken_out (deleted_ids (listed store.kept selection.folder))) (authenticated selection.mode selection.account)
+      (closed_unasked selection.read_only (deleted_ids (listed store.kept selection.folder)))
+  changed_all oracles now selection store command.NotHere is fetched = absurd cc
 
 -- ---- the line that ends the replies
 
@@ -392,11 +393,14 @@ answers_tagged tag words parts state = ends_tagged tag words (reply parts) state
 any_tagged : (tag words : List ℕ) (acts : List (Act ReplyPart)) (state : State) → asked_in acts ≡ [] → EndsTagged tag (ends_with tag words acts state)
 any_tagged tag words acts state unasked = ends_tagged tag words acts state
 
-fetch_tagged : (oracles : Oracles) (tag : List ℕ) (state : State) (mode : Mode) (folder : ℕ) (read_only : Bool) (store : StoreState) (by_uid : Bool) (set : Set) (items : List FetchItem)
-    → EndsTagged tag (fetch_step oracles tag state mode folder read_only store by_uid set items)
-fetch_tagged oracles tag state mode folder read_only store by_uid set items =
-    let acts = flat_map (fetch_one oracles mode store by_uid read_only items) (chosen by_uid set (listed store.kept folder)) in
-    either_by (EndsTagged tag) tag (any_tagged tag) (is_refused by_uid set (listed store.kept folder)) (no_such_message tag state) (ends_with tag done acts state)
+fetch_tagged : (context : Context) (selection : Selection) (fetch : Fetch) → EndsTagged context.tag (fetch_step context selection fetch)
+fetch_tagged context selection fetch =
+    let tag = context.tag in
+    let state = selected selection in
+    let messages = listed context.store.kept selection.folder in
+    let fetching : Fetching = fetching_in selection fetch in
+    let acts = flat_map (fetch_one context.oracles context.store fetching) (chosen fetch.by_uid fetch.set messages) in
+    either_by (EndsTagged tag) tag (any_tagged tag) (is_refused fetch.by_uid fetch.set messages) (no_such_message tag state) (ends_with tag done acts state)
     (answers_tagged tag (codes "BAD no such message") [] state) (ends_tagged tag done acts state)
 
 pub step_tagged : (oracles : Oracles) (now tag : List ℕ) (state : State) (store : StoreState) (said : Command) → ¬ (state ≡ ended) → EndsTagged tag (step oracles now state store tag said)
@@ -404,10 +408,10 @@ unfolding step
 step_tagged oracles now tag not_authenticated store said goes = unauthenticated_all (EndsTagged tag) tag (answers_tagged tag) oracles store said
 step_tagged oracles now tag (authenticated mode account) store said goes =
     authenticated_all (EndsTagged tag) tag (answers_tagged tag) oracles now mode account store said (added_all (EndsTagged tag) tag (any_tagged tag) oracles now (authenticated mode account) mode account store said)
-step_tagged oracles now tag (selected mode account folder read_only) store said goes =
-    selected_all (EndsTagged tag) tag (answers_tagged tag) oracles now mode account folder read_only store said (λ changes_it.
-    changed_all (EndsTagged tag) tag (any_tagged tag) oracles now mode account folder read_only store said changes_it
-    (λ by_uid set items is. fetch_tagged oracles tag (selected mode account folder read_only) mode folder read_only store by_uid set items))
+step_tagged oracles now tag (selected selection) store said goes =
+    selected_all (EndsTagged tag) tag (answers_tagged tag) oracles now selection store said (λ changes_it.
+    changed_all (EndsTagged tag) tag (any_tagged tag) oracles now selection store said changes_it
+    (λ by_uid set items is. fetch_tagged (context_of oracles now tag store) selection (record { by_uid = by_uid; set = set; items = items })))
 step_tagged oracles now tag ended store said goes = absurd (goes refl)
 
 -- ---- what asks the cache
@@ -423,39 +427,41 @@ answers_unasked tag words parts state = ends_unasked tag words (reply parts) sta
 
 -- a step asks for nothing, if it is no FETCH that does
 unasked_unless : (oracles : Oracles) (now tag : List ℕ) (state : State) (store : StoreState) (said : Command)
-    → ((mode : Mode) (account folder : ℕ) (read_only by_uid : Bool) (set : Set) (items : List FetchItem) → state ≡ selected mode account folder read_only → said ≡ command.Fetch by_uid set items
-    → IsUnasked (fetch_step oracles tag state mode folder read_only store by_uid set items)) → asked_in (step oracles now state store tag said).acts ≡ []
+    → ((selection : Selection) (by_uid : Bool) (set : Set) (items : List FetchItem) → state ≡ selected selection → said ≡ command.Fetch by_uid set items
+    → IsUnasked (fetch_step (context_of oracles now tag store) selection (record { by_uid = by_uid; set = set; items = items }))) → asked_in (step oracles now state store tag said).acts ≡ []
 unfolding step
 unasked_unless oracles now tag not_authenticated store said fetched = unauthenticated_all IsUnasked tag (answers_unasked tag) oracles store said
 unasked_unless oracles now tag (authenticated mode account) store said fetched =
     authenticated_all IsUnasked tag (answers_unasked tag) oracles now mode account store said (added_all IsUnasked tag (ends_unasked tag) oracles now (authenticated mode account) mode account store said)
-unasked_unless oracles now tag (selected mode account folder read_only) store said fetched =
-    selected_all IsUnasked tag (answers_unasked tag) oracles now mode account folder read_only store said (λ changes_it.
-    changed_all IsUnasked tag (ends_unasked tag) oracles now mode account folder read_only store said changes_it (λ by_uid set items is. fetched mode account folder read_only by_uid set items refl is))
+unasked_unless oracles now tag (selected selection) store said fetched =
+    selected_all IsUnasked tag (answers_unasked tag) oracles now selection store said (λ changes_it.
+    changed_all IsUnasked tag (ends_unasked tag) oracles now selection store said changes_it (λ by_uid set items is. fetched selection by_uid set items refl is))
 unasked_unless oracles now tag ended store said fetched = refl
 
 pub others_unasked : (oracles : Oracles) (now tag : List ℕ) (state : State) (store : StoreState) (said : Command) → is_fetch said ≡ false → asked_in (step oracles now state store tag said).acts ≡ []
 others_unasked oracles now tag state store said other =
-    unasked_unless oracles now tag state store said (λ mode account folder read_only by_uid set items at is. none_true (is_fetch said) other (ap is_fetch is))
+    unasked_unless oracles now tag state store said (λ selection by_uid set items at is. none_true (is_fetch said) other (ap is_fetch is))
 
 -- one message is asked for where it is told
-one_asked : (oracles : Oracles) (mode : Mode) (store : StoreState) (by_uid read_only : Bool) (items : List FetchItem) (one : Numbered)
-    → asked_in (fetch_one oracles mode store by_uid read_only items one) ≡ asked_of mode store items one.listed.id
-one_asked oracles mode store by_uid read_only items one =
-    let asked = asked_of mode store items one.listed.id in
-    let told : (is : Listed) (changed : Bool) → asked_in (asking asked (reply (fetch_reply oracles mode store one.number is (with_flags changed (with_uid by_uid items))))) ≡ asked = λ is changed.
-    (let parts = fetch_reply oracles mode store one.number is (with_flags changed (with_uid by_uid items)) in
+one_asked : (oracles : Oracles) (store : StoreState) (fetching : Fetching) (one : Numbered) → asked_in (fetch_one oracles store fetching one) ≡ asked_of fetching.mode store fetching.items one.listed.id
+one_asked oracles store fetching one =
+    let items = fetching.items in
+    let asked = asked_of fetching.mode store items one.listed.id in
+    let told : (is : Listed) (changed : Bool) → asked_in (asking asked (reply (fetch_reply oracles fetching.mode store one.number is (with_flags changed (with_uid fetching.by_uid items))))) ≡ asked = λ is changed.
+    (let parts = fetch_reply oracles fetching.mode store one.number is (with_flags changed (with_uid fetching.by_uid items)) in
     asked_in-asking asked (reply parts) ∙ (ap (λ (l : List Asked). asked ++ l) (reply_unasked parts) ∙ append-nil asked)) in
-    cond_both (becomes_seen read_only items one.listed) (changes (flags_change one.listed (seen one.listed).flags) ∷ fetch_told oracles mode store by_uid items one.number (seen one.listed) true)
-    (fetch_told oracles mode store by_uid items one.number one.listed false) (λ z. asked_in z ≡ asked) (λ _. told (seen one.listed) true) (λ _. told one.listed false)
+    cond_both (becomes_seen fetching.read_only items one.listed)
+    (changes (flags_change one.listed (seen one.listed).flags) ∷ fetch_told oracles store fetching (record one { listed = seen one.listed }) true)
+    (fetch_told oracles store fetching one false) (λ z. asked_in z ≡ asked) (λ _. told (seen one.listed) true) (λ _. told one.listed false)
 
 -- a FETCH asks for nothing where it asks for none of the messages, or names one that isn't there
-fetch_unasked : (oracles : Oracles) (tag : List ℕ) (state : State) (mode : Mode) (folder : ℕ) (read_only : Bool) (store : StoreState) (by_uid : Bool) (set : Set) (items : List FetchItem)
-    → ((id : ℕ) → asked_of mode store items id ≡ []) → IsUnasked (fetch_step oracles tag state mode folder read_only store by_uid set items)
-fetch_unasked oracles tag state mode folder read_only store by_uid set items none =
-    let act = fetch_one oracles mode store by_uid read_only items in
-    each_by IsUnasked tag (ends_unasked tag) state by_uid set (listed store.kept folder) act
-    (each_unasked act (λ one. one_asked oracles mode store by_uid read_only items one ∙ none one.listed.id) (chosen by_uid set (listed store.kept folder)))
+fetch_unasked : (context : Context) (selection : Selection) (fetch : Fetch) → ((id : ℕ) → asked_of selection.mode context.store fetch.items id ≡ []) → IsUnasked (fetch_step context selection fetch)
+fetch_unasked context selection fetch none =
+    let messages = listed context.store.kept selection.folder in
+    let fetching : Fetching = fetching_in selection fetch in
+    let act = fetch_one context.oracles context.store fetching in
+    each_by IsUnasked context.tag (ends_unasked context.tag) (selected selection) fetch.by_uid fetch.set messages act
+    (each_unasked act (λ one. one_asked context.oracles context.store fetching one ∙ none one.listed.id) (chosen fetch.by_uid fetch.set messages))
 
 none_enabled : (store : StoreState) (items : List FetchItem) (mode : Mode) → mode ≡ enabled → (id : ℕ) → asked_of mode store items id ≡ []
 none_enabled store items legacy is id = absurd cc
@@ -463,22 +469,23 @@ none_enabled store items enabled is id = cond_both (list_any is_of_message items
 
 pub enabled_unasked : (oracles : Oracles) (now tag : List ℕ) (state : State) (store : StoreState) (said : Command) → mode_of state ≡ enabled → asked_in (step oracles now state store tag said).acts ≡ []
 enabled_unasked oracles now tag state store said is =
-    unasked_unless oracles now tag state store said (λ mode account folder read_only by_uid set items at fetches.
-    fetch_unasked oracles tag state mode folder read_only store by_uid set items (none_enabled store items mode (sym (ap mode_of at) ∙ is)))
+    unasked_unless oracles now tag state store said (λ selection by_uid set items at fetches.
+    fetch_unasked (context_of oracles now tag store) selection (record { by_uid = by_uid; set = set; items = items }) (none_enabled store items selection.mode (sym (ap mode_of at) ∙ is)))
 
 pub kept_unasked : (oracles : Oracles) (now tag : List ℕ) (mode : Mode) (account folder : ℕ) (read_only : Bool) (store : StoreState) (by_uid : Bool) (set : Set) (items : List FetchItem)
-    → list_any is_of_message items ≡ false → asked_in (step oracles now (selected mode account folder read_only) store tag (command.Fetch by_uid set items)).acts ≡ []
+    → list_any is_of_message items ≡ false → asked_in (step oracles now (selected (record { mode = mode; account = account; folder = folder; read_only = read_only })) store tag (command.Fetch by_uid set items)).acts ≡ []
 unfolding step
 kept_unasked oracles now tag mode account folder read_only store by_uid set items beside =
-    fetch_unasked oracles tag (selected mode account folder read_only) mode folder read_only store by_uid set items (λ id. cond-false (list_any is_of_message items) _ _ beside)
+    fetch_unasked (context_of oracles now tag store) (record { mode = mode; account = account; folder = folder; read_only = read_only }) (record { by_uid = by_uid; set = set; items = items }) (λ id. cond-false (list_any is_of_message items) _ _ beside)
 
 pub refused_unasked : (oracles : Oracles) (now tag : List ℕ) (mode : Mode) (account folder : ℕ) (read_only : Bool) (store : StoreState) (by_uid : Bool) (set : Set) (items : List FetchItem)
-    → is_refused by_uid set (listed store.kept folder) ≡ true → asked_in (step oracles now (selected mode account folder read_only) store tag (command.Fetch by_uid set items)).acts ≡ []
+    → is_refused by_uid set (listed store.kept folder) ≡ true → asked_in (step oracles now (selected (record { mode = mode; account = account; folder = folder; read_only = read_only })) store tag (command.Fetch by_uid set items)).acts ≡ []
 unfolding step
 refused_unasked oracles now tag mode account folder read_only store by_uid set items refused =
-    let state = selected mode account folder read_only in
+    let state = selected (record { mode = mode; account = account; folder = folder; read_only = read_only }) in
     let messages = listed store.kept folder in
-    let all = flat_map (fetch_one oracles mode store by_uid read_only items) (chosen by_uid set messages) in
+    let fetching : Fetching = record { mode = mode; read_only = read_only; by_uid = by_uid; items = items } in
+    let all = flat_map (fetch_one oracles store fetching) (chosen by_uid set messages) in
     ap (λ (taken : Step). asked_in taken.acts) (cond-true (is_refused by_uid set messages) (no_such_message tag state) (ends_with tag done all state) refused)
 
 -- each message that is told is asked for once
@@ -490,12 +497,13 @@ once_each store items is (one ∷ others) =
 
 pub fetch_asks : (oracles : Oracles) (now tag : List ℕ) (account folder : ℕ) (read_only : Bool) (store : StoreState) (by_uid : Bool) (set : Set) (items : List FetchItem)
     → list_any is_of_message items ≡ true → is_refused by_uid set (listed store.kept folder) ≡ false
-    → asked_in (step oracles now (selected legacy account folder read_only) store tag (command.Fetch by_uid set items)).acts ≡ map (asked_as store) (chosen by_uid set (listed store.kept folder))
+    → asked_in (step oracles now (selected (record { mode = legacy; account = account; folder = folder; read_only = read_only })) store tag (command.Fetch by_uid set items)).acts ≡ map (asked_as store) (chosen by_uid set (listed store.kept folder))
 unfolding step
 fetch_asks oracles now tag account folder read_only store by_uid set items is taken =
-    let act = fetch_one oracles legacy store by_uid read_only items in
+    let fetching : Fetching = record { mode = legacy; read_only = read_only; by_uid = by_uid; items = items } in
+    let act = fetch_one oracles store fetching in
     let all = chosen by_uid set (listed store.kept folder) in
-    let state = selected legacy account folder read_only in
+    let state = selected (record { mode = legacy; account = account; folder = folder; read_only = read_only }) in
     ap (λ (made : Step). asked_in made.acts) (cond-false (is_refused by_uid set (listed store.kept folder)) (no_such_message tag state) (ends_with tag done (flat_map act all) state) taken)
     ∙ (asked_in-append (flat_map act all) (reply (tagged tag done ∷ [])) ∙ (append-nil (asked_in (flat_map act all))
-    ∙ (asked_each act (λ (one : Numbered). asked_of legacy store items one.listed.id) (one_asked oracles legacy store by_uid read_only items) all ∙ once_each store items is all)))
+    ∙ (asked_each act (λ (one : Numbered). asked_of legacy store items one.listed.id) (one_asked oracles store fetching) all ∙ once_each store items is all)))

@@ -27,7 +27,7 @@ use Rattle.session_core.specs.Oracles.{Oracles, WithOracles}
 use Rattle.session_core.proofs.DoingLemmas.{Does-changes, Does-unchanged, Replies-stop}
 use Rattle.session_core.proofs.MeaningLemmas.{oracles_given}
 use Rattle.session_core.proofs.MomentLemmas.{moment_date}
-use Rattle.imap_session.specs.Machine.{State, Step, append_in, append_unless, appended, completed, exists_lines, folder_named, is_complete, tagged}
+use Rattle.imap_session.specs.Machine.{Append, Context, State, Step, append_in, append_unless, appended, completed, context_of, exists_lines, folder_named, is_complete, opened_in, tagged}
 use Rattle.imap_session.specs.Replies.{ReplyPart, part_octets, reply_octets}
 use Rattle.imap_session.specs.declared.appending.AppendRequest.{AppendRequest}
 use Rattle.imap_session.specs.declared.appending.Put.{Put}
@@ -119,7 +119,10 @@ none_told oracles kept put.NotEnabled = refl
 none_told oracles kept put.NoMessage = refl
 none_told oracles kept put.TooLarge = refl
 
-module _ (oracles : Oracles) (a : Around) (tag : List ℕ) (state : State) (opened : Option ℕ) (mode : Mode) (account : ℕ) (request : AppendRequest) (date : List ℕ) where
+module _ (oracles : Oracles) (a : Around) (now tag : List ℕ) (state : State) (mode : Mode) (account : ℕ) (request : AppendRequest) (date : List ℕ) where
+  abbrev request_context : Context
+  request_context = context_of oracles now tag a.desk.store
+
   abbrev last : Put → List ReplyPart
   last advance = tagged tag (words_of_put advance) ∷ []
 
@@ -128,7 +131,7 @@ module _ (oracles : Oracles) (a : Around) (tag : List ℕ) (state : State) (open
 
   -- what is told before the last line
   abbrev told : Put → List ReplyPart
-  told advance = put_lines opened (after_all a.desk.store.kept (records_of (made advance))) advance
+  told advance = put_lines (opened_in state) (after_all a.desk.store.kept (records_of (made advance))) advance
 
   abbrev put_acts : Put → List (Act ReplyPart)
   put_acts advance = acts_of (made advance) (told advance ++ last advance)
@@ -138,29 +141,29 @@ module _ (oracles : Oracles) (a : Around) (tag : List ℕ) (state : State) (open
   acts_if false x y p q one two = two
 
   unless_acts : (folder : ℕ) (refused : Option StoreFault)
-      → (append_unless tag state opened a.desk.store.kept folder (appended folder request.flags date (completed request.octets.now)) refused).acts ≡ put_acts (put_unless folder refused)
+      → (append_unless tag state a.desk.store.kept folder (appended folder request.flags date (completed request.octets.now)) refused).acts ≡ put_acts (put_unless folder refused)
   unless_acts folder None = ap (λ (z : List (Act ReplyPart)). changes (appended folder request.flags date (completed request.octets.now) ∷ []) ∷ z) (sym (map-append gives (told (put.In folder)) (last (put.In folder))))
   unless_acts folder (Some other) = refl
 
   named_acts : (found : Option ℕ)
-      → (append_in oracles tag state opened mode a.desk.store request.flags date request.in_utf8 request.octets.now found).acts ≡ put_acts (put_named oracles mode a.desk.store request.in_utf8 request.octets.now found)
+      → (append_in request_context state mode (record { flags = request.flags; date = date; in_utf8 = request.in_utf8; octets = request.octets.now }) found).acts ≡ put_acts (put_named oracles mode a.desk.store request.in_utf8 request.octets.now found)
   named_acts None = refl
   named_acts (Some folder) =
       let octets = completed request.octets.now in
       acts_if (request.in_utf8 && not (is_enabled mode)) _ _ _ _ refl (acts_if (oracles.has_tree octets) _ _ _ _ (unless_acts folder (append_refusal a.desk.store octets)) refl)
 
-  request_acts : (request_step oracles tag state opened mode account a.desk.store request date).acts ≡ put_acts (put_of oracles mode account a.desk.store request)
+  request_acts : (request_step request_context state mode account request date).acts ≡ put_acts (put_of oracles mode account a.desk.store request)
   request_acts = named_acts _
 
   -- it was put into its folder or refused, and then that was told
-  pub request_told : (b c : Around) (met : Option Fault) (advance : Put) (lines : List ℕ) → advance ≡ put_of oracles mode account a.desk.store request → lines ≡ reply_octets oracles (put_lines opened b.desk.store.kept advance)
+  pub request_told : (b c : Around) (met : Option Fault) (advance : Put) (lines : List ℕ) → advance ≡ put_of oracles mode account a.desk.store request → lines ≡ reply_octets oracles (put_lines (opened_in state) b.desk.store.kept advance)
       → Makes a b None (made (put_of oracles mode account a.desk.store request)) → Replies b c met (lines ++ tagged_octets tag (words_of_put advance))
-      → Does (part_octets oracles) a c met (request_step oracles tag state opened mode account a.desk.store request date).acts
+      → Does (part_octets oracles) a c met (request_step request_context state mode account request date).acts
   request_told b c met advance lines advance_is lines_are makes replies =
       let spelled = part_octets oracles in
       let makes : Makes a b None (made advance) = rw advance_is makes in
       let kept : b.desk.store.kept ≡ after_all a.desk.store.kept (records_of (made advance)) = ap (λ (store : StoreState). store.kept) makes.changes.store in
-      let are : lines ≡ reply_octets oracles (told advance) = lines_are ∙ ap (λ kept. reply_octets oracles (put_lines opened kept advance)) kept in
+      let are : lines ≡ reply_octets oracles (told advance) = lines_are ∙ ap (λ kept. reply_octets oracles (put_lines (opened_in state) kept advance)) kept in
       let whole : lines ++ tagged_octets tag (words_of_put advance) ≡ flat_map spelled (told advance ++ last advance) =
       ap (λ z. z ++ tagged_octets tag (words_of_put advance)) are
       ∙ (ap (λ z. reply_octets oracles (told advance) ++ z) (sym (tagged_reply oracles tag (words_of_put advance))) ∙ sym (flat_map-append spelled (told advance) (last advance))) in
@@ -169,15 +172,15 @@ module _ (oracles : Oracles) (a : Around) (tag : List ℕ) (state : State) (open
 
   -- or memory was wanted before that was told
   pub request_untold : (b : Around) → Makes a b None (made (put_of oracles mode account a.desk.store request))
-      → DoesFirst (part_octets oracles) a b fault.Memory (request_step oracles tag state opened mode account a.desk.store request date).acts
+      → DoesFirst (part_octets oracles) a b fault.Memory (request_step request_context state mode account request date).acts
   request_untold b makes =
       let advance = put_of oracles mode account a.desk.store request in
-      let lines = reply_octets oracles (put_lines opened b.desk.store.kept advance) in
+      let lines = reply_octets oracles (put_lines (opened_in state) b.desk.store.kept advance) in
       request_told b b (Some fault.Memory) advance lines refl refl makes (Replies-stop b fault.Memory (lines ++ tagged_octets tag (words_of_put advance)) (λ bad. cc))
 
   -- or a fault came before
   pub request_broken : (b : Around) (met : Fault) → Makes a b (Some met) (made (put_of oracles mode account a.desk.store request))
-      → DoesFirst (part_octets oracles) a b met (request_step oracles tag state opened mode account a.desk.store request date).acts
+      → DoesFirst (part_octets oracles) a b met (request_step request_context state mode account request date).acts
   request_broken b met makes =
       let advance = put_of oracles mode account a.desk.store request in
       subst (λ (acts : List (Act ReplyPart)). DoesFirst (part_octets oracles) a b met acts) (sym request_acts) (Does-unchanged (part_octets oracles) a b met (made advance) (told advance ++ last advance) makes)
@@ -188,21 +191,22 @@ state_both : (b : Bool) (state : State) (x y : Step) → state ≡ x.state → s
 state_both true state x y one two = one
 state_both false state x y one two = two
 
-unless_state : (tag : List ℕ) (state : State) (opened : Option ℕ) (kept : Kept) (folder : ℕ) (one : Record) (refused : Option StoreFault) → state ≡ (append_unless tag state opened kept folder one refused).state
-unless_state tag state opened kept folder one None = refl
-unless_state tag state opened kept folder one (Some other) = refl
+unless_state : (tag : List ℕ) (state : State) (kept : Kept) (folder : ℕ) (one : Record) (refused : Option StoreFault) → state ≡ (append_unless tag state kept folder one refused).state
+unless_state tag state kept folder one None = refl
+unless_state tag state kept folder one (Some other) = refl
 
-named_state : (oracles : Oracles) (tag : List ℕ) (state : State) (opened : Option ℕ) (mode : Mode) (store : StoreState) (flags : ℕ) (date : List ℕ) (in_utf8 : Bool) (octets : List ℕ) (found : Option ℕ)
-    → state ≡ (append_in oracles tag state opened mode store flags date in_utf8 octets found).state
-named_state oracles tag state opened mode store flags date in_utf8 octets None = refl
-named_state oracles tag state opened mode store flags date in_utf8 octets (Some folder) =
-    state_both (in_utf8 && not (is_enabled mode)) state _ _ refl
-    (state_both (oracles.has_tree (completed octets)) state _ _ (unless_state tag state opened store.kept folder _ (append_refusal store (completed octets))) refl)
+named_state : (context : Context) (state : State) (mode : Mode) (append : Append) (found : Option ℕ) → state ≡ (append_in context state mode append found).state
+named_state context state mode append None = refl
+named_state context state mode append (Some folder) =
+    let octets = completed append.octets in
+    state_both (append.in_utf8 && not (is_enabled mode)) state _ _ refl
+    (state_both (context.oracles.has_tree octets) state _ _ (unless_state context.tag state context.store.kept folder _ (append_refusal context.store octets)) refl)
 
 -- APPEND leaves the state
-pub request_state : (oracles : Oracles) (tag : List ℕ) (state : State) (opened : Option ℕ) (mode : Mode) (account : ℕ) (store : StoreState) (request : AppendRequest) (date : List ℕ)
-    → state ≡ (request_step oracles tag state opened mode account store request date).state
-request_state oracles tag state opened mode account store request date = named_state oracles tag state opened mode store request.flags date request.in_utf8 request.octets.now _
+pub request_state : (context : Context) (state : State) (mode : Mode) (account : ℕ) (request : AppendRequest) (date : List ℕ) → state ≡ (request_step context state mode account request date).state
+request_state context state mode account request date =
+    named_state context state mode (record { flags = request.flags; date = date; in_utf8 = request.in_utf8; octets = request.octets.now })
+    (folder_named context.oracles mode context.store account request.written.now)
 
 -- ---- the store after it
 

@@ -22,7 +22,7 @@ use Rattle.session_core.proofs.MeaningLemmas.{oracles_given}
 use Rattle.imap_grammar.specs.declared.command.Command.{Command}
 use Rattle.imap_grammar.specs.declared.command.Command.TheVariants as command
 use Rattle.imap_grammar.specs.declared.command.StatusItem.{StatusItem}
-use Rattle.imap_session.specs.Machine.{State, Step, answers, authenticated, authenticated_step, common_step, create_by, create_unless, done, enable_step, lacks_date, mailbox_step, names_folder, not_authenticated, not_authenticated_step, out_of_order, status_by, untagged}
+use Rattle.imap_session.specs.Machine.{State, Step, answers, authenticated, authenticated_step, common_step, context_of, create_by, create_unless, done, enable_step, lacks_date, mailbox_step, names_folder, not_authenticated, not_authenticated_step, out_of_order, status_by, untagged}
 use Rattle.imap_session.specs.Replies.{part_octets}
 use Rattle.imap_session.specs.Session.{KnowsFolder, KnowsState}
 use Rattle.imap_session.specs.declared.states.ImapState.{ImapState}
@@ -77,7 +77,7 @@ unauthenticated-other oracles tag store command.NotHere no_login = refl
 
 -- a command on folders that isn't one of these is one of every state
 pub mailbox-other : (oracles : Oracles) (now tag : List ℕ) (state : State) (mode : Mode) (account : ℕ) (store : StoreState) (c : Command) → ((written : List ℕ) → c ≡ command.Create written → ⊥) → ((reference pattern : List ℕ) → c ≡ command.List reference pattern → ⊥) → ((written : List ℕ) (items : List StatusItem) → c ≡ command.Status written items → ⊥) → selects_or_appends c ≡ false
-    → common_step tag state c ≡ mailbox_step oracles now tag state mode account store c
+    → common_step tag state c ≡ mailbox_step (context_of oracles now tag store) state mode account c
 mailbox-other oracles now tag state mode account store command.Capability no_create no_list no_status none = refl
 mailbox-other oracles now tag state mode account store command.Noop no_create no_list no_status none = refl
 mailbox-other oracles now tag state mode account store command.Check no_create no_list no_status none = refl
@@ -98,7 +98,7 @@ mailbox-other oracles now tag state mode account store command.NotHere no_create
 
 -- after login, any but ENABLE is one on folders
 pub authenticated-other : (oracles : Oracles) (now tag : List ℕ) (mode : Mode) (account : ℕ) (store : StoreState) (c : Command) → ((words : List (List ℕ)) → c ≡ command.Enable words → ⊥)
-    → mailbox_step oracles now tag (authenticated mode account) mode account store c ≡ authenticated_step oracles now tag mode account store c
+    → mailbox_step (context_of oracles now tag store) (authenticated mode account) mode account c ≡ authenticated_step (context_of oracles now tag store) mode account c
 authenticated-other oracles now tag mode account store command.Capability no_enable = refl
 authenticated-other oracles now tag mode account store command.Noop no_enable = refl
 authenticated-other oracles now tag mode account store command.Check no_enable = refl
@@ -219,7 +219,7 @@ status-left tag state mode store items (Some folder) = refl
 
 -- a command on folders that selects none and puts nothing into one leaves the state, unless it ends the session
 pub mailbox-left : (oracles : Oracles) (now tag : List ℕ) (state : State) (mode : Mode) (account : ℕ) (store : StoreState) (c : Command) → selects_or_appends c ≡ false
-    → state_left state c ≡ (mailbox_step oracles now tag state mode account store c).state
+    → state_left state c ≡ (mailbox_step (context_of oracles now tag store) state mode account c).state
 mailbox-left oracles now tag state mode account store command.Capability none = refl
 mailbox-left oracles now tag state mode account store command.Noop none = refl
 mailbox-left oracles now tag state mode account store command.Check none = refl

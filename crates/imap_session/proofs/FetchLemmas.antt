@@ -22,7 +22,7 @@ use Rattle.imap_grammar.specs.declared.command.FetchItem.{FetchItem}
 use Rattle.imap_grammar.specs.declared.command.FetchItem.TheVariants as item
 use Rattle.imap_mailboxes.specs.Flags.{flags_text}
 use Rattle.imap_session.specs.Items.{asked_of, is_flags, is_of_message, item_parts, sets_seen}
-use Rattle.imap_session.specs.Machine.{becomes_seen, fetch_one, fetch_reply, fetch_told, flags_change, is_seen, line, parts_following, reply, seen, with_flags, with_uid}
+use Rattle.imap_session.specs.Machine.{Fetching, becomes_seen, fetch_one, fetch_reply, fetch_told, flags_change, is_seen, line, parts_following, reply, seen, with_flags, with_uid}
 use Rattle.imap_session.specs.Replies.{ReplyPart, text, part_octets}
 use Rattle.imap_session.specs.private.Fetched.{end_octets, space_octets, tells_flags_last, tells_uid_first, uid_first_octets}
 use Rattle.imap_session.specs.private.Pending.{Carries}
@@ -284,13 +284,15 @@ asked_alike : (mode : Mode) (store other : StoreState) (items : List FetchItem) 
 asked_alike mode store other items id same = ap (λ (octets : List ℕ). (if list_any is_of_message items then asked_by mode id octets else [])) same
 
 -- the message was asked for, and then it is told
-pub Carries-told : (oracles : Oracles) (mode : Mode) (store : StoreState) (number : ℕ) (one : Listed) (by_uid changed : Bool) (items : List FetchItem) (a b c : Around) (met : Option Fault) (owed owes : List ℕ)
-    → stored_octets a.desk.store one.id ≡ stored_octets store one.id → Asks a b None (asked_of mode a.desk.store items one.id)
-    → Carries (part_octets oracles) b c met owed owes (reply (fetch_reply oracles mode store number one (with_flags changed (with_uid by_uid items))))
-    → Carries (part_octets oracles) a c met owed owes (fetch_told oracles mode store by_uid items number one changed)
-Carries-told oracles mode store number one by_uid changed items a b c met owed owes same is_asked told =
-    Carries-asking (part_octets oracles) a b c met owed owes (asked_of mode store items one.id) (reply (fetch_reply oracles mode store number one (with_flags changed (with_uid by_uid items))))
-    (subst (λ (l : List Asked). Asks a b None l) (asked_alike mode store a.desk.store items one.id same) is_asked) told
+pub Carries-told : (oracles : Oracles) (store : StoreState) (fetching : Fetching) (number : ℕ) (one : Listed) (changed : Bool) (a b c : Around) (met : Option Fault) (owed owes : List ℕ)
+    → stored_octets a.desk.store one.id ≡ stored_octets store one.id → Asks a b None (asked_of fetching.mode a.desk.store fetching.items one.id)
+    → Carries (part_octets oracles) b c met owed owes (reply (fetch_reply oracles fetching.mode store number one (with_flags changed (with_uid fetching.by_uid fetching.items))))
+    → Carries (part_octets oracles) a c met owed owes (fetch_told oracles store fetching (record { number = number; listed = one }) changed)
+Carries-told oracles store fetching number one changed a b c met owed owes same is_asked told =
+    let items = fetching.items in
+    Carries-asking (part_octets oracles) a b c met owed owes (asked_of fetching.mode store items one.id)
+    (reply (fetch_reply oracles fetching.mode store number one (with_flags changed (with_uid fetching.by_uid items))))
+    (subst (λ (l : List Asked). Asks a b None l) (asked_alike fetching.mode store a.desk.store items one.id same) is_asked) told
 
 -- ---- one message
 
@@ -303,14 +305,14 @@ seen_asked read_only items one is = asked read_only (list_any sets_seen items) (
     asked false true b is = refl
 
 -- the message is seen from here on
-pub fetched_seen : (oracles : Oracles) (mode : Mode) (store : StoreState) (by_uid read_only : Bool) (items : List FetchItem) (number : ℕ) (one : Listed) → becomes_seen read_only items one ≡ true
-    → fetch_one oracles mode store by_uid read_only items (record { number = number; listed = one })
-    ≡ changes (flags_change one (seen one).flags) ∷ fetch_told oracles mode store by_uid items number (seen one) true
-fetched_seen oracles mode store by_uid read_only items number one is = cond-true (becomes_seen read_only items one) _ _ is
+pub fetched_seen : (oracles : Oracles) (store : StoreState) (fetching : Fetching) (number : ℕ) (one : Listed) → becomes_seen fetching.read_only fetching.items one ≡ true
+    → fetch_one oracles store fetching (record { number = number; listed = one })
+    ≡ changes (flags_change one (seen one).flags) ∷ fetch_told oracles store fetching (record { number = number; listed = seen one }) true
+fetched_seen oracles store fetching number one is = cond-true (becomes_seen fetching.read_only fetching.items one) _ _ is
 
-pub fetched : (oracles : Oracles) (mode : Mode) (store : StoreState) (by_uid read_only : Bool) (items : List FetchItem) (number : ℕ) (one : Listed) → becomes_seen read_only items one ≡ false
-    → fetch_one oracles mode store by_uid read_only items (record { number = number; listed = one }) ≡ fetch_told oracles mode store by_uid items number one false
-fetched oracles mode store by_uid read_only items number one is = cond-false (becomes_seen read_only items one) _ _ is
+pub fetched : (oracles : Oracles) (store : StoreState) (fetching : Fetching) (number : ℕ) (one : Listed) → becomes_seen fetching.read_only fetching.items one ≡ false
+    → fetch_one oracles store fetching (record { number = number; listed = one }) ≡ fetch_told oracles store fetching (record { number = number; listed = one }) false
+fetched oracles store fetching number one is = cond-false (becomes_seen fetching.read_only fetching.items one) _ _ is
 
 -- ---- the items, one after the other
 

@@ -21,7 +21,7 @@ use Rattle.session_core.specs.Turns.{all_turns}
 use Rattle.session_core.proofs.DoneLemmas.{changes_in-acts}
 use Rattle.session_core.proofs.StoreTurns.{EachTracks, all_track}
 use Rattle.imap_session.specs.laws.ImapLaws.{comes}
-use Rattle.imap_session.specs.Machine.{State, Step, append_in, append_unless, appended, completed, date_or, done, ends_with, exists_lines, folder_named, not_authenticated, opened_in, out_of_order, reply, says, step, tagged, untagged}
+use Rattle.imap_session.specs.Machine.{State, Step, append_in, append_unless, appended, completed, context_of, date_or, done, ends_with, exists_lines, folder_named, not_authenticated, opened_in, out_of_order, reply, says, step, tagged, untagged}
 use Rattle.imap_session.specs.Putting.{HasRoomFor, IsAuthenticated, IsPut, IsRefused, MayBePut, Said, append_of, no_folder, no_message, not_enabled, one_more, put_step, too_large}
 use Rattle.imap_session.specs.Replies.{ReplyPart}
 use Rattle.imap_session.specs.Session.{Machine, next_turn}
@@ -41,7 +41,7 @@ more_told None kept folder flags date octets = refl
 more_told (Some opened) kept folder flags date octets = lines_if (opened == folder) _ _ (count_more kept folder flags date octets)
 
 unless_put : (now tag : List ℕ) (state : State) (store : StoreState) (said : Said) (folder : ℕ)
-    → append_unless tag state (opened_in state) store.kept folder (appended folder said.flags (date_or now said.date) (completed said.octets)) None ≡ put_step now tag state store said folder
+    → append_unless tag state store.kept folder (appended folder said.flags (date_or now said.date) (completed said.octets)) None ≡ put_step now tag state store said folder
 unless_put now tag state store said folder =
     let made : Record = appended folder said.flags (date_or now said.date) (completed said.octets) in
     ap (λ (lines : List ReplyPart). ends_with tag done (changes (made ∷ []) ∷ reply lines) state) (more_told (opened_in state) store.kept folder said.flags (date_or now said.date) (completed said.octets))
@@ -51,7 +51,7 @@ unless_put now tag state store said folder =
 -- the step is that of the folder that is named
 step_named : (oracles : Oracles) (now tag : List ℕ) (state : State) (mode : Mode) (account : ℕ) (store : StoreState) (said : Said) → IsAuthenticated mode account state
     → step oracles now state store tag (append_of said)
-    ≡ append_in oracles tag state (opened_in state) mode store said.flags (date_or now said.date) said.in_utf8 said.octets (folder_named oracles mode store account said.written)
+    ≡ append_in (context_of oracles now tag store) state mode (record { flags = said.flags; date = date_or now said.date; in_utf8 = said.in_utf8; octets = said.octets }) (folder_named oracles mode store account said.written)
 unfolding step
 step_named oracles now tag state mode account store said (inl is) = rw is refl
 step_named oracles now tag state mode account store said (inr is) = rw is.2 refl
@@ -96,9 +96,9 @@ pub is_put : (oracles : Oracles) (now tag : List ℕ) (state : State) (mode : Mo
 is_put oracles now tag state mode account store said folder observed authenticated may =
     let octets = completed said.octets in
     let date = date_or now said.date in
-    let unless : Option StoreFault → Step = append_unless tag state (opened_in state) store.kept folder (appended folder said.flags date octets) in
+    let unless : Option StoreFault → Step = append_unless tag state store.kept folder (appended folder said.flags date octets) in
     step_named oracles now tag state mode account store said authenticated
-    ∙ ap (append_in oracles tag state (opened_in state) mode store said.flags date said.in_utf8 said.octets) may.named
+    ∙ ap (append_in (context_of oracles now tag store) state mode (record { flags = said.flags; date = date; in_utf8 = said.in_utf8; octets = said.octets })) may.named
     ∙ last_of (said.in_utf8 && not (is_enabled mode)) (oracles.has_tree octets) (says tag (codes "NO not enabled") state) (says tag (codes "NO not a message") state) (unless (append_refusal store octets))
     (may_come said.in_utf8 mode may.form) (tells_true (oracles.has_tree octets) (IsStored octets) (observed octets) may.tree)
     ∙ ap unless (room_free store octets may.room) ∙ unless_put now tag state store said folder
@@ -107,7 +107,7 @@ is_put oracles now tag state mode account store said folder observed authenticat
 
 module _ (oracles : Oracles) (now tag : List ℕ) (state : State) (mode : Mode) (account : ℕ) (store : StoreState) (said : Said) where
   abbrev IsEither : Step → Type 0
-  IsEither taken = IsPut oracles now tag state mode account store said taken ⊎ IsRefused oracles tag state mode account store said taken
+  IsEither taken = IsPut (context_of oracles now tag store) state mode account said taken ⊎ IsRefused (context_of oracles now tag store) state mode account said taken
 
   abbrev named : Option ℕ
   named = folder_named oracles mode store account said.written
@@ -117,16 +117,16 @@ module _ (oracles : Oracles) (now tag : List ℕ) (state : State) (mode : Mode) 
   either_if false x y one two = two refl
 
   either_room : (folder : ℕ) (refused : Option StoreFault) → named ≡ Some folder → append_refusal store (completed said.octets) ≡ refused
-      → IsEither (append_unless tag state (opened_in state) store.kept folder (appended folder said.flags (date_or now said.date) (completed said.octets)) refused)
+      → IsEither (append_unless tag state store.kept folder (appended folder said.flags (date_or now said.date) (completed said.octets)) refused)
   either_room folder None is free = inl (folder, is, unless_put now tag state store said folder)
   either_room folder (Some other) is full = inr (too_large, refused_full store (completed said.octets) other full, refl)
 
   either_found : TellsTrees oracles.has_tree → (found : Option ℕ) → named ≡ found
-      → IsEither (append_in oracles tag state (opened_in state) mode store said.flags (date_or now said.date) said.in_utf8 said.octets found)
+      → IsEither (append_in (context_of oracles now tag store) state mode (record { flags = said.flags; date = date_or now said.date; in_utf8 = said.in_utf8; octets = said.octets }) found)
   either_found observed None is = inr (no_folder, is, refl)
   either_found observed (Some folder) is =
       let octets = completed said.octets in
-      let unless : Option StoreFault → Step = append_unless tag state (opened_in state) store.kept folder (appended folder said.flags (date_or now said.date) octets) in
+      let unless : Option StoreFault → Step = append_unless tag state store.kept folder (appended folder said.flags (date_or now said.date) octets) in
       let without : Step = says tag (codes "NO not a message") state in
       either_if (said.in_utf8 && not (is_enabled mode)) (says tag (codes "NO not enabled") state) (if oracles.has_tree octets then unless (append_refusal store octets) else without)
       (λ other. inr (not_enabled, may_not said.in_utf8 mode other, refl))

@@ -5,7 +5,7 @@ use Rattle.std.specs.Cmp.{nat_cmp_is}
 use Rattle.std.specs.List.{All, AllByRecursion, IsDistinct, flat_map, list_all}
 use Rattle.std.specs.List.Sorted.{IsStrictlyIncreasing, IsStrictlySortedBy}
 use Rattle.std.specs.Option.{option_map_or}
-use Rattle.std.proofs.lemmas.Bool.{false_from_ne_true}
+use Rattle.std.proofs.lemmas.Bool.{cond-false, false_from_ne_true}
 use Rattle.std.proofs.lemmas.List.{map-append}
 use Rattle.std.proofs.lemmas.List.Concat.{flat_map-append}
 use Rattle.std.proofs.lemmas.List.Elements.{All-from_recursion}
@@ -34,9 +34,9 @@ use Rattle.session_core.specs.Doing.{Does, DoesFirst, Makes, Replies}
 use Rattle.session_core.specs.Keeps.{fault_of}
 use Rattle.session_core.specs.Oracles.{Oracles, WithOracles}
 use Rattle.session_core.proofs.DoingLemmas.{Does-changes, Does-unchanged, DoesFirst-before}
-use Rattle.imap_session.specs.Machine.{Numbered, State, Step, chosen, close_step, closing_up, deleted_ids, done, ends_with, expunge_step, fetch_one, fetch_step, for_each, is_deleted, mailbox_step, no_such_message, numbered_at, refused_as_read_only, reply, selected, selected_step, store_one, store_step, tagged, taken_out}
+use Rattle.imap_session.specs.Machine.{Context, Fetch, Numbered, Selection, State, Step, Store, chosen, close_step, closing_up, deleted_ids, done, ends_with, expunge_step, fetch_one, fetch_step, fetching_in, for_each, is_deleted, mailbox_step, no_such_message, numbered_at, refused_as_read_only, reply, selected, selected_step, store_one, store_step, tagged, taken_out}
 use Rattle.imap_session.specs.Replies.{ReplyPart, part_octets, reply_octets}
-use Rattle.imap_session.specs.Session.{KnowsFolder, KnowsNext, TakesStep, state_or_ended}
+use Rattle.imap_session.specs.Session.{KnowsFolder, KnowsNext, TakesStep, selection_of, state_or_ended}
 use Rattle.imap_session.specs.declared.states.ImapState.{ImapState}
 use Rattle.imap_session.specs.declared.states.Selected.{Selected}
 use Rattle.imap_session.specs.private.Lines.{tagged_octets}
@@ -124,22 +124,27 @@ some_taken places v refused told is = false_from_ne_true refused (λ yes. (let n
 
 -- ---- FETCH and STORE
 
-pub fetch_taken : (oracles : Oracles) (a b : Around) (met : Option Fault) (tag : List ℕ) (state : State) (mode : Mode) (folder : ℕ) (read_only : Bool) (store : StoreState) (by_uid : Bool) (set : Set) (items : List FetchItem)
-    (messages : List Listed) → messages ≡ listed store.kept folder
-    → Does (part_octets oracles) a b met (for_each tag state by_uid set messages (fetch_one oracles mode store by_uid read_only items)).acts
-    → Does (part_octets oracles) a b met (fetch_step oracles tag state mode folder read_only store by_uid set items).acts
-fetch_taken oracles a b met tag state mode folder read_only store by_uid set items messages are does =
-    subst (λ (l : List Listed). Does (part_octets oracles) a b met (for_each tag state by_uid set l (fetch_one oracles mode store by_uid read_only items)).acts) are does
+pub fetch_taken : (context : Context) (selection : Selection) (fetch : Fetch) (a b : Around) (met : Option Fault) (messages : List Listed) → messages ≡ listed context.store.kept selection.folder
+    → Does (part_octets context.oracles) a b met (for_each context.tag (selected selection) fetch.by_uid fetch.set messages (fetch_one context.oracles context.store (fetching_in selection fetch))).acts
+    → Does (part_octets context.oracles) a b met (fetch_step context selection fetch).acts
+fetch_taken context selection fetch a b met messages are does =
+    let act = fetch_one context.oracles context.store (fetching_in selection fetch) in
+    subst (λ (l : List Listed). Does (part_octets context.oracles) a b met (for_each context.tag (selected selection) fetch.by_uid fetch.set l act).acts) are does
 
-pub store_refused : (oracles : Oracles) (a b : Around) (met : Option Fault) (tag : List ℕ) (state : State) (folder : ℕ) (read_only : Bool) (store : StoreState) (by_uid : Bool) (set : Set) (op : StoreOp) (silent : Bool) (named : ℕ)
-    → read_only ≡ true → Replies a b met (tagged_octets tag (codes "NO read only")) → Does (part_octets oracles) a b met (store_step tag state folder read_only store by_uid set op silent named).acts
-store_refused oracles a b met tag state folder read_only store by_uid set op silent named closed replies = rw closed (says_given oracles a b met tag (codes "NO read only") state replies)
+pub store_refused : (context : Context) (selection : Selection) (store : Store) (a b : Around) (met : Option Fault) → selection.read_only ≡ true
+    → Replies a b met (tagged_octets context.tag (codes "NO read only")) → Does (part_octets context.oracles) a b met (store_step context selection store).acts
+store_refused context selection store a b met closed replies = rw closed (says_given context.oracles a b met context.tag (codes "NO read only") (selected selection) replies)
 
-pub store_taken : (oracles : Oracles) (a b : Around) (met : Option Fault) (tag : List ℕ) (state : State) (folder : ℕ) (read_only : Bool) (store : StoreState) (by_uid : Bool) (set : Set) (op : StoreOp) (silent : Bool) (named : ℕ)
-    (messages : List Listed) → read_only ≡ false → messages ≡ listed store.kept folder → Does (part_octets oracles) a b met (for_each tag state by_uid set messages (store_one by_uid silent op named)).acts
-    → Does (part_octets oracles) a b met (store_step tag state folder read_only store by_uid set op silent named).acts
-store_taken oracles a b met tag state folder read_only store by_uid set op silent named messages free are does =
-    rw free (subst (λ (l : List Listed). Does (part_octets oracles) a b met (for_each tag state by_uid set l (store_one by_uid silent op named)).acts) are does)
+pub store_taken : (context : Context) (selection : Selection) (store : Store) (a b : Around) (met : Option Fault) (messages : List Listed) → selection.read_only ≡ false
+    → messages ≡ listed context.store.kept selection.folder
+    → Does (part_octets context.oracles) a b met (for_each context.tag (selected selection) store.by_uid store.set messages (store_one store.by_uid store.silent store.op store.flags)).acts
+    → Does (part_octets context.oracles) a b met (store_step context selection store).acts
+store_taken context selection store a b met messages free are does =
+    let state = selected selection in
+    let act = store_one store.by_uid store.silent store.op store.flags in
+    let taken = for_each context.tag state store.by_uid store.set (listed context.store.kept selection.folder) act in
+    subst (λ (step : Step). Does (part_octets context.oracles) a b met step.acts) (sym (cond-false selection.read_only (refused_as_read_only context.tag state) taken free))
+    (subst (λ (l : List Listed). Does (part_octets context.oracles) a b met (for_each context.tag state store.by_uid store.set l act).acts) are does)
 
 -- ---- what goes
 
@@ -313,15 +318,13 @@ Takes-state a b met (Err stopped) state taken does states is next_is known = rec
 }
 
 -- the same where the folder stays selected
-pub Takes-stays : (a b : Around) (met : Option Fault) (result : Result (Option ImapState) Fault) (mode : Mode) (was is : Selected) (taken : Oracles → State → Step) → is ≡ record was { messages = is.messages }
-    → WithOracles (λ oracles. (state : State) → Does (part_octets oracles) a b met (taken oracles state).acts) → ((oracles : Oracles) (state : State) → state ≡ (taken oracles state).state) → fault_of result ≡ met
-    → IfOk result (λ next. state_or_ended next ≡ selected mode is.account is.folder is.read_only) → IfOk result (KnowsNext b.desk.store)
-    → TakesStep a b result (λ oracles. taken oracles (selected mode was.account was.folder was.read_only))
+pub Takes-stays : (a b : Around) (met : Option Fault) (result : Result (Option ImapState) Fault) (mode : Mode) (was is : Selected) (taken : Oracles → Step) → is ≡ record was { messages = is.messages }
+    → WithOracles (λ oracles. Does (part_octets oracles) a b met (taken oracles).acts) → ((oracles : Oracles) → selected (selection_of mode was) ≡ (taken oracles).state) → fault_of result ≡ met
+    → IfOk result (λ next. state_or_ended next ≡ selected (selection_of mode is)) → IfOk result (KnowsNext b.desk.store) → TakesStep a b result taken
 Takes-stays a b met result mode was is taken same does states told next_is known =
-    let state = selected mode was.account was.folder was.read_only in
-    let kept : selected mode is.account is.folder is.read_only ≡ state = ap (λ (one : Selected). selected mode one.account one.folder one.read_only) same in
-    Takes-state a b met result state (λ oracles. taken oracles state) (λ oracles are. does oracles are state) (λ oracles. states oracles state) told
-    (subst (λ (s : State). IfOk result (λ next. state_or_ended next ≡ s)) kept next_is) known
+    let state = selected (selection_of mode was) in
+    let kept : selected (selection_of mode is) ≡ state = ap (λ (one : Selected). selected (selection_of mode one)) same in
+    Takes-state a b met result state taken does states told (subst (λ (s : State). IfOk result (λ next. state_or_ended next ≡ s)) kept next_is) known
 
 -- ---- which state it is
 
@@ -333,16 +336,17 @@ each_state : (tag : List ℕ) (state : State) (by_uid : Bool) (set : Set) (messa
 each_state tag state by_uid set messages act =
     state_if (is_refused by_uid set messages) state (no_such_message tag state) (ends_with tag done (flat_map act (chosen by_uid set messages)) state) refl refl
 
-pub fetch_state : (oracles : Oracles) (tag : List ℕ) (state : State) (mode : Mode) (folder : ℕ) (read_only : Bool) (store : StoreState) (by_uid : Bool) (set : Set) (items : List FetchItem)
-    → state ≡ (fetch_step oracles tag state mode folder read_only store by_uid set items).state
-fetch_state oracles tag state mode folder read_only store by_uid set items =
-    each_state tag state by_uid set (listed store.kept folder) (fetch_one oracles mode store by_uid read_only items)
+pub fetch_state : (context : Context) (selection : Selection) (fetch : Fetch) → selected selection ≡ (fetch_step context selection fetch).state
+fetch_state context selection fetch =
+    each_state context.tag (selected selection) fetch.by_uid fetch.set (listed context.store.kept selection.folder) (fetch_one context.oracles context.store (fetching_in selection fetch))
 
-pub store_state : (tag : List ℕ) (state : State) (folder : ℕ) (read_only : Bool) (store : StoreState) (by_uid : Bool) (set : Set) (op : StoreOp) (silent : Bool) (named : ℕ)
-    → state ≡ (store_step tag state folder read_only store by_uid set op silent named).state
-store_state tag state folder read_only store by_uid set op silent named =
-    let act = store_one by_uid silent op named in
-    state_if read_only state (refused_as_read_only tag state) (for_each tag state by_uid set (listed store.kept folder) act) refl (each_state tag state by_uid set (listed store.kept folder) act)
+pub store_state : (context : Context) (selection : Selection) (store : Store) → selected selection ≡ (store_step context selection store).state
+store_state context selection store =
+    let state = selected selection in
+    let act = store_one store.by_uid store.silent store.op store.flags in
+    let messages = listed context.store.kept selection.folder in
+    state_if selection.read_only state (refused_as_read_only context.tag state) (for_each context.tag state store.by_uid store.set messages act) refl
+    (each_state context.tag state store.by_uid store.set messages act)
 
 pub expunge_state : (tag : List ℕ) (state : State) (read_only : Bool) (messages : List Listed) → state ≡ (expunge_step tag state read_only messages).state
 expunge_state tag state read_only messages =
@@ -351,24 +355,24 @@ expunge_state tag state read_only messages =
 -- ---- which step it is
 
 -- any other command is one on folders, or one of every state
-pub selected-other : (oracles : Oracles) (now tag : List ℕ) (mode : Mode) (account folder : ℕ) (read_only : Bool) (store : StoreState) (c : Command) → (c ≡ command.Check → ⊥)
+pub selected-other : (context : Context) (selection : Selection) (c : Command) → (c ≡ command.Check → ⊥)
     → ((by_uid : Bool) (set : Set) (items : List FetchItem) → c ≡ command.Fetch by_uid set items → ⊥)
     → ((by_uid : Bool) (set : Set) (op : StoreOp) (silent : Bool) (flags : ℕ) → c ≡ command.Store by_uid set op silent flags → ⊥) → (c ≡ command.Expunge → ⊥) → (c ≡ command.Close → ⊥)
-    → mailbox_step oracles now tag (selected mode account folder read_only) mode account store c ≡ selected_step oracles now tag mode account folder read_only store c
-selected-other oracles now tag mode account folder read_only store command.Capability no_check no_fetch no_store no_expunge no_close = refl
-selected-other oracles now tag mode account folder read_only store command.Noop no_check no_fetch no_store no_expunge no_close = refl
-selected-other oracles now tag mode account folder read_only store command.Check no_check no_fetch no_store no_expunge no_close = absurd (no_check refl)
-selected-other oracles now tag mode account folder read_only store command.Logout no_check no_fetch no_store no_expunge no_close = refl
-selected-other oracles now tag mode account folder read_only store (command.Login user password) no_check no_fetch no_store no_expunge no_close = refl
-selected-other oracles now tag mode account folder read_only store (command.Enable words) no_check no_fetch no_store no_expunge no_close = refl
-selected-other oracles now tag mode account folder read_only store (command.Select written) no_check no_fetch no_store no_expunge no_close = refl
-selected-other oracles now tag mode account folder read_only store (command.Examine written) no_check no_fetch no_store no_expunge no_close = refl
-selected-other oracles now tag mode account folder read_only store (command.Create written) no_check no_fetch no_store no_expunge no_close = refl
-selected-other oracles now tag mode account folder read_only store (command.List reference pattern) no_check no_fetch no_store no_expunge no_close = refl
-selected-other oracles now tag mode account folder read_only store (command.Status written items) no_check no_fetch no_store no_expunge no_close = refl
-selected-other oracles now tag mode account folder read_only store (command.Append written flags date utf8 octets) no_check no_fetch no_store no_expunge no_close = refl
-selected-other oracles now tag mode account folder read_only store (command.Fetch by_uid set items) no_check no_fetch no_store no_expunge no_close = absurd (no_fetch by_uid set items refl)
-selected-other oracles now tag mode account folder read_only store (command.Store by_uid set op silent flags) no_check no_fetch no_store no_expunge no_close = absurd (no_store by_uid set op silent flags refl)
-selected-other oracles now tag mode account folder read_only store command.Expunge no_check no_fetch no_store no_expunge no_close = absurd (no_expunge refl)
-selected-other oracles now tag mode account folder read_only store command.Close no_check no_fetch no_store no_expunge no_close = absurd (no_close refl)
-selected-other oracles now tag mode account folder read_only store command.NotHere no_check no_fetch no_store no_expunge no_close = refl
+    → mailbox_step context (selected selection) selection.mode selection.account c ≡ selected_step context selection c
+selected-other context selection command.Capability no_check no_fetch no_store no_expunge no_close = refl
+selected-other context selection command.Noop no_check no_fetch no_store no_expunge no_close = refl
+selected-other context selection command.Check no_check no_fetch no_store no_expunge no_close = absurd (no_check refl)
+selected-other context selection command.Logout no_check no_fetch no_store no_expunge no_close = refl
+selected-other context selection (command.Login user password) no_check no_fetch no_store no_expunge no_close = refl
+selected-other context selection (command.Enable words) no_check no_fetch no_store no_expunge no_close = refl
+selected-other context selection (command.Select written) no_check no_fetch no_store no_expunge no_close = refl
+selected-other context selection (command.Examine written) no_check no_fetch no_store no_expunge no_close = refl
+selected-other context selection (command.Create written) no_check no_fetch no_store no_expunge no_close = refl
+selected-other context selection (command.List reference pattern) no_check no_fetch no_store no_expunge no_close = refl
+selected-other context selection (command.Status written items) no_check no_fetch no_store no_expunge no_close = refl
+selected-other context selection (command.Append written flags date utf8 octets) no_check no_fetch no_store no_expunge no_close = refl
+selected-other context selection (command.Fetch by_uid set items) no_check no_fetch no_store no_expunge no_close = absurd (no_fetch by_uid set items refl)
+selected-other context selection (command.Store by_uid set op silent flags) no_check no_fetch no_store no_expunge no_close = absurd (no_store by_uid set op silent flags refl)
+selected-other context selection command.Expunge no_check no_fetch no_store no_expunge no_close = absurd (no_expunge refl)
+selected-other context selection command.Close no_check no_fetch no_store no_expunge no_close = absurd (no_close refl)
+selected-other context selection command.NotHere no_check no_fetch no_store no_expunge no_close = refl

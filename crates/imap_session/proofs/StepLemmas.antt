@@ -106,13 +106,13 @@ told_date : (reading : Option ℕ) (moment : Moment) (more : List Moment) → Is
 told_date reading moment more told = rw (is_date_true moment.internal (moment_date told.seconds moment.internal told.is.internal)) refl
 
 -- a step with the date that is given, or else with that of a moment
-pub TakesAt-dated : (a b : Around) (result : Result (Option ImapState) Fault) (given : Option (List ℕ)) (date : List ℕ) (taken : Oracles → (date : List ℕ) → Step) → IsDateFrom a.clock given date
-    → TakesStep a b result (λ oracles. taken oracles date) → TakesStepAt a b result (not (is_some given)) (λ oracles now. taken oracles (date_or now given))
+pub TakesAt-dated : (a b : Around) (result : Result (Option ImapState) Fault) (given : Option (List ℕ)) (date : List ℕ) (taken : Oracles → (now date : List ℕ) → Step) → IsDateFrom a.clock given date
+    → ((now : List ℕ) → TakesStep a b result (λ oracles. taken oracles now date)) → TakesStepAt a b result (not (is_some given)) (λ oracles now. taken oracles now (date_or now given))
 TakesAt-dated a b result (Some given) date taken from takes = record {
   told = [];
   are_told = All-nil (IsTold a.clock);
   count = whatever result ((more : List Moment) → moments_after false more ≡ more) (λ more. refl);
-  steps = λ more. subst (λ d. TakesStep a b result (λ oracles. taken oracles d)) from takes;
+  steps = λ more. subst (λ d. TakesStep a b result (λ oracles. taken oracles (date_at more) d)) from (takes (date_at more));
 }
 TakesAt-dated a b result None date taken from takes =
     let moment = from.0 in
@@ -121,7 +121,9 @@ TakesAt-dated a b result None date taken from takes =
       told = moment ∷ [];
       are_told = All-from_recursion (IsTold a.clock) (moment ∷ []) (told, tt);
       count = whatever result ((more : List Moment) → moments_after true (moment ∷ more) ≡ more) (λ more. refl);
-      steps = λ more. subst (λ d. TakesStep a b result (λ oracles. taken oracles d)) (from.2 ∙ sym (told_date a.clock moment more told)) takes;
+      steps = λ more.
+          let now = date_at (moment ∷ more) in
+          subst (λ d. TakesStep a b result (λ oracles. taken oracles now d)) (from.2 ∙ sym (told_date a.clock moment more told)) (takes now);
     }
 
 -- the same step, said otherwise

@@ -40,12 +40,30 @@ use Rattle.imap_session.specs.Replies.{ReplyPart, text, name}
 
 -- ---- states and steps
 
+-- the folder that is selected, of an account, in a session of a mode; EXAMINE opens it as read only (RFC 3501, 3.3 and 6.3.2)
+pub record Selection : Type 0 where
+  pub mode : Mode
+  pub account : ℕ
+  pub folder : ℕ
+  pub read_only : Bool
+
 -- A session that isn't authenticated is legacy.
 pub data State : Type 0 where
   not_authenticated : State
   authenticated : (mode : Mode) (account : ℕ) → State
-  selected : (mode : Mode) (account folder : ℕ) (read_only : Bool) → State
+  selected : (selection : Selection) → State
   ended : State
+
+-- what the step of a command depends on beside the state: the oracles, the date of the moment, the command's tag, and the store
+pub record Context : Type 0 where
+  pub oracles : Oracles
+  pub now : List ℕ
+  pub tag : List ℕ
+  pub store : StoreState
+
+-- The context of a command with this tag.
+abbrev pub context_of : Oracles → (now tag : List ℕ) → StoreState → Context
+context_of oracles now tag store = record { oracles = oracles; now = now; tag = tag; store = store }
 
 -- what a command does, in order, and the state after it
 pub record Step : Type 0 where
@@ -147,7 +165,8 @@ opened_words read_only = if read_only then codes "OK [READ-ONLY] done" else code
 abbrev pub select_by : (tag : List ℕ) → Mode → (account : ℕ) → (read_only : Bool) → StoreState → Option ℕ → Step
 select_by tag mode account read_only store None = no_such_folder tag (authenticated mode account)
 select_by tag mode account read_only store (Some folder) =
-    answers tag (opened_words read_only) (folder_lines store folder read_only) (selected mode account folder read_only)
+    answers tag (opened_words read_only) (folder_lines store folder read_only)
+    (selected (record { mode = mode; account = account; folder = folder; read_only = read_only }))
 
 -- a character that a folder's name may have: no control, no `*` and no `%`
 abbrev pub may_stand_in_name : ℕ → Bool
@@ -221,6 +240,13 @@ status_by tag state mode store items (Some folder) = answers tag done (status_li
 
 -- ---- APPEND
 
+-- the message that APPEND gives, with its flags and its date; its octets came in the form with UTF8 or not (RFC 3501, 6.3.11; RFC 6855, 4)
+pub record Append : Type 0 where
+  pub flags : ℕ
+  pub date : List ℕ
+  pub in_utf8 : Bool
+  pub octets : List ℕ
+
 -- there are no octets, or CRLF or a CR stands at their end
 unfoldable pub is_complete : List ℕ → Bool
 is_complete [] = true
@@ -234,7 +260,7 @@ completed octets = if is_complete octets then octets else octets ++ crlf
 
 -- the folder that is selected, if one is
 abbrev pub opened_in : State → Option ℕ
-opened_in (selected mode account folder read_only) = Some folder
+opened_in (selected selection) = Some selection.folder
 opened_in other = None
 
 -- how many messages the selected folder has is told where it is the one that has another now
@@ -247,22 +273,23 @@ abbrev pub appended : (folder flags : ℕ) → (date octets : List ℕ) → Reco
 appended folder flags date octets = records.Message folder flags date octets
 
 -- APPEND: the message is put last in the folder, unless the store refuses it; a session that has the folder open is told how many there are.
-abbrev pub append_unless : (tag : List ℕ) → State → (opened : Option ℕ) → Kept → (folder : ℕ) → Record → Option StoreFault → Step
-append_unless tag state opened kept folder made None = ends_with tag done (changes (made ∷ []) ∷ reply (exists_lines opened (after_record kept made) folder)) state
-append_unless tag state opened kept folder made (Some other) = says tag (codes "NO too large") state
+abbrev pub append_unless : (tag : List ℕ) → State → Kept → (folder : ℕ) → Record → Option StoreFault → Step
+append_unless tag state kept folder made None = ends_with tag done (changes (made ∷ []) ∷ reply (exists_lines (opened_in state) (after_record kept made) folder)) state
+append_unless tag state kept folder made (Some other) = says tag (codes "NO too large") state
 
 -- octets without a tree of entities are no message
-abbrev pub append_octets : (has_tree : Bool) → (tag : List ℕ) → State → (opened : Option ℕ) → StoreState → (folder flags : ℕ) → (date octets : List ℕ) → Step
-append_octets has_tree tag state opened store folder flags date octets =
-    if has_tree then append_unless tag state opened store.kept folder (appended folder flags date octets) (append_refusal store octets)
-    else says tag (codes "NO not a message") state
+abbrev pub append_octets : Context → State → (folder : ℕ) → Append → Step
+append_octets context state folder append =
+    let octets = completed append.octets in
+    if context.oracles.has_tree octets
+    then append_unless context.tag state context.store.kept folder (appended folder append.flags append.date octets) (append_refusal context.store octets)
+    else says context.tag (codes "NO not a message") state
 
 -- data in the form with UTF8 are for a session that enabled it (RFC 6855, 4)
-abbrev pub append_in : Oracles → (tag : List ℕ) → State → (opened : Option ℕ) → Mode → StoreState → (flags : ℕ) → (date : List ℕ) → (in_utf8 : Bool) → (octets : List ℕ) → Option ℕ → Step
-append_in oracles tag state opened mode store flags date in_utf8 octets None = no_such_folder tag state
-append_in oracles tag state opened mode store flags date in_utf8 octets (Some folder) =
-    if in_utf8 && not (is_enabled mode) then says tag (codes "NO not enabled") state
-    else append_octets (oracles.has_tree (completed octets)) tag state opened store folder flags date (completed octets)
+abbrev pub append_in : Context → State → Mode → Append → Option ℕ → Step
+append_in context state mode append None = no_such_folder context.tag state
+append_in context state mode append (Some folder) =
+    if append.in_utf8 && not (is_enabled mode) then says context.tag (codes "NO not enabled") state else append_octets context state folder append
 
 -- a date that isn't given is that of the present moment
 abbrev pub date_or : (now : List ℕ) → Option (List ℕ) → List ℕ
@@ -295,6 +322,19 @@ flags_change one flags = records.Flags one.id flags ∷ []
 
 -- ---- FETCH
 
+-- what FETCH and UID FETCH say: the messages are numbered by UIDs or not (RFC 3501, 6.4.5 and 6.4.8)
+pub record Fetch : Type 0 where
+  pub by_uid : Bool
+  pub set : Set
+  pub items : List FetchItem
+
+-- FETCH as it is done with each message: in a session of a mode, and a folder that may be read only
+pub record Fetching : Type 0 where
+  pub mode : Mode
+  pub read_only : Bool
+  pub by_uid : Bool
+  pub items : List FetchItem
+
 -- a space before each, but the first where nothing stands before it
 abbrev pub parts_following : (others : Bool) → List (List ReplyPart) → List ReplyPart
 parts_following others [] = []
@@ -323,23 +363,37 @@ fetch_reply oracles mode store number one items =
     text (codes "* " ++ (decimal number ++ codes " FETCH (")) ∷ parts_following false (map (item_parts oracles mode store one) items) ++ line (codes ")") ∷ []
 
 -- the message is asked for, and then it is told
-abbrev pub fetch_told : Oracles → Mode → StoreState → (by_uid : Bool) → List FetchItem → (number : ℕ) → Listed → (changed : Bool) → List (Act ReplyPart)
-fetch_told oracles mode store by_uid items number one changed =
-    asking (asked_of mode store items one.id) (reply (fetch_reply oracles mode store number one (with_flags changed (with_uid by_uid items))))
+abbrev pub fetch_told : Oracles → StoreState → Fetching → Numbered → (changed : Bool) → List (Act ReplyPart)
+fetch_told oracles store fetching one changed =
+    asking (asked_of fetching.mode store fetching.items one.listed.id)
+    (reply (fetch_reply oracles fetching.mode store one.number one.listed (with_flags changed (with_uid fetching.by_uid fetching.items))))
 
 -- one message: Seen is set beforehand
-abbrev pub fetch_one : Oracles → Mode → StoreState → (by_uid read_only : Bool) → List FetchItem → Numbered → List (Act ReplyPart)
-fetch_one oracles mode store by_uid read_only items one =
-    if becomes_seen read_only items one.listed
-    then changes (flags_change one.listed (seen one.listed).flags) ∷ fetch_told oracles mode store by_uid items one.number (seen one.listed) true
-    else fetch_told oracles mode store by_uid items one.number one.listed false
+abbrev pub fetch_one : Oracles → StoreState → Fetching → Numbered → List (Act ReplyPart)
+fetch_one oracles store fetching one =
+    if becomes_seen fetching.read_only fetching.items one.listed
+    then changes (flags_change one.listed (seen one.listed).flags) ∷ fetch_told oracles store fetching (record one { listed = seen one.listed }) true
+    else fetch_told oracles store fetching one false
+
+-- FETCH in the folder that is selected, as it is done with each message.
+abbrev pub fetching_in : Selection → Fetch → Fetching
+fetching_in selection fetch = record { mode = selection.mode; read_only = selection.read_only; by_uid = fetch.by_uid; items = fetch.items }
 
 -- FETCH of the messages of a set (RFC 3501, 6.4.5).
-abbrev pub fetch_step : Oracles → (tag : List ℕ) → State → Mode → (folder : ℕ) → (read_only : Bool) → StoreState → (by_uid : Bool) → Set → List FetchItem → Step
-fetch_step oracles tag state mode folder read_only store by_uid set items =
-    for_each tag state by_uid set (listed store.kept folder) (fetch_one oracles mode store by_uid read_only items)
+abbrev pub fetch_step : Context → Selection → Fetch → Step
+fetch_step context selection fetch =
+    for_each context.tag (selected selection) fetch.by_uid fetch.set (listed context.store.kept selection.folder)
+    (fetch_one context.oracles context.store (fetching_in selection fetch))
 
 -- ---- STORE
+
+-- what STORE and UID STORE say: what is done with which flags, and whether the new ones are told (RFC 3501, 6.4.6 and 6.4.8)
+pub record Store : Type 0 where
+  pub by_uid : Bool
+  pub set : Set
+  pub op : StoreOp
+  pub silent : Bool
+  pub flags : ℕ
 
 -- The unique identifier of a message, where the command goes by these (RFC 3501, 6.4.8).
 abbrev pub uid_text : (by_uid : Bool) → Listed → List ℕ
@@ -358,10 +412,11 @@ store_one by_uid silent op named one =
     changes (flags_change one.listed flags) ∷ reply (flags_reply by_uid silent one flags)
 
 -- STORE for the messages of a set; it is refused in a folder that EXAMINE opened (RFC 3501, 6.4.6).
-abbrev pub store_step : (tag : List ℕ) → State → (folder : ℕ) → (read_only : Bool) → StoreState → (by_uid : Bool) → Set → StoreOp → (silent : Bool) → (named : ℕ) → Step
-store_step tag state folder read_only store by_uid set op silent named =
-    if read_only then refused_as_read_only tag state
-    else for_each tag state by_uid set (listed store.kept folder) (store_one by_uid silent op named)
+abbrev pub store_step : Context → Selection → Store → Step
+store_step context selection store =
+    if selection.read_only then refused_as_read_only context.tag (selected selection)
+    else for_each context.tag (selected selection) store.by_uid store.set (listed context.store.kept selection.folder)
+    (store_one store.by_uid store.silent store.op store.flags)
 
 -- ---- EXPUNGE and CLOSE
 
@@ -418,46 +473,50 @@ not_authenticated_step oracles tag store (command.Login user password) = login_b
 not_authenticated_step oracles tag store other = common_step tag not_authenticated other
 
 -- the commands of every session that is authenticated, whether a folder is selected or not
-abbrev pub mailbox_step : Oracles → (now tag : List ℕ) → State → Mode → (account : ℕ) → StoreState → Command → Step
-mailbox_step oracles now tag state mode account store (command.Select written) = select_by tag mode account false store (folder_named oracles mode store account written)
-mailbox_step oracles now tag state mode account store (command.Examine written) = select_by tag mode account true store (folder_named oracles mode store account written)
-mailbox_step oracles now tag state mode account store (command.Create written) = create_by tag state account store (oracles.name_of (is_enabled mode) written)
-mailbox_step oracles now tag state mode account store (command.List reference pattern) = answers tag done (list_lines mode store account reference pattern) state
-mailbox_step oracles now tag state mode account store (command.Status written items) = status_by tag state mode store items (folder_named oracles mode store account written)
-mailbox_step oracles now tag state mode account store (command.Append written flags date in_utf8 octets) =
-    append_in oracles tag state (opened_in state) mode store flags (date_or now date) in_utf8 octets (folder_named oracles mode store account written)
-mailbox_step oracles now tag state mode account store other = common_step tag state other
+abbrev pub mailbox_step : Context → State → Mode → (account : ℕ) → Command → Step
+mailbox_step context state mode account (command.Select written) =
+    select_by context.tag mode account false context.store (folder_named context.oracles mode context.store account written)
+mailbox_step context state mode account (command.Examine written) =
+    select_by context.tag mode account true context.store (folder_named context.oracles mode context.store account written)
+mailbox_step context state mode account (command.Create written) =
+    create_by context.tag state account context.store (context.oracles.name_of (is_enabled mode) written)
+mailbox_step context state mode account (command.List reference pattern) = answers context.tag done (list_lines mode context.store account reference pattern) state
+mailbox_step context state mode account (command.Status written items) =
+    status_by context.tag state mode context.store items (folder_named context.oracles mode context.store account written)
+mailbox_step context state mode account (command.Append written flags date in_utf8 octets) =
+    append_in context state mode (record { flags = flags; date = date_or context.now date; in_utf8 = in_utf8; octets = octets })
+    (folder_named context.oracles mode context.store account written)
+mailbox_step context state mode account other = common_step context.tag state other
 
 -- A command after login, where no folder is open: ENABLE, one of mailboxes, or one of every state (RFC 3501, 6.3; RFC 5161, 3.1).
-abbrev pub authenticated_step : Oracles → (now tag : List ℕ) → Mode → (account : ℕ) → StoreState → Command → Step
-authenticated_step oracles now tag mode account store (command.Enable words) = enable_step tag mode account (asks_utf8 words)
-authenticated_step oracles now tag mode account store other = mailbox_step oracles now tag (authenticated mode account) mode account store other
+abbrev pub authenticated_step : Context → Mode → (account : ℕ) → Command → Step
+authenticated_step context mode account (command.Enable words) = enable_step context.tag mode account (asks_utf8 words)
+authenticated_step context mode account other = mailbox_step context (authenticated mode account) mode account other
 
 -- A command where a folder is open: one of its messages, of mailboxes, or of every state (RFC 3501, 6.4).
-abbrev pub selected_step : Oracles → (now tag : List ℕ) → Mode → (account folder : ℕ) → (read_only : Bool) → StoreState → Command → Step
-selected_step oracles now tag mode account folder read_only store command.Check = says tag done (selected mode account folder read_only)
-selected_step oracles now tag mode account folder read_only store (command.Fetch by_uid set items) =
-    fetch_step oracles tag (selected mode account folder read_only) mode folder read_only store by_uid set items
-selected_step oracles now tag mode account folder read_only store (command.Store by_uid set op silent flags) =
-    store_step tag (selected mode account folder read_only) folder read_only store by_uid set op silent flags
-selected_step oracles now tag mode account folder read_only store command.Expunge =
-    expunge_step tag (selected mode account folder read_only) read_only (listed store.kept folder)
-selected_step oracles now tag mode account folder read_only store command.Close = close_step tag (authenticated mode account) read_only (listed store.kept folder)
-selected_step oracles now tag mode account folder read_only store other =
-    mailbox_step oracles now tag (selected mode account folder read_only) mode account store other
+abbrev pub selected_step : Context → Selection → Command → Step
+selected_step context selection command.Check = says context.tag done (selected selection)
+selected_step context selection (command.Fetch by_uid set items) = fetch_step context selection (record { by_uid = by_uid; set = set; items = items })
+selected_step context selection (command.Store by_uid set op silent flags) =
+    store_step context selection (record { by_uid = by_uid; set = set; op = op; silent = silent; flags = flags })
+selected_step context selection command.Expunge =
+    expunge_step context.tag (selected selection) selection.read_only (listed context.store.kept selection.folder)
+selected_step context selection command.Close =
+    close_step context.tag (authenticated selection.mode selection.account) selection.read_only (listed context.store.kept selection.folder)
+selected_step context selection other = mailbox_step context (selected selection) selection.mode selection.account other
 
 -- a command in a state, at a moment of this date; after the end none is read
 unfoldable pub step : Oracles → (now : List ℕ) → State → StoreState → (tag : List ℕ) → Command → Step
 step oracles now not_authenticated store tag said = not_authenticated_step oracles tag store said
-step oracles now (authenticated mode account) store tag said = authenticated_step oracles now tag mode account store said
-step oracles now (selected mode account folder read_only) store tag said = selected_step oracles now tag mode account folder read_only store said
+step oracles now (authenticated mode account) store tag said = authenticated_step (context_of oracles now tag store) mode account said
+step oracles now (selected selection) store tag said = selected_step (context_of oracles now tag store) selection said
 step oracles now ended store tag said = record { acts = []; state = ended }
 
 -- the mode in which commands are read
 abbrev pub mode_of : State → Mode
 mode_of not_authenticated = legacy
 mode_of (authenticated mode account) = mode
-mode_of (selected mode account folder read_only) = mode
+mode_of (selected selection) = selection.mode
 mode_of ended = legacy
 
 -- the command puts a message into a folder, and gives it no date
@@ -468,5 +527,5 @@ lacks_date other = false
 -- The command takes the date of the next moment: an APPEND without a date, after login.
 abbrev pub takes_moment : State → Command → Bool
 takes_moment (authenticated mode account) said = lacks_date said
-takes_moment (selected mode account folder read_only) said = lacks_date said
+takes_moment (selected selection) said = lacks_date said
 takes_moment state said = false

@@ -10,7 +10,7 @@ use Rattle.session_core.specs.Acts.{changes}
 use Rattle.session_core.specs.Oracles.{Oracles}
 use Rattle.imap_grammar.specs.declared.command.Command.{Command}
 use Rattle.imap_grammar.specs.declared.command.Command.TheVariants as command
-use Rattle.imap_session.specs.Machine.{State, Step, appended, authenticated, completed, date_or, done, ends_with, folder_named, opened_in, reply, says, selected, untagged}
+use Rattle.imap_session.specs.Machine.{Context, State, Step, appended, authenticated, completed, date_or, done, ends_with, folder_named, opened_in, reply, says, selected, untagged}
 use Rattle.imap_session.specs.Replies.{ReplyPart}
 
 -- what an APPEND says
@@ -27,7 +27,7 @@ append_of said = command.Append said.written said.flags said.date said.in_utf8 s
 
 -- the session is authenticated, of this mode and for this account, whether a folder is selected or not
 abbrev pub IsAuthenticated : Mode → (account : ℕ) → State → Type 0
-IsAuthenticated mode account state = (state ≡ authenticated mode account) ⊎ ((folder : ℕ) × (read_only : Bool) × (state ≡ selected mode account folder read_only))
+IsAuthenticated mode account state = (state ≡ authenticated mode account) ⊎ ((folder : ℕ) × (read_only : Bool) × (state ≡ selected (record { mode = mode; account = account; folder = folder; read_only = read_only })))
 
 -- the store takes octets as a message more: they are no larger than a message may be, and it has room for one
 pub record HasRoomFor (store : StoreState) (octets : List ℕ) : Type 0 where
@@ -74,11 +74,12 @@ IsCause oracles mode account store said no_message = ¬ IsStored (completed said
 IsCause oracles mode account store said too_large = ¬ HasRoomFor store (completed said.octets)
 
 -- The message of an APPEND is put last into the folder that it names.
-abbrev pub IsPut : Oracles → (now tag : List ℕ) → State → Mode → (account : ℕ) → StoreState → Said → Step → Type 0
-IsPut oracles now tag state mode account store said taken =
-    (folder : ℕ) × (folder_named oracles mode store account said.written ≡ Some folder) × (taken ≡ put_step now tag state store said folder)
+abbrev pub IsPut : Context → State → Mode → (account : ℕ) → Said → Step → Type 0
+IsPut context state mode account said taken =
+    (folder : ℕ) × (folder_named context.oracles mode context.store account said.written ≡ Some folder)
+    × (taken ≡ put_step context.now context.tag state context.store said folder)
 
 -- a cause is told and nothing else, and nothing changes
-abbrev pub IsRefused : Oracles → (tag : List ℕ) → State → Mode → (account : ℕ) → StoreState → Said → Step → Type 0
-IsRefused oracles tag state mode account store said taken =
-    (cause : Cause) × IsCause oracles mode account store said cause × (taken ≡ says tag (words_of_cause cause) state)
+abbrev pub IsRefused : Context → State → Mode → (account : ℕ) → Said → Step → Type 0
+IsRefused context state mode account said taken =
+    (cause : Cause) × IsCause context.oracles mode account context.store said cause × (taken ≡ says context.tag (words_of_cause cause) state)

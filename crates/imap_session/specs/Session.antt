@@ -9,7 +9,7 @@ use Rattle.mail_store.specs.Following.{records_of}
 use Rattle.kept_mail.specs.Kept.{listed}
 use Rattle.mail_store.specs.StoreState.{StoreState, AreStored, with_records}
 use Rattle.kept_mail.specs.declared.kept.Listed.{Listed}
-use Rattle.surrogate_cache.specs.Served.{legacy, enabled, is_enabled}
+use Rattle.surrogate_cache.specs.Served.{Mode, legacy, enabled, is_enabled}
 use Rattle.imap_grammar.specs.Events.{NothingBefore, seen_after}
 use Rattle.imap_grammar.specs.FirstDue.{Due}
 use Rattle.imap_grammar.specs.Standing.{HasSeen}
@@ -27,11 +27,12 @@ use Rattle.session_core.specs.Turns.{Turn}
 use Rattle.session_core.specs.declared.desk.Desk.{Desk}
 use Rattle.imap_grammar.specs.declared.command.Command.{Command as CommandOf}
 use Rattle.imap_grammar.specs.declared.command.Command.TheVariants as command
-use Rattle.imap_session.specs.Machine.{State, not_authenticated, authenticated, selected, ended, Step, line, mode_of, reply, says, step, takes_moment, untagged}
+use Rattle.imap_session.specs.Machine.{Selection, State, not_authenticated, authenticated, selected, ended, Step, line, mode_of, reply, says, step, takes_moment, untagged}
 use Rattle.imap_session.specs.Replies.{ReplyPart, IsFit, part_octets}
 use Rattle.imap_session.specs.declared.session.ImapMachine.{ImapMachine}
 use Rattle.imap_session.specs.declared.states.ImapState.{ImapState}
 use Rattle.imap_session.specs.declared.states.ImapState.TheVariants as imap
+use Rattle.imap_session.specs.declared.states.Selected.{Selected}
 
 -- the machine, its store, the octets of a command in which literals were asked for, and the moments that are still to come
 pub record Machine : Type 0 where
@@ -131,13 +132,17 @@ imap_protocol = record {
 
 -- ---- what values stand for
 
+-- The folder that is selected, in a session of this mode.
+abbrev pub selection_of : Mode → Selected → Selection
+selection_of mode state = record { mode = mode; account = state.account; folder = state.folder; read_only = state.read_only }
+
 -- the machine's state
 abbrev pub state_of : ImapState → State
 state_of (imap.NotAuthenticated session) = not_authenticated
 state_of (imap.Authenticated session) = authenticated legacy session.state.account
 state_of (imap.EnabledAuthenticated session) = authenticated enabled session.state.account
-state_of (imap.Selected session) = selected legacy session.state.account session.state.folder session.state.read_only
-state_of (imap.EnabledSelected session) = selected enabled session.state.account session.state.folder session.state.read_only
+state_of (imap.Selected session) = selected (selection_of legacy session.state)
+state_of (imap.EnabledSelected session) = selected (selection_of enabled session.state)
 
 -- the machine's state, also where no session is left
 abbrev pub state_or_ended : Option ImapState → State

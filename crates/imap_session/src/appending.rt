@@ -1,14 +1,14 @@
 //! APPEND (RFC 3501, 6.3.11; RFC 6855, 4).
-ghost use Rattle.std.specs.Prelude.{◌≡◌, ◌<◌, ◌^◌, None, Some, length, IfOk, IfSome, OnOk};
+ghost use Rattle.std.specs.Prelude.{◌≡◌, ◌<◌, ◌^◌, ℕ, List, Some, length, IfOk, IfSome, OnOk};
 ghost use Rattle.journal_records.specs.Grammar.{IsDate};
 ghost use Rattle.kept_mail.specs.Kept.{Kept, listed};
 ghost use Rattle.session_core.specs.Desks.{IsOpen};
 ghost use Rattle.session_core.specs.Doing.{Does, Makes};
 ghost use Rattle.session_core.specs.Keeps.{Keeps, fault_of};
 ghost use Rattle.session_core.specs.Oracles.{Oracles, WithOracles};
-ghost use Rattle.imap_session.specs.Machine.{State, authenticated, completed, date_or, lacks_date};
+ghost use Rattle.imap_session.specs.Machine.{authenticated, completed, context_of, date_or, lacks_date, selected as selected_in};
 ghost use Rattle.imap_session.specs.Replies.{part_octets, reply_octets};
-ghost use Rattle.imap_session.specs.Session.{TakesStepAt};
+ghost use Rattle.imap_session.specs.Session.{TakesStepAt, selection_of};
 ghost use Rattle.imap_session.specs.private.Appending.{IsDateFrom, WereListed, command_of, request_step, put_changes, put_lines, put_octets as put_octets_of, put_of, words_of_put};
 ghost use Rattle.imap_session.specs.private.Selected.{KnowsSelected};
 
@@ -204,7 +204,8 @@ pub fn append<V: Kind, W: Wire, J: Keeper, C: Clock>(
     requires flags { request.now.flags < 32 }
     requires dated { IfSome request.now.date.now IsDate }
     ensures takes { TakesStepAt outside.old outside.new result (lacks_date (command_of request.now)) (λ oracles now.
-        request_step oracles tag.now (authenticated V.mode imap.state.account) None V.mode imap.state.account outside.old.desk.store request.now (date_or now request.now.date.now)) }
+        request_step (context_of oracles now tag.now outside.old.desk.store) (authenticated V.mode imap.state.account) V.mode imap.state.account request.now
+        (date_or now request.now.date.now)) }
     ensures keeps { Keeps outside.old outside.new (fault_of result) }
 {
     let date = date_of(request.date, outside)?;
@@ -226,8 +227,9 @@ pub fn append_within<V: Kind, W: Wire, J: Keeper, C: Clock>(
     requires known { KnowsSelected outside.old.desk.store selected.old }
     requires flags { request.now.flags < 32 }
     requires dated { IsDate date.now }
-    ensures does { WithOracles (λ oracles. (state : State) → Does (part_octets oracles) outside.old outside.new (fault_of result)
-        (request_step oracles tag.now state (Some selected.old.folder) V.mode selected.old.account outside.old.desk.store request.now date.now).acts) }
+    ensures does { WithOracles (λ oracles. (now : List ℕ) → Does (part_octets oracles) outside.old outside.new (fault_of result)
+        (request_step (context_of oracles now tag.now outside.old.desk.store) (selected_in (selection_of V.mode selected.old)) V.mode selected.old.account request.now
+        date.now).acts) }
     ensures known { OnOk result (KnowsSelected outside.new.desk.store selected.new) }
     ensures same { selected.new ≡ record selected.old { messages = selected.new.messages } }
     ensures keeps { Keeps outside.old outside.new (fault_of result) }

@@ -6,7 +6,7 @@ ghost use Rattle.session_core.specs.Desks.{IsOpen};
 ghost use Rattle.session_core.specs.Doing.{Does};
 ghost use Rattle.session_core.specs.Keeps.{Keeps, fault_of};
 ghost use Rattle.session_core.specs.Oracles.{Oracles, WithOracles};
-ghost use Rattle.imap_session.specs.Machine.{State, answers, asks_utf8 as asks_utf8_of, authenticated_step, common_step, done, enable_step, folder_lines as lines_of_folder, folder_named, lacks_date, list_lines as lines_of_list, login_by, mailbox_step, not_authenticated_step, opened_words as words_of_opened, select_by, status_by, step, takes_moment};
+ghost use Rattle.imap_session.specs.Machine.{State, answers, asks_utf8 as asks_utf8_of, authenticated_step, common_step, context_of, done, enable_step, folder_lines as lines_of_folder, folder_named, lacks_date, list_lines as lines_of_list, login_by, mailbox_step, not_authenticated_step, opened_words as words_of_opened, select_by, status_by, step, takes_moment};
 ghost use Rattle.imap_session.specs.Replies.{part_octets};
 ghost use Rattle.imap_session.specs.Session.{IsSaid, KnowsNext, KnowsState, TakesStep, TakesStepAt, state_of, state_or_ended};
 ghost use Rattle.imap_session.specs.private.Messages.{selects_or_appends, state_left};
@@ -219,7 +219,7 @@ fn give_on_folders<V: Kind, W: Wire, J: Keeper, C: Clock>(
     requires account { account < length outside.old.desk.store.kept.accounts }
     requires other { selects_or_appends command.now ≡ false }
     ensures does { WithOracles (λ oracles. (now : List ℕ) (state : State) → Does (part_octets oracles) outside.old outside.new (fault_of result)
-        (mailbox_step oracles now tag.now state V.mode account outside.old.desk.store command.now).acts) }
+        (mailbox_step (context_of oracles now tag.now outside.old.desk.store) state V.mode account command.now).acts) }
     ensures known { OnOk result ((session : ImapState) → KnowsState outside.old.desk.store session → KnowsState outside.new.desk.store session) }
     ensures keeps { Keeps outside.old outside.new (fault_of result) }
 {
@@ -248,7 +248,8 @@ pub fn answer_on_folders<V: Kind, W: Wire, J: Keeper, C: Clock>(
     requires known { KnowsState outside.old.desk.store session }
     requires account { account < length outside.old.desk.store.kept.accounts }
     requires other { selects_or_appends command.now ≡ false }
-    ensures takes { (now : List ℕ) → TakesStep outside.old outside.new result (λ oracles. mailbox_step oracles now tag.now (state_of session) V.mode account outside.old.desk.store command.now) }
+    ensures takes { (now : List ℕ) → TakesStep outside.old outside.new result (λ oracles.
+        mailbox_step (context_of oracles now tag.now outside.old.desk.store) (state_of session) V.mode account command.now) }
     ensures keeps { Keeps outside.old outside.new (fault_of result) }
 {
     give_on_folders::<V, W, J, C>(account, tag, command, outside)?;
@@ -295,7 +296,8 @@ fn answer_authenticated<V: Kind, W: Wire, J: Keeper, C: Clock>(
     requires opens { IsOpen outside.old.desk }
     requires known { imap.state.account < length outside.old.desk.store.kept.accounts }
     requires said { IsSaid command.now }
-    ensures takes { TakesStepAt outside.old outside.new result (lacks_date command.now) (λ oracles now. authenticated_step oracles now tag.now V.mode imap.state.account outside.old.desk.store command.now) }
+    ensures takes { TakesStepAt outside.old outside.new result (lacks_date command.now) (λ oracles now.
+        authenticated_step (context_of oracles now tag.now outside.old.desk.store) V.mode imap.state.account command.now) }
     ensures keeps { Keeps outside.old outside.new (fault_of result) }
 {
     match command {

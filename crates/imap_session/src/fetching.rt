@@ -312,7 +312,9 @@ impl<'a, V: Kind> Fetching<'a, V> {
         requires id { one.now.id < length outside.old.desk.store.kept.messages }
         requires seen { flags_changed ≡ true → list_any sets_seen_of self.now.items.now ≡ true }
         ensures carries { WithOracles (λ oracles. (store : StoreState) → ShowsAlike store outside.old.desk.store → Carries (part_octets oracles) outside.old outside.new (fault_of result)
-            pending.old pending.new (fetch_told oracles V.mode store self.now.by_uid self.now.items.now number one.now flags_changed)) }
+            pending.old pending.new (fetch_told oracles store
+            (record { mode = V.mode; read_only = self.now.read_only; by_uid = self.now.by_uid; items = self.now.items.now })
+            (record { number = number; listed = one.now }) flags_changed)) }
         ensures store { OnOk result (outside.new.desk.store ≡ outside.old.desk.store) }
         ensures keeps { Keeps outside.old outside.new (fault_of result) }
     {
@@ -327,7 +329,8 @@ impl<'a, V: Kind> Fetching<'a, V> {
 }
 
 impl<'a, V: Kind> EachMessage for Fetching<'a, V> {
-    ghost acts = { λ fetching oracles store one. fetch_one oracles V.mode store fetching.by_uid fetching.read_only fetching.items.now one };
+    ghost acts = { λ fetching oracles store one. fetch_one oracles store
+        (record { mode = V.mode; read_only = fetching.read_only; by_uid = fetching.by_uid; items = fetching.items.now }) one };
 
     ghost may_take = { λ fetching. ⊤ };
 

@@ -15,7 +15,7 @@ ghost use Rattle.imap_grammar.specs.declared.command.Set.{Set};
 ghost use Rattle.imap_mailboxes.specs.Sets.{is_refused};
 ghost use Rattle.imap_session.specs.Answering.{EndsTagged, adds_to_store, asked_as, changes_store, is_fetch};
 ghost use Rattle.imap_session.specs.Items.{is_of_message};
-ghost use Rattle.imap_session.specs.Machine.{State, appended, chosen, completed, date_or, ended, mode_of, not_authenticated, out_of_order, says, selected, step};
+ghost use Rattle.imap_session.specs.Machine.{State, appended, chosen, completed, context_of, date_or, ended, mode_of, not_authenticated, out_of_order, says, selected, step};
 ghost use Rattle.imap_session.specs.Putting.{Cause, IsAuthenticated, IsPut, IsRefused, MayBePut, Said, append_of, put_step, words_of_cause};
 ghost use Rattle.imap_session.specs.Session.{Machine, next_turn};
 
@@ -32,7 +32,8 @@ pub fn whole_messages_are_put()
     ensures either { (oracles : Oracles) (now tag : List ℕ) (state : State) (mode : Mode) (account : ℕ) (store : StoreState) (said : Said)
         → TellsTrees oracles.has_tree → IsAuthenticated mode account state
         → let taken = step oracles now state store tag (append_of said) in
-        IsPut oracles now tag state mode account store said taken ⊎ IsRefused oracles tag state mode account store said taken }
+        let context = context_of oracles now tag store in
+        IsPut context state mode account said taken ⊎ IsRefused context state mode account said taken }
     ensures none { (tag : List ℕ) (state : State) (cause : Cause) → changes_in (says tag (words_of_cause cause) state).acts ≡ [] }
     ensures before { (oracles : Oracles) (now tag : List ℕ) (store : StoreState) (said : Said)
         → step oracles now not_authenticated store tag (append_of said) ≡ out_of_order tag not_authenticated }
@@ -45,7 +46,8 @@ pub fn few_commands_change_the_store()
         → changes_in (step oracles now state store tag said).acts ≡ [] }
     ensures before { (oracles : Oracles) (now tag : List ℕ) (store : StoreState) (said : Command) → changes_in (step oracles now not_authenticated store tag said).acts ≡ [] }
     ensures examined { (oracles : Oracles) (now tag : List ℕ) (mode : Mode) (account folder : ℕ) (store : StoreState) (said : Command) → adds_to_store said ≡ false
-        → changes_in (step oracles now (selected mode account folder true) store tag said).acts ≡ [] }
+        → let state = selected (record { mode = mode; account = account; folder = folder; read_only = true }) in
+        changes_in (step oracles now state store tag said).acts ≡ [] }
 {}
 
 /// Until a session has ended each command is answered: all that it does is done before the line with its tag is given, which is the last.
@@ -69,9 +71,14 @@ pub fn only_fetch_asks_for_messages()
         → asked_in (step oracles now state store tag said).acts ≡ [] }
     ensures once { (oracles : Oracles) (now tag : List ℕ) (account folder : ℕ) (read_only : Bool) (store : StoreState) (by_uid : Bool) (set : Set) (items : List FetchItem)
         → list_any is_of_message items ≡ true → is_refused by_uid set (listed store.kept folder) ≡ false
-        → asked_in (step oracles now (selected legacy account folder read_only) store tag (command_is.Fetch by_uid set items)).acts ≡ map (asked_as store) (chosen by_uid set (listed store.kept folder)) }
+        → let state = selected (record { mode = legacy; account = account; folder = folder; read_only = read_only }) in
+        asked_in (step oracles now state store tag (command_is.Fetch by_uid set items)).acts ≡ map (asked_as store) (chosen by_uid set (listed store.kept folder)) }
     ensures beside { (oracles : Oracles) (now tag : List ℕ) (mode : Mode) (account folder : ℕ) (read_only : Bool) (store : StoreState) (by_uid : Bool) (set : Set) (items : List FetchItem)
-        → list_any is_of_message items ≡ false → asked_in (step oracles now (selected mode account folder read_only) store tag (command_is.Fetch by_uid set items)).acts ≡ [] }
+        → list_any is_of_message items ≡ false
+        → let state = selected (record { mode = mode; account = account; folder = folder; read_only = read_only }) in
+        asked_in (step oracles now state store tag (command_is.Fetch by_uid set items)).acts ≡ [] }
     ensures refused { (oracles : Oracles) (now tag : List ℕ) (mode : Mode) (account folder : ℕ) (read_only : Bool) (store : StoreState) (by_uid : Bool) (set : Set) (items : List FetchItem)
-        → is_refused by_uid set (listed store.kept folder) ≡ true → asked_in (step oracles now (selected mode account folder read_only) store tag (command_is.Fetch by_uid set items)).acts ≡ [] }
+        → is_refused by_uid set (listed store.kept folder) ≡ true
+        → let state = selected (record { mode = mode; account = account; folder = folder; read_only = read_only }) in
+        asked_in (step oracles now state store tag (command_is.Fetch by_uid set items)).acts ≡ [] }
 {}

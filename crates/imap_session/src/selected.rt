@@ -1,5 +1,5 @@
 //! The commands on messages of a folder that is selected.
-ghost use Rattle.std.specs.Prelude.{◌≡◌, ◌≢◌, ◌<◌, ◌^◌, ℕ, List, Some, false, length, IfOk, IfSome, OnOk};
+ghost use Rattle.std.specs.Prelude.{◌≡◌, ◌≢◌, ◌<◌, ◌^◌, ℕ, List, false, length, IfOk, IfSome, OnOk};
 ghost use Rattle.std.specs.List.{All, flat_map};
 ghost use Rattle.std.specs.List.Sorted.{IsStrictlyIncreasing};
 ghost use Rattle.journal_records.specs.Grammar.{IsDate};
@@ -7,14 +7,15 @@ ghost use Rattle.kept_mail.specs.Kept.{listed};
 ghost use Rattle.mail_store.specs.StoreState.{StoreState};
 ghost use Rattle.mail_store.specs.Changing.{expunged};
 ghost use Rattle.imap_grammar.specs.declared.command.Command.TheVariants as command_is;
+ghost use Rattle.surrogate_cache.specs.Served.{Mode};
 ghost use Rattle.session_core.specs.Changes.{calls_of};
 ghost use Rattle.session_core.specs.Desks.{IsOpen};
 ghost use Rattle.session_core.specs.Doing.{Does, Makes};
 ghost use Rattle.session_core.specs.Keeps.{Keeps, fault_of};
 ghost use Rattle.session_core.specs.Oracles.{WithOracles};
-ghost use Rattle.imap_session.specs.Machine.{State, authenticated, close_step, date_or, deleted_ids as ids_of_deleted, done, ends_with, expunge_step, fetch_step, for_each, lacks_date, numbered_at, selected as selected_in, selected_step, store_step};
+ghost use Rattle.imap_session.specs.Machine.{State, authenticated, close_step, context_of, date_or, deleted_ids as ids_of_deleted, done, ends_with, expunge_step, fetch_step, for_each, lacks_date, numbered_at, selected as selected_in, selected_step, store_step};
 ghost use Rattle.imap_session.specs.Replies.{part_octets};
-ghost use Rattle.imap_session.specs.Session.{IsSaid, KnowsFolder, KnowsNext, TakesStep, TakesStepAt, state_or_ended};
+ghost use Rattle.imap_session.specs.Session.{IsSaid, KnowsFolder, KnowsNext, TakesStep, TakesStepAt, selection_of, state_or_ended};
 ghost use Rattle.imap_session.specs.private.Appending.{command_of, request_step};
 ghost use Rattle.imap_session.specs.private.Messages.{KeepsListing, selects_or_appends};
 ghost use Rattle.imap_session.specs.private.Selected.{AreListed, KnowsSelected};
@@ -95,8 +96,9 @@ fn fetch<V: Kind, W: Wire, J: Keeper, C: Clock>(
 ) -> Result<(), Fault>
     requires opens { IsOpen outside.old.desk }
     requires known { KnowsSelected outside.old.desk.store selected.old }
-    ensures does { WithOracles (λ oracles. (state : State) → Does (part_octets oracles) outside.old outside.new (fault_of result)
-        (fetch_step oracles tag.now state V.mode selected.old.folder selected.old.read_only outside.old.desk.store by_uid set.now items.now).acts) }
+    ensures does { WithOracles (λ oracles. (now : List ℕ) → Does (part_octets oracles) outside.old outside.new (fault_of result)
+        (fetch_step (context_of oracles now tag.now outside.old.desk.store) (selection_of V.mode selected.old)
+        (record { by_uid = by_uid; set = set.now; items = items.now })).acts) }
     ensures known { OnOk result (KnowsSelected outside.new.desk.store selected.new) }
     ensures same { selected.new ≡ record selected.old { messages = selected.new.messages } }
     ensures keeps { Keeps outside.old outside.new (fault_of result) }
@@ -120,8 +122,9 @@ fn store<W: Wire, J: Keeper, C: Clock>(
 ) -> Result<(), Fault>
     requires opens { IsOpen outside.old.desk }
     requires known { KnowsSelected outside.old.desk.store selected.old }
-    ensures does { WithOracles (λ oracles. (state : State) → Does (part_octets oracles) outside.old outside.new (fault_of result)
-        (store_step tag.now state selected.old.folder selected.old.read_only outside.old.desk.store storing.by_uid set.now storing.op storing.silent storing.named).acts) }
+    ensures does { WithOracles (λ oracles. (now : List ℕ) (mode : Mode) → Does (part_octets oracles) outside.old outside.new (fault_of result)
+        (store_step (context_of oracles now tag.now outside.old.desk.store) (selection_of mode selected.old)
+        (record { by_uid = storing.by_uid; set = set.now; op = storing.op; silent = storing.silent; flags = storing.named })).acts) }
     ensures known { OnOk result (KnowsSelected outside.new.desk.store selected.new) }
     ensures same { selected.new ≡ record selected.old { messages = selected.new.messages } }
     ensures keeps { Keeps outside.old outside.new (fault_of result) }
@@ -206,7 +209,7 @@ fn stay<V: Kind>(
     done: Result<(), Fault>,
 ) -> Result<Option<ImapState>, Fault>
     ensures met { fault_of result ≡ fault_of done }
-    ensures state { IfOk result (λ next. state_or_ended next ≡ selected_in V.mode imap.state.account imap.state.folder imap.state.read_only) }
+    ensures state { IfOk result (λ next. state_or_ended next ≡ selected_in (selection_of V.mode imap.state)) }
     ensures known { (store : StoreState) → OnOk done (KnowsFolder store imap.state.account imap.state.folder imap.state.messages.items) → IfOk result (KnowsNext store) }
 {
     done?;
@@ -238,7 +241,7 @@ fn append_selected<V: Kind, W: Wire, J: Keeper, C: Clock>(
     requires flags { request.now.flags < 32 }
     requires dated { IfSome request.now.date.now IsDate }
     ensures takes { TakesStepAt outside.old outside.new result (lacks_date (command_of request.now)) (λ oracles now.
-        request_step oracles tag.now (selected_in V.mode imap.state.account imap.state.folder imap.state.read_only) (Some imap.state.folder) V.mode imap.state.account outside.old.desk.store request.now
+        request_step (context_of oracles now tag.now outside.old.desk.store) (selected_in (selection_of V.mode imap.state)) V.mode imap.state.account request.now
         (date_or now request.now.date.now)) }
     ensures keeps { Keeps outside.old outside.new (fault_of result) }
 {
@@ -259,7 +262,7 @@ fn answer_within<V: Kind, W: Wire, J: Keeper, C: Clock>(
     requires other { selects_or_appends command.now ≡ false }
     requires stays { command.now ≢ command_is.Close }
     ensures takes { (now : List ℕ) → TakesStep outside.old outside.new result (λ oracles.
-        selected_step oracles now tag.now V.mode imap.state.account imap.state.folder imap.state.read_only outside.old.desk.store command.now) }
+        selected_step (context_of oracles now tag.now outside.old.desk.store) (selection_of V.mode imap.state) command.now) }
     ensures keeps { Keeps outside.old outside.new (fault_of result) }
 {
     match command {
@@ -311,7 +314,7 @@ pub fn answer_selected<V: Kind, W: Wire, J: Keeper, C: Clock>(
     requires known { KnowsFolder outside.old.desk.store imap.state.account imap.state.folder imap.state.messages.items }
     requires said { IsSaid command.now }
     ensures takes { TakesStepAt outside.old outside.new result (lacks_date command.now) (λ oracles now.
-        selected_step oracles now tag.now V.mode imap.state.account imap.state.folder imap.state.read_only outside.old.desk.store command.now) }
+        selected_step (context_of oracles now tag.now outside.old.desk.store) (selection_of V.mode imap.state) command.now) }
     ensures keeps { Keeps outside.old outside.new (fault_of result) }
 {
     match command {

@@ -3,7 +3,7 @@ ghost use Rattle.std.specs.Prelude.{◌≡◌, ◌<◌, length, IfOk};
 ghost use Rattle.mail_store.specs.StoreState.{StoreState};
 ghost use Rattle.surrogate_cache.specs.Served.{legacy, enabled};
 ghost use Rattle.imap_session.specs.Machine.{authenticated, selected};
-ghost use Rattle.imap_session.specs.Session.{KnowsFolder, KnowsState, state_of};
+ghost use Rattle.imap_session.specs.Session.{KnowsFolder, KnowsState, selection_of, state_of};
 
 use kept_mail::Listed;
 use std::marker::PhantomData;
@@ -58,7 +58,7 @@ pub trait Kind: View {
         ensures known { (store : StoreState) → imap.state.account < length store.kept.accounts → KnowsState store result };
 
     fn in_selected(imap: Imap<Selected, Self>) -> ImapState
-        ensures state { state_of result ≡ selected Self.mode imap.state.account imap.state.folder imap.state.read_only }
+        ensures state { state_of result ≡ selected (selection_of Self.mode imap.state) }
         ensures known { (store : StoreState) → KnowsFolder store imap.state.account imap.state.folder imap.state.messages.items → KnowsState store result };
 }
 
@@ -71,7 +71,7 @@ impl Kind for Legacy {
     }
 
     fn in_selected(imap: Imap<Selected, Legacy>) -> ImapState
-        ensures state { state_of result ≡ selected legacy imap.state.account imap.state.folder imap.state.read_only }
+        ensures state { state_of result ≡ selected (selection_of legacy imap.state) }
         ensures known { (store : StoreState) → KnowsFolder store imap.state.account imap.state.folder imap.state.messages.items → KnowsState store result }
     {
         ImapState::Selected(imap)
@@ -87,7 +87,7 @@ impl Kind for Enabled {
     }
 
     fn in_selected(imap: Imap<Selected, Enabled>) -> ImapState
-        ensures state { state_of result ≡ selected enabled imap.state.account imap.state.folder imap.state.read_only }
+        ensures state { state_of result ≡ selected (selection_of enabled imap.state) }
         ensures known { (store : StoreState) → KnowsFolder store imap.state.account imap.state.folder imap.state.messages.items → KnowsState store result }
     {
         ImapState::EnabledSelected(imap)

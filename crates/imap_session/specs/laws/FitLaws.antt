@@ -49,7 +49,6 @@ use Rattle.imap_grammar.specs.declared.command.SectionPart.TheVariants as part
 use Rattle.imap_grammar.specs.declared.command.Set.{Set}
 use Rattle.imap_grammar.specs.declared.command.StatusItem.{StatusItem}
 use Rattle.imap_grammar.specs.declared.command.StatusItem.TheVariants as status
-use Rattle.imap_grammar.specs.declared.command.StoreOp.{StoreOp}
 use Rattle.imap_grammar.specs.declared.event.Event.{Event}
 use Rattle.imap_grammar.specs.declared.event.Event.TheVariants.{More, Go, Command as CommandEvent, Bad, TooLarge, TooLong}
 use Rattle.imap_mailboxes.specs.Flags.{flag_word, flag_words, flags_text, has_flag, stored_flags}
@@ -59,7 +58,7 @@ use Rattle.imap_mailboxes.specs.Sets.{is_refused}
 use Rattle.imap_views.specs.Views.{envelope, fields, structure}
 use Rattle.imap_session.specs.laws.CommandLaws.{AsksAscii, FetchesAscii, IsAsciiName, NamesAscii, is_date_date, names_of, said_of}
 use Rattle.imap_session.specs.Items.{asked_of, field_name, fields_parts, fields_word, header_octets, is_flags, is_uid, item_parts, literal_head, octets_at, part_words, partial_octets, partial_span, partial_text, section_at, section_name, section_parts, served_of, shown_parts, size_of, whole_header}
-use Rattle.imap_session.specs.Machine.{State, Step, Numbered, append_in, append_octets, append_unless, appended, authenticated, becomes_seen, chosen, close_step, closing_up, common_step, completed, create_by, create_unless, deleted_ids, done, enable_step, ends_with, exists_lines, expunge_step, fetch_one, fetch_reply, fetch_step, fetch_told, flags_reply, flags_change, folder_lines, folder_named, for_each, line, names_folder, no_such_message, opened_in, out_of_order, refused_as_read_only, says, untagged, is_deleted, list_line, list_lines, login_by, mailbox_step, not_authenticated, not_authenticated_step, opened_words, parts_following, permanent_flags, reply, seen, select_by, selected, selected_step, authenticated_step, spaced, status_among, status_by, status_line, status_text, step, store_one, store_step, tagged, taken_out, uid_text, unseen_among, with_flags, with_uid, asks_utf8, ended}
+use Rattle.imap_session.specs.Machine.{Append, Context, Fetch, Fetching, Selection, State, Step, Store, Numbered, append_in, append_octets, append_unless, appended, authenticated, becomes_seen, chosen, close_step, closing_up, common_step, completed, context_of, create_by, create_unless, deleted_ids, done, enable_step, ends_with, exists_lines, expunge_step, fetch_one, fetch_reply, fetch_step, fetch_told, fetching_in, flags_reply, flags_change, folder_lines, folder_named, for_each, line, names_folder, no_such_message, opened_in, out_of_order, refused_as_read_only, says, untagged, is_deleted, list_line, list_lines, login_by, mailbox_step, not_authenticated, not_authenticated_step, opened_words, parts_following, permanent_flags, reply, seen, select_by, selected, selected_step, authenticated_step, spaced, status_among, status_by, status_line, status_text, step, store_one, store_step, tagged, taken_out, uid_text, unseen_among, with_flags, with_uid, asks_utf8, ended}
 use Rattle.imap_session.specs.Replies.{AreFit, IsFit, ReplyPart, text, name, shown, viewed}
 use Rattle.imap_session.specs.Session.{IsSaid, date_at, due_step, fits_shape, is_date, long_ago}
 use Rattle.imap_session.specs.laws.ViewLaws.{ascii_envelope, ascii_fields, ascii_header, ascii_structure, first_header}
@@ -207,7 +206,7 @@ module _ (oracles : Oracles) (tag : List ℕ) (tag_fit : list_all is_ascii tag �
 
   select_right : (mode : Mode) (account : ℕ) (read_only : Bool) (store : StoreState) (found : Option ℕ) → AreRight oracles (select_by tag mode account read_only store found).acts
   select_right mode account read_only store None = says_right (codes "NO no such folder") (authenticated mode account) refl
-  select_right mode account read_only store (Some folder) = answers_right (opened_words read_only) (folder_lines store folder read_only) (selected mode account folder read_only) (opened_fit read_only) (folder_fit store folder read_only)
+  select_right mode account read_only store (Some folder) = answers_right (opened_words read_only) (folder_lines store folder read_only) (selected (record { mode = mode; account = account; folder = folder; read_only = read_only })) (opened_fit read_only) (folder_fit store folder read_only)
 
   unless_right : (state : State) (account : ℕ) (kept : List ℕ) (refused : Option StoreFault) → AreRight oracles (create_unless tag state account kept refused).acts
   unless_right state account kept None = ends_right done (changes (records.Folder account kept ∷ []) ∷ []) state refl ((tt, tt), tt)
@@ -454,15 +453,18 @@ module _ (oracles : Oracles) (are : AreOracles oracles) (mode : Mode) (store : S
     all-append (IsFit oracles) (parts_following false (map (item_parts oracles mode store one) items)) (line (codes ")") ∷ []) (after_fit false one items ascii) (refl, tt),
   )
 
-  fetch_one_right : (by_uid read_only : Bool) (items : List FetchItem) → AllByRecursion AsksAscii items → (one : Numbered) → AreRight oracles (fetch_one oracles mode store by_uid read_only items one)
+  fetch_one_right : (by_uid read_only : Bool) (items : List FetchItem) → AllByRecursion AsksAscii items → (one : Numbered)
+      → AreRight oracles (fetch_one oracles store (record { mode = mode; read_only = read_only; by_uid = by_uid; items = items }) one)
   fetch_one_right by_uid read_only items ascii one =
+      let fetching : Fetching = record { mode = mode; read_only = read_only; by_uid = by_uid; items = items } in
       let now_seen = seen one.listed in
-      let told : (is : Listed) (changed : Bool) → AreRight oracles (fetch_told oracles mode store by_uid items one.number is changed) = λ is changed.
+      let told : (is : Listed) (changed : Bool) → AreRight oracles (fetch_told oracles store fetching (record { number = one.number; listed = is }) changed) = λ is changed.
       (let all = with_flags changed (with_uid by_uid items) in
       asking_right oracles (asked_of mode store items is.id) (reply (fetch_reply oracles mode store one.number is all))
       (reply_right oracles (fetch_reply oracles mode store one.number is all) (fetch_fit one.number is all (flags_ascii changed (with_uid by_uid items) (uid_ascii by_uid items ascii))))) in
-      cond_both (becomes_seen read_only items one.listed) (changes (flags_change one.listed now_seen.flags) ∷ fetch_told oracles mode store by_uid items one.number now_seen true)
-      (fetch_told oracles mode store by_uid items one.number one.listed false) (λ z. AreRight oracles z) (λ _. ((tt, tt), told now_seen true)) (λ _. told one.listed false)
+      cond_both (becomes_seen read_only items one.listed)
+      (changes (flags_change one.listed now_seen.flags) ∷ fetch_told oracles store fetching (record { number = one.number; listed = now_seen }) true)
+      (fetch_told oracles store fetching one false) (λ z. AreRight oracles z) (λ _. ((tt, tt), told now_seen true)) (λ _. told one.listed false)
 
 -- ---- STORE, EXPUNGE and CLOSE
 
@@ -505,10 +507,13 @@ module _ (oracles : Oracles) (are : AreOracles oracles) (now : List ℕ) (dated 
       either_right oracles tag tag_fit (is_refused by_uid set messages) (no_such_message tag state) (ends_with tag done acts state) (says_right oracles tag tag_fit (codes "BAD no such message") state refl)
       (ends_right oracles tag tag_fit done acts state refl (each_right oracles act right (chosen by_uid set messages)))
 
-  fetch_right : (state : State) (mode : Mode) (folder : ℕ) (read_only by_uid : Bool) (set : Set) (items : List FetchItem) → AllByRecursion AsksAscii items
-      → AreRight oracles (fetch_step oracles tag state mode folder read_only store by_uid set items).acts
-  fetch_right state mode folder read_only by_uid set items ascii =
-      each_message_right state by_uid set (listed store.kept folder) (fetch_one oracles mode store by_uid read_only items) (fetch_one_right oracles are mode store stored by_uid read_only items ascii)
+  abbrev context : Context
+  context = context_of oracles now tag store
+
+  fetch_right : (selection : Selection) (fetch : Fetch) → AllByRecursion AsksAscii fetch.items → AreRight oracles (fetch_step context selection fetch).acts
+  fetch_right selection fetch ascii =
+      each_message_right (selected selection) fetch.by_uid fetch.set (listed store.kept selection.folder) (fetch_one oracles store (fetching_in selection fetch))
+      (fetch_one_right oracles are selection.mode store stored fetch.by_uid selection.read_only fetch.items ascii)
 
   exists_fit : (opened : Option ℕ) (kept : Kept) (folder : ℕ) → AreFit oracles (exists_lines opened kept folder)
   exists_fit None kept folder = tt
@@ -517,40 +522,41 @@ module _ (oracles : Oracles) (are : AreOracles oracles) (now : List ℕ) (dated 
       cond_both (opened == folder) (untagged (count ++ codes " EXISTS") ∷ []) [] (λ z. AreFit oracles z)
       (λ _. (untagged_fit (count ++ codes " EXISTS") (pass-append is_ascii count (codes " EXISTS") (ascii-decimal (length (listed kept folder))) refl), tt)) (λ _. tt)
 
-  unless_kept_right : (state : State) (opened : Option ℕ) (folder : ℕ) (made : Record) (refused : Option StoreFault) → MayBeKept made
-      → AreRight oracles (append_unless tag state opened store.kept folder made refused).acts
-  unless_kept_right state opened folder made None may =
-      let told = exists_lines opened (after_record store.kept made) folder in
-      ends_right oracles tag tag_fit done (changes (made ∷ []) ∷ reply told) state refl ((may, tt), reply_right oracles told (exists_fit opened (after_record store.kept made) folder))
-  unless_kept_right state opened folder made (Some refusal.Exists) may = says_right oracles tag tag_fit (codes "NO too large") state refl
-  unless_kept_right state opened folder made (Some refusal.NoSuch) may = says_right oracles tag tag_fit (codes "NO too large") state refl
-  unless_kept_right state opened folder made (Some refusal.TooLarge) may = says_right oracles tag tag_fit (codes "NO too large") state refl
-  unless_kept_right state opened folder made (Some refusal.Memory) may = says_right oracles tag tag_fit (codes "NO too large") state refl
-  unless_kept_right state opened folder made (Some refusal.Keeper) may = says_right oracles tag tag_fit (codes "NO too large") state refl
+  unless_kept_right : (state : State) (folder : ℕ) (made : Record) (refused : Option StoreFault) → MayBeKept made
+      → AreRight oracles (append_unless tag state store.kept folder made refused).acts
+  unless_kept_right state folder made None may =
+      let told = exists_lines (opened_in state) (after_record store.kept made) folder in
+      ends_right oracles tag tag_fit done (changes (made ∷ []) ∷ reply told) state refl ((may, tt), reply_right oracles told (exists_fit (opened_in state) (after_record store.kept made) folder))
+  unless_kept_right state folder made (Some refusal.Exists) may = says_right oracles tag tag_fit (codes "NO too large") state refl
+  unless_kept_right state folder made (Some refusal.NoSuch) may = says_right oracles tag tag_fit (codes "NO too large") state refl
+  unless_kept_right state folder made (Some refusal.TooLarge) may = says_right oracles tag tag_fit (codes "NO too large") state refl
+  unless_kept_right state folder made (Some refusal.Memory) may = says_right oracles tag tag_fit (codes "NO too large") state refl
+  unless_kept_right state folder made (Some refusal.Keeper) may = says_right oracles tag tag_fit (codes "NO too large") state refl
 
-  octets_right : (state : State) (opened : Option ℕ) (folder flags : ℕ) (date octets : List ℕ) → IsDate date
-      → AreRight oracles (append_octets (oracles.has_tree octets) tag state opened store folder flags date octets).acts
-  octets_right state opened folder flags date octets dated =
+  octets_right : (state : State) (folder : ℕ) (append : Append) → IsDate append.date → AreRight oracles (append_octets context state folder append).acts
+  octets_right state folder append dated =
+      let octets = completed append.octets in
       let refused = append_refusal store octets in
-      let made = appended folder flags date octets in
-      cond_both (oracles.has_tree octets) (append_unless tag state opened store.kept folder made refused) (says tag (codes "NO not a message") state) (λ (one : Step). AreRight oracles one.acts)
-      (λ is. unless_kept_right state opened folder made refused (dated, (are.trees octets).0 is)) (λ _. says_right oracles tag tag_fit (codes "NO not a message") state refl)
+      let made = appended folder append.flags append.date octets in
+      cond_both (oracles.has_tree octets) (append_unless tag state store.kept folder made refused) (says tag (codes "NO not a message") state) (λ (one : Step). AreRight oracles one.acts)
+      (λ is. unless_kept_right state folder made refused (dated, (are.trees octets).0 is)) (λ _. says_right oracles tag tag_fit (codes "NO not a message") state refl)
 
-  append_right : (state : State) (opened : Option ℕ) (mode : Mode) (flags : ℕ) (date : List ℕ) (in_utf8 : Bool) (octets : List ℕ) (found : Option ℕ) → IsDate date
-      → AreRight oracles (append_in oracles tag state opened mode store flags date in_utf8 octets found).acts
-  append_right state opened mode flags date in_utf8 octets None dated = says_right oracles tag tag_fit (codes "NO no such folder") state refl
-  append_right state opened mode flags date in_utf8 octets (Some folder) dated =
-      either_right oracles tag tag_fit (in_utf8 && not (is_enabled mode)) (says tag (codes "NO not enabled") state)
-      (append_octets (oracles.has_tree (completed octets)) tag state opened store folder flags date (completed octets)) (says_right oracles tag tag_fit (codes "NO not enabled") state refl)
-      (octets_right state opened folder flags date (completed octets) dated)
+  append_right : (state : State) (mode : Mode) (append : Append) (found : Option ℕ) → IsDate append.date → AreRight oracles (append_in context state mode append found).acts
+  append_right state mode append None dated = says_right oracles tag tag_fit (codes "NO no such folder") state refl
+  append_right state mode append (Some folder) dated =
+      either_right oracles tag tag_fit (append.in_utf8 && not (is_enabled mode)) (says tag (codes "NO not enabled") state) (append_octets context state folder append)
+      (says_right oracles tag tag_fit (codes "NO not enabled") state refl) (octets_right state folder append dated)
 
-  store_right : (state : State) (folder : ℕ) (read_only by_uid : Bool) (set : Set) (op : StoreOp) (silent : Bool) (named : ℕ) → AreRight oracles (store_step tag state folder read_only store by_uid set op silent named).acts
-  store_right state folder read_only by_uid set op silent named =
-      let act = store_one by_uid silent op named in
-      either_right oracles tag tag_fit read_only (refused_as_read_only tag state) (for_each tag state by_uid set (listed store.kept folder) act) (says_right oracles tag tag_fit (codes "NO read only") state refl)
-      (each_message_right state by_uid set (listed store.kept folder) act (λ one.
-      let flags = stored_flags op one.listed.flags named in
-      ((tt, tt), reply_right oracles (flags_reply by_uid silent one flags) (told_fit oracles by_uid silent one flags))))
+  store_right : (selection : Selection) (said : Store) → AreRight oracles (store_step context selection said).acts
+  store_right selection said =
+      let state = selected selection in
+      let messages = listed store.kept selection.folder in
+      let act = store_one said.by_uid said.silent said.op said.flags in
+      either_right oracles tag tag_fit selection.read_only (refused_as_read_only tag state) (for_each tag state said.by_uid said.set messages act)
+      (says_right oracles tag tag_fit (codes "NO read only") state refl)
+      (each_message_right state said.by_uid said.set messages act (λ one.
+      let flags = stored_flags said.op one.listed.flags said.flags in
+      ((tt, tt), reply_right oracles (flags_reply said.by_uid said.silent one flags) (told_fit oracles said.by_uid said.silent one flags))))
 
   expunge_right : (state : State) (read_only : Bool) (messages : List Listed) → AreRight oracles (expunge_step tag state read_only messages).acts
   expunge_right state read_only messages =
@@ -605,7 +611,7 @@ module _ (oracles : Oracles) (are : AreOracles oracles) (now : List ℕ) (dated 
   unauthenticated_right command.Expunge = common_right not_authenticated command.Expunge
   unauthenticated_right command.Close = common_right not_authenticated command.Close
 
-  mailbox_right : (state : State) (mode : Mode) (account : ℕ) (said : Command) → IsSaid said → AreRight oracles (mailbox_step oracles now tag state mode account store said).acts
+  mailbox_right : (state : State) (mode : Mode) (account : ℕ) (said : Command) → IsSaid said → AreRight oracles (mailbox_step context state mode account said).acts
   mailbox_right state mode account (command.Select written) said = select_right oracles tag tag_fit mode account false store (folder_named oracles mode store account written)
   mailbox_right state mode account (command.Examine written) said = select_right oracles tag tag_fit mode account true store (folder_named oracles mode store account written)
   mailbox_right state mode account (command.Create written) said = create_right oracles tag tag_fit state account store (oracles.name_of (is_enabled mode) written)
@@ -615,9 +621,9 @@ module _ (oracles : Oracles) (are : AreOracles oracles) (now : List ℕ) (dated 
       status_right : (found : Option ℕ) → AreRight oracles (status_by tag state mode store items found).acts
       status_right None = says_right oracles tag tag_fit (codes "NO no such folder") state refl
       status_right (Some folder) = answers_right oracles tag tag_fit done (status_line mode store folder items) state refl (status_fit oracles mode store folder items)
-  mailbox_right state mode account (command.Append written flags None utf8 octets) said = append_right state (opened_in state) mode flags now utf8 octets (folder_named oracles mode store account written) dated
+  mailbox_right state mode account (command.Append written flags None utf8 octets) said = append_right state mode (record { flags = flags; date = now; in_utf8 = utf8; octets = octets }) (folder_named oracles mode store account written) dated
   mailbox_right state mode account (command.Append written flags (Some date) utf8 octets) said =
-      append_right state (opened_in state) mode flags date utf8 octets (folder_named oracles mode store account written) said.0
+      append_right state mode (record { flags = flags; date = date; in_utf8 = utf8; octets = octets }) (folder_named oracles mode store account written) said.0
   mailbox_right state mode account command.Capability said = common_right state command.Capability
   mailbox_right state mode account command.Noop said = common_right state command.Noop
   mailbox_right state mode account command.Logout said = common_right state command.Logout
@@ -630,7 +636,7 @@ module _ (oracles : Oracles) (are : AreOracles oracles) (now : List ℕ) (dated 
   mailbox_right state mode account command.Expunge said = common_right state command.Expunge
   mailbox_right state mode account command.Close said = common_right state command.Close
 
-  authenticated_right : (mode : Mode) (account : ℕ) (said : Command) → IsSaid said → AreRight oracles (authenticated_step oracles now tag mode account store said).acts
+  authenticated_right : (mode : Mode) (account : ℕ) (said : Command) → IsSaid said → AreRight oracles (authenticated_step context mode account said).acts
   authenticated_right mode account (command.Enable words) said = enable_right oracles tag tag_fit mode account (asks_utf8 words)
   authenticated_right mode account (command.Select written) said = mailbox_right (authenticated mode account) mode account (command.Select written) said
   authenticated_right mode account (command.Examine written) said = mailbox_right (authenticated mode account) mode account (command.Examine written) said
@@ -649,30 +655,30 @@ module _ (oracles : Oracles) (are : AreOracles oracles) (now : List ℕ) (dated 
   authenticated_right mode account command.Expunge said = common_right (authenticated mode account) command.Expunge
   authenticated_right mode account command.Close said = common_right (authenticated mode account) command.Close
 
-  selected_right : (mode : Mode) (account folder : ℕ) (read_only : Bool) (said : Command) → IsSaid said → FetchesAscii said → AreRight oracles (selected_step oracles now tag mode account folder read_only store said).acts
-  selected_right mode account folder read_only command.Check said ascii = says_right oracles tag tag_fit done (selected mode account folder read_only) refl
-  selected_right mode account folder read_only (command.Fetch by_uid set items) said ascii = fetch_right (selected mode account folder read_only) mode folder read_only by_uid set items ascii
-  selected_right mode account folder read_only (command.Store by_uid set op silent flags) said ascii = store_right (selected mode account folder read_only) folder read_only by_uid set op silent flags
-  selected_right mode account folder read_only command.Expunge said ascii = expunge_right (selected mode account folder read_only) read_only (listed store.kept folder)
-  selected_right mode account folder read_only command.Close said ascii = close_right (authenticated mode account) read_only (listed store.kept folder)
-  selected_right mode account folder read_only (command.Select written) said ascii = mailbox_right (selected mode account folder read_only) mode account (command.Select written) said
-  selected_right mode account folder read_only (command.Examine written) said ascii = mailbox_right (selected mode account folder read_only) mode account (command.Examine written) said
-  selected_right mode account folder read_only (command.Create written) said ascii = mailbox_right (selected mode account folder read_only) mode account (command.Create written) said
-  selected_right mode account folder read_only (command.List reference pattern) said ascii = mailbox_right (selected mode account folder read_only) mode account (command.List reference pattern) said
-  selected_right mode account folder read_only (command.Status written items) said ascii = mailbox_right (selected mode account folder read_only) mode account (command.Status written items) said
-  selected_right mode account folder read_only (command.Append written flags date utf8 octets) said ascii = mailbox_right (selected mode account folder read_only) mode account (command.Append written flags date utf8 octets) said
-  selected_right mode account folder read_only command.Capability said ascii = common_right (selected mode account folder read_only) command.Capability
-  selected_right mode account folder read_only command.Noop said ascii = common_right (selected mode account folder read_only) command.Noop
-  selected_right mode account folder read_only command.Logout said ascii = common_right (selected mode account folder read_only) command.Logout
-  selected_right mode account folder read_only command.NotHere said ascii = common_right (selected mode account folder read_only) command.NotHere
-  selected_right mode account folder read_only (command.Login user password) said ascii = common_right (selected mode account folder read_only) (command.Login user password)
-  selected_right mode account folder read_only (command.Enable words) said ascii = common_right (selected mode account folder read_only) (command.Enable words)
+  selected_right : (selection : Selection) (said : Command) → IsSaid said → FetchesAscii said → AreRight oracles (selected_step context selection said).acts
+  selected_right selection command.Check said ascii = says_right oracles tag tag_fit done (selected selection) refl
+  selected_right selection (command.Fetch by_uid set items) said ascii = fetch_right selection (record { by_uid = by_uid; set = set; items = items }) ascii
+  selected_right selection (command.Store by_uid set op silent flags) said ascii = store_right selection (record { by_uid = by_uid; set = set; op = op; silent = silent; flags = flags })
+  selected_right selection command.Expunge said ascii = expunge_right (selected selection) selection.read_only (listed store.kept selection.folder)
+  selected_right selection command.Close said ascii = close_right (authenticated selection.mode selection.account) selection.read_only (listed store.kept selection.folder)
+  selected_right selection (command.Select written) said ascii = mailbox_right (selected selection) selection.mode selection.account (command.Select written) said
+  selected_right selection (command.Examine written) said ascii = mailbox_right (selected selection) selection.mode selection.account (command.Examine written) said
+  selected_right selection (command.Create written) said ascii = mailbox_right (selected selection) selection.mode selection.account (command.Create written) said
+  selected_right selection (command.List reference pattern) said ascii = mailbox_right (selected selection) selection.mode selection.account (command.List reference pattern) said
+  selected_right selection (command.Status written items) said ascii = mailbox_right (selected selection) selection.mode selection.account (command.Status written items) said
+  selected_right selection (command.Append written flags date utf8 octets) said ascii = mailbox_right (selected selection) selection.mode selection.account (command.Append written flags date utf8 octets) said
+  selected_right selection command.Capability said ascii = common_right (selected selection) command.Capability
+  selected_right selection command.Noop said ascii = common_right (selected selection) command.Noop
+  selected_right selection command.Logout said ascii = common_right (selected selection) command.Logout
+  selected_right selection command.NotHere said ascii = common_right (selected selection) command.NotHere
+  selected_right selection (command.Login user password) said ascii = common_right (selected selection) (command.Login user password)
+  selected_right selection (command.Enable words) said ascii = common_right (selected selection) (command.Enable words)
 
   pub step_right : (state : State) (said : Command) → IsSaid said → FetchesAscii said → AreRight oracles (step oracles now state store tag said).acts
   unfolding step
   step_right not_authenticated said is ascii = unauthenticated_right said
   step_right (authenticated mode account) said is ascii = authenticated_right mode account said is
-  step_right (selected mode account folder read_only) said is ascii = selected_right mode account folder read_only said is ascii
+  step_right (selected selection) said is ascii = selected_right selection said is ascii
   step_right ended said is ascii = tt
 
 -- ---- what is due

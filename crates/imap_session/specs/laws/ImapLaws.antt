@@ -72,7 +72,7 @@ comes_from : (oracles : Oracles) (state : State) (machine : Machine) (octets : L
     → ComesOf oracles machine octets turn
 comes_from oracles not_authenticated machine octets turn is = comes_by oracles machine octets turn _ refl is
 comes_from oracles (authenticated mode account) machine octets turn is = comes_by oracles machine octets turn _ refl is
-comes_from oracles (selected mode account folder read_only) machine octets turn is = comes_by oracles machine octets turn _ refl is
+comes_from oracles (selected selection) machine octets turn is = comes_by oracles machine octets turn _ refl is
 comes_from oracles ended machine octets turn is = cc
 
 pub comes : (oracles : Oracles) (machine : Machine) (octets : List ℕ) (turn : Turn Machine (Act ReplyPart)) → next_turn oracles machine octets ≡ Some turn
@@ -107,7 +107,7 @@ waits_from : (oracles : Oracles) (state : State) (machine : Machine) (rest : Lis
     → turn_from oracles state machine rest ≡ None
 waits_from oracles not_authenticated machine rest is = ap (option_map (due_turn oracles machine rest)) is
 waits_from oracles (authenticated mode account) machine rest is = ap (option_map (due_turn oracles machine rest)) is
-waits_from oracles (selected mode account folder read_only) machine rest is = ap (option_map (due_turn oracles machine rest)) is
+waits_from oracles (selected selection) machine rest is = ap (option_map (due_turn oracles machine rest)) is
 waits_from oracles ended machine rest is = refl
 
 pub waits_by : (oracles : Oracles) → AreOracles oracles → (more : List Moment) (session : ImapMachine) (kept : List ℕ) (desk : Desk) (machine : Machine) (rest : List ℕ)
@@ -136,7 +136,7 @@ more_from : (oracles : Oracles) (state : State) (machine : Machine) (octets more
     → oracles.event_of (is_enabled (mode_of machine.state)) machine.seen (octets ++ more) ≡ Some due → turn_from oracles state machine (octets ++ more) ≡ Some (due_turn oracles machine (octets ++ more) due)
 more_from oracles not_authenticated machine octets more turn due is found = ap (option_map (due_turn oracles machine (octets ++ more))) found
 more_from oracles (authenticated mode account) machine octets more turn due is found = ap (option_map (due_turn oracles machine (octets ++ more))) found
-more_from oracles (selected mode account folder read_only) machine octets more turn due is found = ap (option_map (due_turn oracles machine (octets ++ more))) found
+more_from oracles (selected selection) machine octets more turn due is found = ap (option_map (due_turn oracles machine (octets ++ more))) found
 more_from oracles ended machine octets more turn due is found = cc
 
 shorter_by : (oracles : Oracles) → AreOracles oracles → (machine : Machine) (octets : List ℕ) (turn : Turn Machine (Act ReplyPart)) → next_turn oracles machine octets ≡ Some turn

@@ -12,7 +12,7 @@ use Rattle.session_core.specs.Oracles.{Oracles}
 use Rattle.session_core.specs.Moments.{Moment, IsTold}
 use Rattle.imap_grammar.specs.declared.command.Command.{Command}
 use Rattle.imap_grammar.specs.declared.command.Command.TheVariants as command
-use Rattle.imap_session.specs.Machine.{State, Step, append_in, appended, completed, done, exists_lines, folder_named}
+use Rattle.imap_session.specs.Machine.{Context, State, Step, append_in, appended, completed, done, exists_lines, folder_named}
 use Rattle.imap_session.specs.Replies.{ReplyPart}
 use Rattle.imap_session.specs.declared.appending.AppendRequest.{AppendRequest}
 use Rattle.imap_session.specs.declared.appending.Put.{Put}
@@ -23,9 +23,10 @@ abbrev pub command_of : AppendRequest → Command
 command_of request = command.Append request.written.now request.flags request.date.now request.in_utf8 request.octets.now
 
 -- its step, with this date
-abbrev pub request_step : Oracles → (tag : List ℕ) → State → (opened : Option ℕ) → Mode → (account : ℕ) → StoreState → AppendRequest → (date : List ℕ) → Step
-request_step oracles tag state opened mode account store request date =
-    append_in oracles tag state opened mode store request.flags date request.in_utf8 request.octets.now (folder_named oracles mode store account request.written.now)
+abbrev pub request_step : Context → State → Mode → (account : ℕ) → AppendRequest → (date : List ℕ) → Step
+request_step context state mode account request date =
+    append_in context state mode (record { flags = request.flags; date = date; in_utf8 = request.in_utf8; octets = request.octets.now })
+    (folder_named context.oracles mode context.store account request.written.now)
 
 -- where octets are put, or why they aren't
 abbrev pub put_unless : (folder : ℕ) → Option StoreFault → Put

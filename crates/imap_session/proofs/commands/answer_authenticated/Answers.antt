@@ -1,6 +1,6 @@
 use Rattle.std.proofs.Common.{◌∙◌, ap, false, refl}
 use Rattle.session_core.specs.Oracles.{Oracles}
-use Rattle.imap_session.specs.Machine.{State, Step, authenticated_step, lacks_date, mailbox_step}
+use Rattle.imap_session.specs.Machine.{State, Step, authenticated_step, context_of, lacks_date, mailbox_step}
 use Rattle.imap_session.specs.Session.{state_of}
 use Rattle.imap_session.proofs.CommandLemmas.{authenticated-other, dated-other, selects-other}
 use Rattle.imap_session.proofs.StepLemmas.{Takes-same, TakesAt-plain}
@@ -26,9 +26,9 @@ returns-in_default-clause-takes g c =
     let said = c.args.command.now in
     let plain = selects-other said c.in_default.not-Select c.in_default.not-Examine c.in_default.not-Append in
     TakesAt-plain c.args.outside.now c.answer_on_folders.new.outside c.answer_on_folders.result (lacks_date said)
-    (λ oracles now. authenticated_step oracles now c.args.tag.now g.V.View.mode account c.args.outside.now.desk.store said) (dated-other said plain) (λ now.
-    let step : Oracles → State → Step = λ oracles state. mailbox_step oracles now c.args.tag.now state g.V.View.mode account c.args.outside.now.desk.store said in
+    (λ oracles now. authenticated_step (context_of oracles now c.args.tag.now c.args.outside.now.desk.store) g.V.View.mode account said) (dated-other said plain) (λ now.
+    let step : Oracles → State → Step = λ oracles state. mailbox_step (context_of oracles now c.args.tag.now c.args.outside.now.desk.store) state g.V.View.mode account said in
     Takes-same c.args.outside.now c.answer_on_folders.new.outside c.answer_on_folders.result (λ oracles. step oracles (state_of c.in_authenticated-session.result))
-    (λ oracles. authenticated_step oracles now c.args.tag.now g.V.View.mode account c.args.outside.now.desk.store said)
+    (λ oracles. authenticated_step (context_of oracles now c.args.tag.now c.args.outside.now.desk.store) g.V.View.mode account said)
     (λ oracles are. ap (step oracles) c.in_authenticated-session.ensures.state ∙ authenticated-other oracles now c.args.tag.now g.V.View.mode account c.args.outside.now.desk.store said c.in_default.not-Enable)
     (c.answer_on_folders.ensures.takes now))

@@ -41,7 +41,7 @@ returns-in_err-give_opened-clause-takes g c =
     let failed = err_from_is_err_and c.from_residual-in_err-give_opened.result c.from_residual-in_err-give_opened.ensures.1 in
     let found = rw (c.in-Some.is, c.store.ensures) at c.in_ok-found.ensures.found in
     let met = c.in_err-give_opened.field-0.0 in
-    let state = selected g.V.View.mode c.args.imap.state.account c.in-Some.folder c.args.read_only in
+    let state = selected (record { mode = g.V.View.mode; account = c.args.imap.state.account; folder = c.in-Some.folder; read_only = c.args.read_only }) in
     let taken = answers c.args.tag.now (opened_words c.args.read_only) (folder_lines c.args.outside.now.desk.store c.in-Some.folder c.args.read_only) state in
     rw (failed.1, failed.2) (Takes-same c.args.outside.now c.give_opened.new.outside _ (λ oracles. taken) _
     (λ oracles are. ap (select_by c.args.tag.now g.V.View.mode c.args.imap.state.account c.args.read_only c.args.outside.now.desk.store) (found oracles are))
@@ -51,7 +51,7 @@ pub returns-clause-takes : goal.returns-clause-takes
 returns-clause-takes g c =
     let found = rw (c.in-Some.is, c.store.ensures) at c.in_ok-found.ensures.found in
     let account = c.args.imap.state.account in
-    let state = selected g.V.View.mode account c.in-Some.folder c.args.read_only in
+    let state = selected (record { mode = g.V.View.mode; account = account; folder = c.in-Some.folder; read_only = c.args.read_only }) in
     let taken = answers c.args.tag.now (opened_words c.args.read_only) (folder_lines c.args.outside.now.desk.store c.in-Some.folder c.args.read_only) state in
     let listing = rw c.store-2.ensures at c.in_ok-messages.ensures.listing in
     let folder = rw (c.in-Some.is, c.store.ensures) at c.in_ok-found.ensures.known in

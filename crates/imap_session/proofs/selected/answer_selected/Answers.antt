@@ -1,7 +1,8 @@
 use Rattle.std.proofs.Common.{◌≡◌, ◌<◌, false, length, refl}
 use Rattle.kept_mail.specs.Kept.{listed}
 use Rattle.session_core.specs.Keeps.{fault_of}
-use Rattle.imap_session.specs.Machine.{authenticated, close_step, lacks_date, selected_step}
+use Rattle.imap_session.specs.Machine.{authenticated, close_step, context_of, lacks_date, selected_step}
+use Rattle.imap_session.specs.Session.{selection_of}
 use Rattle.imap_session.proofs.CommandLemmas.{dated-other, selects-other}
 use Rattle.imap_session.proofs.SelectedLemmas.{Takes-state, on_ok_then}
 use Rattle.imap_session.proofs.StepLemmas.{TakesAt-plain}
@@ -35,4 +36,4 @@ returns-in_default-clause-takes g c =
     let plain = selects-other said c.in_default.not-Select c.in_default.not-Examine c.in_default.not-Append in
     let was = c.args.imap.state in
     TakesAt-plain c.args.outside.now c.answer_within.new.outside c.answer_within.result (lacks_date said)
-    (λ oracles now. selected_step oracles now c.args.tag.now g.V.View.mode was.account was.folder was.read_only c.args.outside.now.desk.store said) (dated-other said plain) c.answer_within.ensures.takes
+    (λ oracles now. selected_step (context_of oracles now c.args.tag.now c.args.outside.now.desk.store) (selection_of g.V.View.mode was) said) (dated-other said plain) c.answer_within.ensures.takes

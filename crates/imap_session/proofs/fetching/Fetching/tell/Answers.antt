@@ -5,7 +5,7 @@ use Rattle.mail_store.specs.StoreState.{StoreState}
 use Rattle.session_core.specs.declared.desk.Desk.{Desk}
 use Rattle.session_core.proofs.KeepsLemmas.{Keeps-memory, Keeps-then}
 use Rattle.imap_session.specs.Items.{asked_of, item_parts}
-use Rattle.imap_session.specs.Machine.{fetch_reply, fetch_told, parts_following, reply, with_flags, with_uid}
+use Rattle.imap_session.specs.Machine.{Fetching, fetch_reply, fetch_told, parts_following, reply, with_flags, with_uid}
 use Rattle.imap_session.specs.Replies.{part_octets}
 use Rattle.imap_session.specs.private.Messages.{ShowsAlike}
 use Rattle.imap_session.proofs.FetchLemmas.{Carries-fronted, Carries-told, tail_given, tail_parts}
@@ -16,8 +16,9 @@ pub returns-in_err-shown-clause-carries : goal.returns-in_err-shown-clause-carri
 returns-in_err-shown-clause-carries g c = λ oracles are store alike.
     let failed = err_from_is_err_and c.from_residual.result c.from_residual.ensures.1 in
     let self = c.args.self.now in
+    let fetching : Fetching = record { mode = g.V.View.mode; read_only = self.read_only; by_uid = self.by_uid; items = self.items.now } in
     rw (failed.1, failed.2) (Carries-unasked (part_octets oracles) c.args.outside.now c.shown_for.new.outside c.args.pending.now c.args.pending.now
-    (asked_of g.V.View.mode c.args.outside.now.desk.store self.items.now c.args.one.now.id) (fetch_told oracles g.V.View.mode store self.by_uid self.items.now c.args.number c.args.one.now c.args.flags_changed) c.in_err-shown.ensures.asks)
+    (asked_of g.V.View.mode c.args.outside.now.desk.store self.items.now c.args.one.now.id) (fetch_told oracles store fetching (record { number = c.args.number; listed = c.args.one.now }) c.args.flags_changed) c.in_err-shown.ensures.asks)
 
 pub returns-in_err-shown-clause-keeps : goal.returns-in_err-shown-clause-keeps
 returns-in_err-shown-clause-keeps g c =
@@ -28,7 +29,8 @@ pub returns-in_err-push_front-clause-carries : goal.returns-in_err-push_front-cl
 returns-in_err-push_front-clause-carries g c = λ oracles are store alike.
     let failed = err_from_is_err_and c.from_residual-in_err-push_front.result c.from_residual-in_err-push_front.ensures.1 in
     let self = c.args.self.now in
-    rw (failed.1, failed.2) (Carries-told oracles g.V.View.mode store c.args.number c.args.one.now self.by_uid c.args.flags_changed self.items.now c.args.outside.now c.shown_for.new.outside c.shown_for.new.outside (Some fault.Memory)
+    let fetching : Fetching = record { mode = g.V.View.mode; read_only = self.read_only; by_uid = self.by_uid; items = self.items.now } in
+    rw (failed.1, failed.2) (Carries-told oracles store fetching c.args.number c.args.one.now c.args.flags_changed c.args.outside.now c.shown_for.new.outside c.shown_for.new.outside (Some fault.Memory)
     c.args.pending.now c.push_front.new.pending (alike.octets c.args.one.now.id) c.in_ok-shown.ensures.asks
     (Carries-stop (part_octets oracles) c.shown_for.new.outside fault.Memory c.args.pending.now c.push_front.new.pending
     (reply (fetch_reply oracles g.V.View.mode store c.args.number c.args.one.now (with_flags c.args.flags_changed (with_uid self.by_uid self.items.now)))) (λ bad. cc)))
@@ -42,7 +44,8 @@ pub returns-in_err-uid_first-clause-carries : goal.returns-in_err-uid_first-clau
 returns-in_err-uid_first-clause-carries g c = λ oracles are store alike.
     let failed = err_from_is_err_and c.from_residual-in_err-uid_first.result c.from_residual-in_err-uid_first.ensures.1 in
     let self = c.args.self.now in
-    rw (failed.1, failed.2) (Carries-told oracles g.V.View.mode store c.args.number c.args.one.now self.by_uid c.args.flags_changed self.items.now c.args.outside.now c.shown_for.new.outside c.shown_for.new.outside (Some fault.Memory)
+    let fetching : Fetching = record { mode = g.V.View.mode; read_only = self.read_only; by_uid = self.by_uid; items = self.items.now } in
+    rw (failed.1, failed.2) (Carries-told oracles store fetching c.args.number c.args.one.now c.args.flags_changed c.args.outside.now c.shown_for.new.outside c.shown_for.new.outside (Some fault.Memory)
     c.args.pending.now c.push_uid_first.new.pending (alike.octets c.args.one.now.id) c.in_ok-shown.ensures.asks
     (Carries-stop (part_octets oracles) c.shown_for.new.outside fault.Memory c.args.pending.now c.push_uid_first.new.pending
     (reply (fetch_reply oracles g.V.View.mode store c.args.number c.args.one.now (with_flags c.args.flags_changed (with_uid self.by_uid self.items.now)))) (λ bad. cc)))
@@ -64,10 +67,11 @@ pub returns-in_err-put_items-clause-carries : goal.returns-in_err-put_items-clau
 returns-in_err-put_items-clause-carries g c = λ oracles are store alike.
     let failed = err_from_is_err_and c.from_residual-in_err-put_items.result c.from_residual-in_err-put_items.ensures.1 in
     let self = c.args.self.now in
+    let fetching : Fetching = record { mode = g.V.View.mode; read_only = self.read_only; by_uid = self.by_uid; items = self.items.now } in
     let items = self.items.now in
     let told = reply (parts_following c.in_ok-uid_first.uid_first (map (item_parts oracles g.V.View.mode store c.args.one.now) items)) in
     let alike_now = subst (λ (other : StoreState). ShowsAlike store other) (sym c.in_ok-shown.ensures.asks.store) alike in
-    rw (failed.1, failed.2) (Carries-told oracles g.V.View.mode store c.args.number c.args.one.now self.by_uid c.args.flags_changed items c.args.outside.now c.shown_for.new.outside c.put_items.new.outside
+    rw (failed.1, failed.2) (Carries-told oracles store fetching c.args.number c.args.one.now c.args.flags_changed c.args.outside.now c.shown_for.new.outside c.put_items.new.outside
     (Some c.in_err-put_items.field-0.0) c.args.pending.now c.put_items.new.pending (alike.octets c.args.one.now.id) c.in_ok-shown.ensures.asks
     (Carries-fronted oracles g.V.View.mode store c.args.number c.args.one.now self.by_uid c.args.flags_changed c.in_ok-uid_first.uid_first items c.shown_for.new.outside c.put_items.new.outside
     (Some c.in_err-put_items.field-0.0) c.args.pending.now c.push_front.new.pending c.push_uid_first.new.pending c.put_items.new.pending c.requires.seen c.in_ok-uid_first.ensures.first c.in_ok-push_front.ensures c.in_ok-uid_first.ensures.told
@@ -83,11 +87,12 @@ pub returns-in_err-push_end-clause-carries : goal.returns-in_err-push_end-clause
 returns-in_err-push_end-clause-carries g c = λ oracles are store alike.
     let failed = err_from_is_err_and c.from_residual-in_err-push_end.result c.from_residual-in_err-push_end.ensures.1 in
     let self = c.args.self.now in
+    let fetching : Fetching = record { mode = g.V.View.mode; read_only = self.read_only; by_uid = self.by_uid; items = self.items.now } in
     let items = self.items.now in
     let told = reply (parts_following c.in_ok-uid_first.uid_first (map (item_parts oracles g.V.View.mode store c.args.one.now) items)) in
     let tail = reply (tail_parts c.args.flags_changed items c.args.one.now) in
     let alike_now = subst (λ (other : StoreState). ShowsAlike store other) (sym c.in_ok-shown.ensures.asks.store) alike in
-    rw (failed.1, failed.2) (Carries-told oracles g.V.View.mode store c.args.number c.args.one.now self.by_uid c.args.flags_changed items c.args.outside.now c.shown_for.new.outside c.put_items.new.outside
+    rw (failed.1, failed.2) (Carries-told oracles store fetching c.args.number c.args.one.now c.args.flags_changed c.args.outside.now c.shown_for.new.outside c.put_items.new.outside
     (Some fault.Memory) c.args.pending.now c.push_end.new.pending (alike.octets c.args.one.now.id) c.in_ok-shown.ensures.asks
     (Carries-fronted oracles g.V.View.mode store c.args.number c.args.one.now self.by_uid c.args.flags_changed c.in_ok-uid_first.uid_first items c.shown_for.new.outside c.put_items.new.outside
     (Some fault.Memory) c.args.pending.now c.push_front.new.pending c.push_uid_first.new.pending c.push_end.new.pending c.requires.seen c.in_ok-uid_first.ensures.first c.in_ok-push_front.ensures c.in_ok-uid_first.ensures.told
@@ -104,12 +109,13 @@ returns-in_err-push_end-clause-keeps g c =
 pub returns-clause-carries : goal.returns-clause-carries
 returns-clause-carries g c = λ oracles are store alike.
     let self = c.args.self.now in
+    let fetching : Fetching = record { mode = g.V.View.mode; read_only = self.read_only; by_uid = self.by_uid; items = self.items.now } in
     let items = self.items.now in
     let told = reply (parts_following c.in_ok-uid_first.uid_first (map (item_parts oracles g.V.View.mode store c.args.one.now) items)) in
     let parts = tail_parts c.args.flags_changed items c.args.one.now in
     let pushed = rw (tail_given oracles c.args.flags_changed items c.args.one.now) at c.in_ok-push_end.ensures in
     let alike_now = subst (λ (other : StoreState). ShowsAlike store other) (sym c.in_ok-shown.ensures.asks.store) alike in
-    Carries-told oracles g.V.View.mode store c.args.number c.args.one.now self.by_uid c.args.flags_changed items c.args.outside.now c.shown_for.new.outside c.put_items.new.outside
+    Carries-told oracles store fetching c.args.number c.args.one.now c.args.flags_changed c.args.outside.now c.shown_for.new.outside c.put_items.new.outside
     None c.args.pending.now c.push_end.new.pending (alike.octets c.args.one.now.id) c.in_ok-shown.ensures.asks
     (Carries-fronted oracles g.V.View.mode store c.args.number c.args.one.now self.by_uid c.args.flags_changed c.in_ok-uid_first.uid_first items c.shown_for.new.outside c.put_items.new.outside
     None c.args.pending.now c.push_front.new.pending c.push_uid_first.new.pending c.push_end.new.pending c.requires.seen c.in_ok-uid_first.ensures.first c.in_ok-push_front.ensures c.in_ok-uid_first.ensures.told
