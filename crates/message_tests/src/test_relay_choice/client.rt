@@ -4,7 +4,7 @@ ghost use Rattle.std.specs.List.{All};
 ghost use Rattle.relay_choice.specs.MailObjects.{HasTextDomain, IsAddressed};
 
 use address_grammar::Address;
-use mail_wire::{Items, Octets};
+use mail_wire::{Items, Memory, Octets};
 use mime_tree::read_tree;
 use relay_choice::{
     Act, Acts, Client, MailObject, MailObjects, Outcome, ReplyRead, ReplyReader, Taken, Turn,
@@ -12,6 +12,7 @@ use relay_choice::{
 };
 use std::alloc::Global;
 use std::test::Fail;
+use test_mail::{Case, all_hold};
 
 // The local part and the domain of an address.
 type Parts<'a> = (&'a str, &'a str);
@@ -23,7 +24,7 @@ struct Queued<'a> {
     octets: &'a [u8],
 }
 
-fn address_of(alloc: Global, parts: Parts) -> Result<Address, Fail>
+fn address_of(alloc: Global, parts: Parts) -> Result<Address, Memory>
     ensures { IfOk result HasTextDomain }
 {
     let (local, domain) = parts;
@@ -33,7 +34,7 @@ fn address_of(alloc: Global, parts: Parts) -> Result<Address, Fail>
     })
 }
 
-fn addresses_of(alloc: Global, all: &[Parts]) -> Result<Items<Address>, Fail>
+fn addresses_of(alloc: Global, all: &[Parts]) -> Result<Items<Address>, Memory>
     ensures { IfOk result (All HasTextDomain) }
 {
     let mut made = Items::new(alloc);
@@ -43,7 +44,7 @@ fn addresses_of(alloc: Global, all: &[Parts]) -> Result<Items<Address>, Fail>
     Ok(made)
 }
 
-fn path_of(alloc: Global, parts: Option<Parts>) -> Result<Option<Address>, Fail>
+fn path_of(alloc: Global, parts: Option<Parts>) -> Result<Option<Address>, Memory>
     ensures { IfOk result (λ path. IfSome path HasTextDomain) }
 {
     match parts {
@@ -53,7 +54,7 @@ fn path_of(alloc: Global, parts: Option<Parts>) -> Result<Option<Address>, Fail>
 }
 
 // The mail object of a message; none of octets that are no message.
-fn queued_mail_object(alloc: Global, queued: &Queued) -> Result<Option<MailObject>, Fail>
+fn queued_mail_object(alloc: Global, queued: &Queued) -> Result<Option<MailObject>, Memory>
     ensures { IfOk result (λ found. IfSome found IsAddressed) }
 {
     let Ok(tree) = read_tree(alloc, queued.octets) else {
@@ -64,7 +65,7 @@ fn queued_mail_object(alloc: Global, queued: &Queued) -> Result<Option<MailObjec
     Ok(Some(mail_object_of(alloc, path, recipients, queued.octets, &tree)?))
 }
 
-fn queued_mail_objects(alloc: Global, queue: &[Queued]) -> Result<Option<MailObjects>, Fail>
+fn queued_mail_objects(alloc: Global, queue: &[Queued]) -> Result<Option<MailObjects>, Memory>
     ensures { IfOk result (λ found. IfSome found (All IsAddressed)) }
 {
     let mut mail_objects = Items::new(alloc);
@@ -77,7 +78,7 @@ fn queued_mail_objects(alloc: Global, queue: &[Queued]) -> Result<Option<MailObj
     Ok(Some(mail_objects))
 }
 
-fn put_outcome(made: &mut Octets, outcome: Outcome) -> Result<(), Fail> {
+fn put_outcome(made: &mut Octets, outcome: Outcome) -> Result<(), Memory> {
     match outcome {
         Outcome::Sent => made.push_slice(b" sent")?,
         Outcome::Refused { detail, code } => {
@@ -92,7 +93,7 @@ fn put_outcome(made: &mut Octets, outcome: Outcome) -> Result<(), Fail> {
 }
 
 // What acts give, and what is settled in brackets.
-fn put_acts(made: &mut Octets, acts: &Acts, queue: &[Queued]) -> Result<(), Fail> {
+fn put_acts(made: &mut Octets, acts: &Acts, queue: &[Queued]) -> Result<(), Memory> {
     for act in acts.as_slice() {
         match act {
             Act::Say(octets) => made.push_slice(octets.as_slice())?,
@@ -119,7 +120,7 @@ fn run(
     mail_objects: MailObjects,
     queue: &[Queued],
     peer: &[u8],
-) -> Result<Octets, Fail>
+) -> Result<Octets, Memory>
     requires { All IsAddressed mail_objects }
 {
     let mut made = Octets::new(alloc);
@@ -158,12 +159,17 @@ fn run(
     Ok(made)
 }
 
-fn gives(alloc: Global, queue: &[Queued], peer: &[u8], wanted: &str) -> Result<bool, Fail> {
-    let Some(mail_objects) = queued_mail_objects(alloc, queue)? else {
-        return Ok(false);
-    };
-    let made = run(alloc, mail_objects, queue, peer)?;
-    Ok(made.as_slice() == wanted.as_bytes())
+// A queue, what a server sends, and what is said and settled.
+struct Talk(&'static [Queued<'static>], &'static [u8], &'static str);
+
+impl Case for Talk {
+    fn holds(&self, alloc: Global) -> Result<bool, Memory> {
+        let Some(mail_objects) = queued_mail_objects(alloc, self.0)? else {
+            return Ok(false);
+        };
+        let made = run(alloc, mail_objects, self.0, self.1)?;
+        Ok(made.as_slice() == self.2.as_bytes())
+    }
 }
 
 const HIGH: Queued = Queued {
@@ -172,99 +178,107 @@ const HIGH: Queued = Queued {
     octets: b"Subject: \xc3\xa9\r\n\r\n",
 };
 
-const OFFERS_EIGHT: &[u8] = b"220 x\r\n250-x\r\n250 8BITMIME\r\n";
-
-#[test]
-fn a_utf8_header_is_sent_to_no_server_without_smtputf8(rt: HostRuntime) -> Result<(), Fail> {
-    let wanted = "EHLO example.org\r\n[ 5.9 ]\r\nQUIT\r\n";
-    assert!(rt; gives(rt.alloc(), &[HIGH], OFFERS_EIGHT, wanted)?);
-    Ok(())
-}
-
-#[test]
-fn a_refused_recipient_keeps_his_code_when_the_transaction_is_reset(
-    rt: HostRuntime,
-) -> Result<(), Fail> {
-    let alloc = rt.alloc();
-    let peer = b"220 x\r\n250-x\r\n250-8BITMIME\r\n250 SMTPUTF8\r\n250 ok\r\n550 no\r\n250 ok\r\n";
-    let wanted =
-        "EHLO example.org\r\nMAIL FROM:<a@example.org> BODY=8BITMIME SMTPUTF8\r\nRCPT TO:<josé@example.com>\r\nRSET\r\n[ 5.0 coded ]\r\nQUIT\r\n";
-    assert!(rt; gives(alloc, &[HIGH], peer, wanted)?);
-    let peer =
-        b"220 x\r\n250-x\r\n250-8BITMIME\r\n250 SMTPUTF8\r\n250 ok\r\n550 no\r\n451 x\r\n250 x\r\n";
-    let wanted =
-        "EHLO example.org\r\nMAIL FROM:<a@example.org> BODY=8BITMIME SMTPUTF8\r\nRCPT TO:<josé@example.com>\r\nRSET\r\n!451 x\r\n";
-    assert!(rt; gives(alloc, &[HIGH], peer, wanted)?);
-    Ok(())
-}
-
 const PLAIN: Queued = Queued {
     path: None,
     recipients: &[("ann", "example.com"), ("bob", "bücher.example")],
     octets: b"A: b\r\n\r\n.x",
 };
 
-#[test]
-fn data_go_to_those_who_were_accepted(rt: HostRuntime) -> Result<(), Fail> {
-    let alloc = rt.alloc();
-    let said =
-        "EHLO example.org\r\nMAIL FROM:<>\r\nRCPT TO:<ann@example.com>\r\nRCPT TO:<bob@xn--bcher-kva.example>\r\nDATA\r\nA: b\r\n\r\n..x\r\n.\r\n";
-    let peer = b"220 x\r\n250 x\r\n250 ok\r\n250 ok\r\n550 no\r\n354 go\r\n250 ok\r\n";
-    let wanted = format!(in alloc; "{said}[ sent 5.0 coded ]\r\nQUIT\r\n")?;
-    assert!(rt; gives(alloc, &[PLAIN], peer, &wanted)?);
-    let peer = b"220 x\r\n250 x\r\n250 ok\r\n250 ok\r\n550 no\r\n354 go\r\n554 no\r\n";
-    let wanted = format!(in alloc; "{said}[ 5.0 coded 5.0 coded ]\r\nQUIT\r\n")?;
-    assert!(rt; gives(alloc, &[PLAIN], peer, &wanted)?);
-    let peer = b"220 x\r\n250 x\r\n250 ok\r\n250 ok\r\n550 no\r\n354 go\r\n452 x\r\n";
-    let wanted = format!(in alloc; "{said}!452 x\r\n")?;
-    assert!(rt; gives(alloc, &[PLAIN], peer, &wanted)?);
-    Ok(())
-}
-
-#[test]
-fn refused_data_and_a_refused_path_fail_all_recipients(rt: HostRuntime) -> Result<(), Fail> {
-    let alloc = rt.alloc();
-    let peer = b"220 x\r\n250 x\r\n250 ok\r\n250 ok\r\n250 ok\r\n554 no\r\n";
-    let wanted =
-        "EHLO example.org\r\nMAIL FROM:<>\r\nRCPT TO:<ann@example.com>\r\nRCPT TO:<bob@xn--bcher-kva.example>\r\nDATA\r\n[ 5.0 coded 5.0 coded ]\r\nQUIT\r\n";
-    assert!(rt; gives(alloc, &[PLAIN], peer, wanted)?);
-    let peer = b"220 x\r\n250 x\r\n550 no\r\n250 ok\r\n";
-    let wanted = "EHLO example.org\r\nMAIL FROM:<>\r\nRSET\r\n[ 5.0 coded 5.0 coded ]\r\nQUIT\r\n";
-    assert!(rt; gives(alloc, &[PLAIN], peer, wanted)?);
-    Ok(())
-}
-
-#[test]
-fn nothing_is_said_after_a_reply_that_stops_the_run(rt: HostRuntime) -> Result<(), Fail> {
-    let alloc = rt.alloc();
-    assert!(rt; gives(alloc, &[PLAIN], b"554 no\r\n250 x\r\n", "!554 no\r\n")?);
-    assert!(rt;
-        gives(
-            alloc,
+const RUNS: [(&str, &[Talk]); 12] = [
+    (
+        "a UTF-8 header is sent to no server without SMTPUTF8",
+        &[Talk(
+            &[HIGH],
+            b"220 x\r\n250-x\r\n250 8BITMIME\r\n",
+            "EHLO example.org\r\n[ 5.9 ]\r\nQUIT\r\n",
+        )],
+    ),
+    (
+        "a refused recipient keeps his code when the transaction is reset",
+        &[Talk(
+            &[HIGH],
+            b"220 x\r\n250-x\r\n250-8BITMIME\r\n250 SMTPUTF8\r\n250 ok\r\n550 no\r\n250 ok\r\n",
+            "EHLO example.org\r\nMAIL FROM:<a@example.org> BODY=8BITMIME SMTPUTF8\r\nRCPT TO:<josé@example.com>\r\nRSET\r\n[ 5.0 coded ]\r\nQUIT\r\n",
+        )],
+    ),
+    (
+        "a refused reset stops the run",
+        &[Talk(
+            &[HIGH],
+            b"220 x\r\n250-x\r\n250-8BITMIME\r\n250 SMTPUTF8\r\n250 ok\r\n550 no\r\n451 x\r\n250 x\r\n",
+            "EHLO example.org\r\nMAIL FROM:<a@example.org> BODY=8BITMIME SMTPUTF8\r\nRCPT TO:<josé@example.com>\r\nRSET\r\n!451 x\r\n",
+        )],
+    ),
+    (
+        "data go to those who were accepted",
+        &[Talk(
             &[PLAIN],
-            b"220 x\r\n502 no\r\n250 x\r\n",
-            "EHLO example.org\r\n!502 no\r\n"
-        )?
-    );
-    assert!(rt; gives(alloc, &[PLAIN], b"220 x\r\n2xy", "EHLO example.org\r\n!2x")?);
-    assert!(rt;
-        gives(
-            alloc,
+            b"220 x\r\n250 x\r\n250 ok\r\n250 ok\r\n550 no\r\n354 go\r\n250 ok\r\n",
+            "EHLO example.org\r\nMAIL FROM:<>\r\nRCPT TO:<ann@example.com>\r\nRCPT TO:<bob@xn--bcher-kva.example>\r\nDATA\r\nA: b\r\n\r\n..x\r\n.\r\n[ sent 5.0 coded ]\r\nQUIT\r\n",
+        )],
+    ),
+    (
+        "refused data fail them",
+        &[Talk(
             &[PLAIN],
-            b"220 x\r\n250-x\r\n",
-            "EHLO example.org\r\n?"
-        )?
-    );
-    Ok(())
-}
+            b"220 x\r\n250 x\r\n250 ok\r\n250 ok\r\n550 no\r\n354 go\r\n554 no\r\n",
+            "EHLO example.org\r\nMAIL FROM:<>\r\nRCPT TO:<ann@example.com>\r\nRCPT TO:<bob@xn--bcher-kva.example>\r\nDATA\r\nA: b\r\n\r\n..x\r\n.\r\n[ 5.0 coded 5.0 coded ]\r\nQUIT\r\n",
+        )],
+    ),
+    (
+        "data that may go later stop the run",
+        &[Talk(
+            &[PLAIN],
+            b"220 x\r\n250 x\r\n250 ok\r\n250 ok\r\n550 no\r\n354 go\r\n452 x\r\n",
+            "EHLO example.org\r\nMAIL FROM:<>\r\nRCPT TO:<ann@example.com>\r\nRCPT TO:<bob@xn--bcher-kva.example>\r\nDATA\r\nA: b\r\n\r\n..x\r\n.\r\n!452 x\r\n",
+        )],
+    ),
+    (
+        "a refused DATA fails all recipients",
+        &[Talk(
+            &[PLAIN],
+            b"220 x\r\n250 x\r\n250 ok\r\n250 ok\r\n250 ok\r\n554 no\r\n",
+            "EHLO example.org\r\nMAIL FROM:<>\r\nRCPT TO:<ann@example.com>\r\nRCPT TO:<bob@xn--bcher-kva.example>\r\nDATA\r\n[ 5.0 coded 5.0 coded ]\r\nQUIT\r\n",
+        )],
+    ),
+    (
+        "a refused path fails all recipients",
+        &[Talk(
+            &[PLAIN],
+            b"220 x\r\n250 x\r\n550 no\r\n250 ok\r\n",
+            "EHLO example.org\r\nMAIL FROM:<>\r\nRSET\r\n[ 5.0 coded 5.0 coded ]\r\nQUIT\r\n",
+        )],
+    ),
+    (
+        "nothing is said after a reply that stops the run",
+        &[
+            Talk(&[PLAIN], b"554 no\r\n250 x\r\n", "!554 no\r\n"),
+            Talk(
+                &[PLAIN],
+                b"220 x\r\n502 no\r\n250 x\r\n",
+                "EHLO example.org\r\n!502 no\r\n",
+            ),
+        ],
+    ),
+    (
+        "nor after what is no reply",
+        &[Talk(&[PLAIN], b"220 x\r\n2xy", "EHLO example.org\r\n!2x")],
+    ),
+    (
+        "nor where there is none",
+        &[Talk(&[PLAIN], b"220 x\r\n250-x\r\n", "EHLO example.org\r\n?")],
+    ),
+    (
+        "mail objects follow each other",
+        &[Talk(
+            &[HIGH, PLAIN, HIGH],
+            b"220 x\r\n250-x\r\n250 8BITMIME\r\n250 ok\r\n250 ok\r\n250 ok\r\n354 go\r\n250 ok\r\n",
+            "EHLO example.org\r\n[ 5.9 ]\r\nMAIL FROM:<>\r\nRCPT TO:<ann@example.com>\r\nRCPT TO:<bob@xn--bcher-kva.example>\r\nDATA\r\nA: b\r\n\r\n..x\r\n.\r\n[ sent sent ]\r\n[ 5.9 ]\r\nQUIT\r\n",
+        )],
+    ),
+];
 
 #[test]
-fn mail_objects_follow_each_other(rt: HostRuntime) -> Result<(), Fail> {
-    let alloc = rt.alloc();
-    let peer =
-        b"220 x\r\n250-x\r\n250 8BITMIME\r\n250 ok\r\n250 ok\r\n250 ok\r\n354 go\r\n250 ok\r\n";
-    let wanted =
-        "EHLO example.org\r\n[ 5.9 ]\r\nMAIL FROM:<>\r\nRCPT TO:<ann@example.com>\r\nRCPT TO:<bob@xn--bcher-kva.example>\r\nDATA\r\nA: b\r\n\r\n..x\r\n.\r\n[ sent sent ]\r\n[ 5.9 ]\r\nQUIT\r\n";
-    assert!(rt; gives(alloc, &[HIGH, PLAIN, HIGH], peer, wanted)?);
-    Ok(())
+fn what_is_said_follows_from_what_the_server_sends(rt: HostRuntime) -> Result<(), Fail> {
+    all_hold(rt.alloc(), &RUNS)
 }

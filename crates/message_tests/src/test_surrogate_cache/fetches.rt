@@ -168,23 +168,46 @@ fn agrees(
     Ok(true)
 }
 
+// Whether a cache of two blocks holds these entries after these fetches, with these counts.
+fn holds_after(
+    alloc: Global,
+    messages: &[Octets],
+    ids: &[u32],
+    entries: &[u32],
+    counts: Counts,
+) -> Result<bool, Fail> {
+    let mut cache = open(alloc, 2, 8, messages)?;
+    for id in ids {
+        fetch(alloc, &mut cache, messages, *id)?;
+    }
+    Ok(cache.entries(alloc)?.as_slice() == entries && cache.counts() == counts)
+}
+
+// Whether a message that is fetched again after others has the rope that it had.
+fn is_same_again(alloc: Global, messages: &[Octets]) -> Result<bool, Fail> {
+    let mut cache = open(alloc, 2, 8, messages)?;
+    fetch(alloc, &mut cache, messages, 0)?;
+    let built = fetch(alloc, &mut cache, messages, 1)?;
+    fetch(alloc, &mut cache, messages, 3)?;
+    let hit = fetch(alloc, &mut cache, messages, 1)?;
+    Ok(hit.as_slice() == built.as_slice())
+}
+
+// Fetches, the entries that are held then, and how many were built and found. The last row ends with one that no cache of this size holds.
+const FETCHES: [(&[u32], [u32; 2], u64, u64); 3] = [
+    (&[0, 1, 3], [3, 1], 3, 0),
+    (&[0, 1, 3, 1, 0], [0, 1], 4, 1),
+    (&[0, 1, 3, 1, 0, 4], [0, 1], 5, 1),
+];
+
 #[test]
 fn the_last_fetched_are_held(rt: HostRuntime) -> Result<(), Fail> {
-    let alloc = rt.alloc();
-    let messages = all_messages(alloc)?;
-    let mut cache = open(alloc, 2, 8, &messages)?;
-    fetch(alloc, &mut cache, &messages, 0)?;
-    let second = fetch(alloc, &mut cache, &messages, 1)?;
-    fetch(alloc, &mut cache, &messages, 3)?;
-    assert!(rt; cache.entries(alloc)?.as_slice() == [3, 1].as_slice());
-    let fourth = fetch(alloc, &mut cache, &messages, 1)?;
-    assert!(rt; fourth.as_slice() == second.as_slice());
-    fetch(alloc, &mut cache, &messages, 0)?;
-    assert!(rt; cache.entries(alloc)?.as_slice() == [0, 1].as_slice());
-    assert!(rt; cache.counts() == Counts { built: 4, hits: 1 });
-    fetch(alloc, &mut cache, &messages, 4)?;
-    assert!(rt; cache.entries(alloc)?.as_slice() == [0, 1].as_slice());
-    assert!(rt; cache.counts() == Counts { built: 5, hits: 1 });
+    let messages = all_messages(rt.alloc())?;
+    for (ids, entries, built, hits) in FETCHES {
+        let counts = Counts { built, hits };
+        assert!(rt; holds_after(rt.alloc(), &messages, ids, &entries, counts)?);
+    }
+    assert!(rt; is_same_again(rt.alloc(), &messages)?);
     Ok(())
 }
 

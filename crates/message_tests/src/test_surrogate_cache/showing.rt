@@ -50,43 +50,28 @@ fn shown<V: View>(alloc: Global, msg: &[u8]) -> Result<Octets, Fail> {
     Ok(all_of(alloc, &shown, msg)?)
 }
 
+// A message, and what is shown of it where UTF-8 isn't enabled.
+const SHOWN: [(&str, &str); 2] = [
+    (
+        "Subject: café bar\r\n\r\nx\r\n",
+        "Subject:\r\n =?UTF-8?B?Y2Fmw6k=?=\r\n bar\r\n\r\nx\r\n",
+    ),
+    // the fields of an inner message are rewritten, too
+    (
+        "Content-Type: message/global\r\n\r\nSubject: é\r\n\r\né",
+        "Content-Type: message/rfc822\r\n\r\nSubject:\r\n =?UTF-8?B?w6k=?=\r\n\r\né",
+    ),
+];
+
 #[test]
 fn messages_are_shown_by_kind(rt: HostRuntime) -> Result<(), Fail> {
-    let message = "Subject: café bar\r\n\r\nx\r\n".as_bytes();
-    let made = b"Subject:\r\n =?UTF-8?B?Y2Fmw6k=?=\r\n bar\r\n\r\nx\r\n".as_slice();
-    assert!(rt; shown::<Legacy>(rt.alloc(), message)?.as_slice() == made);
-    assert!(rt; shown::<Enabled>(rt.alloc(), message)?.as_slice() == message);
+    for (message, made) in &SHOWN {
+        let message = message.as_bytes();
+        assert!(rt; shown::<Legacy>(rt.alloc(), message)?.as_slice() == made.as_bytes());
+        assert!(rt; shown::<Enabled>(rt.alloc(), message)?.as_slice() == message);
+    }
     assert!(rt; Enabled::enabled() && !Legacy::enabled());
     Ok(())
-}
-
-#[test]
-fn fields_of_inner_messages_are_shown_by_kind(rt: HostRuntime) -> Result<(), Fail> {
-    let message = "Content-Type: message/global\r\n\r\nSubject: é\r\n\r\né".as_bytes();
-    let made =
-        "Content-Type: message/rfc822\r\n\r\nSubject:\r\n =?UTF-8?B?w6k=?=\r\n\r\né".as_bytes();
-    assert!(rt; shown::<Legacy>(rt.alloc(), message)?.as_slice() == made);
-    assert!(rt; shown::<Enabled>(rt.alloc(), message)?.as_slice() == message);
-    Ok(())
-}
-
-// What is left of a range of what is shown on a wire whose call of this number fails: the answer, and each part that was given.
-fn given<V: View>(
-    alloc: Global,
-    msg: &[u8],
-    at: usize,
-    len: usize,
-    call: u64,
-) -> Result<(Result<(), Failed>, Vec<Entry>), Fail> {
-    let mut cache = open(alloc, 1, 1, msg)?;
-    let shown = show::<V>(alloc, &mut cache, 0, msg)?;
-    let size = shown.size(msg);
-    if size < len || size - len < at {
-        return Err(Fail::from("no such range"));
-    }
-    let mut wire = wire_of(alloc, b"", &[], failing(call))?;
-    let answer = give_range(&shown, msg, at, len, &mut wire);
-    Ok((answer, wire.into_entries()))
 }
 
 // Whether these parts were given, and nothing was taken.
@@ -98,27 +83,80 @@ fn are_given(entries: &[Entry], parts: &[&str]) -> bool {
         })
 }
 
+// A range of what is shown, the call of the wire that fails, what is answered then, and the parts that were given.
+struct Range {
+    at: usize,
+    len: usize,
+    call: u64,
+    answer: Result<(), Failed>,
+    parts: &'static [&'static str],
+}
+
 const STORED: &str = "A: b\r\nSubject: é\r\nC: d\r\n\r\nx\r\n";
+
+// Whether this range of what is shown of it is given so.
+fn is_given<V: View>(alloc: Global, range: &Range) -> Result<bool, Fail> {
+    let msg = STORED.as_bytes();
+    let mut cache = open(alloc, 1, 1, msg)?;
+    let shown = show::<V>(alloc, &mut cache, 0, msg)?;
+    let size = shown.size(msg);
+    if size < range.len || size - range.len < range.at {
+        return Ok(false);
+    }
+    let mut wire = wire_of(alloc, b"", &[], failing(range.call))?;
+    let answer = give_range(&shown, msg, range.at, range.len, &mut wire);
+    Ok(answer == range.answer && are_given(&wire.into_entries(), range.parts))
+}
+
+const MADE: &str = "Subject:\r\n =?UTF-8?B?w6k=?=\r\n";
+
+// Ranges where UTF-8 isn't enabled.
+const LEGACY: [Range; 4] = [
+    Range {
+        at: 0,
+        len: 46,
+        call: NEVER,
+        answer: Ok(()),
+        parts: &["A: b\r\n", MADE, "C: d\r\n\r\nx\r\n"],
+    },
+    Range {
+        at: 3,
+        len: 38,
+        call: NEVER,
+        answer: Ok(()),
+        parts: &["b\r\n", MADE, "C: d\r\n"],
+    },
+    Range {
+        at: 46,
+        len: 0,
+        call: NEVER,
+        answer: Ok(()),
+        parts: &[],
+    },
+    // a wire that fails was given a prefix
+    Range {
+        at: 3,
+        len: 38,
+        call: 1,
+        answer: Err(Failed::Outside),
+        parts: &["b\r\n", "Sub"],
+    },
+];
+
+const ENABLED: Range = Range {
+    at: 6,
+    len: 11,
+    call: NEVER,
+    answer: Ok(()),
+    parts: &["Subject: é"],
+};
 
 #[test]
 fn a_range_is_given_run_by_run(rt: HostRuntime) -> Result<(), Fail> {
-    let message = STORED.as_bytes();
-    let made = "Subject:\r\n =?UTF-8?B?w6k=?=\r\n";
-    let (answer, entries) = given::<Legacy>(rt.alloc(), message, 0, 46, NEVER)?;
-    assert!(rt; answer.is_ok() && are_given(&entries, &["A: b\r\n", made, "C: d\r\n\r\nx\r\n"]));
-    let (answer, entries) = given::<Legacy>(rt.alloc(), message, 3, 38, NEVER)?;
-    assert!(rt; answer.is_ok() && are_given(&entries, &["b\r\n", made, "C: d\r\n"]));
-    let (answer, entries) = given::<Legacy>(rt.alloc(), message, 46, 0, NEVER)?;
-    assert!(rt; answer.is_ok() && entries.is_empty());
-    let (answer, entries) = given::<Enabled>(rt.alloc(), message, 6, 11, NEVER)?;
-    assert!(rt; answer.is_ok() && are_given(&entries, &["Subject: é"]));
-    Ok(())
-}
-
-#[test]
-fn a_wire_that_fails_was_given_a_prefix(rt: HostRuntime) -> Result<(), Fail> {
-    let (answer, entries) = given::<Legacy>(rt.alloc(), STORED.as_bytes(), 3, 38, 1)?;
-    assert!(rt; answer == Err(Failed::Outside) && are_given(&entries, &["b\r\n", "Sub"]));
+    for range in &LEGACY {
+        assert!(rt; is_given::<Legacy>(rt.alloc(), range)?);
+    }
+    assert!(rt; is_given::<Enabled>(rt.alloc(), &ENABLED)?);
     Ok(())
 }
 

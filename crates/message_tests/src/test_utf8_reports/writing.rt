@@ -11,6 +11,7 @@ use mail_wire::{Memory, Octets};
 use mime_tree::read_tree;
 use std::alloc::Global;
 use std::test::Fail;
+use test_mail::{Case, all_hold};
 use utf8_reports::{FailedRecipient, FailedRecipients, Failure, make_report};
 
 // The address of a path.
@@ -62,60 +63,73 @@ fn failure_of(alloc: Global, path: &str) -> Option<Failure>
 }
 
 // Whether the report of that failure is spelled so, where the message has this text.
-fn is_made(rt: &HostRuntime, path: &str, msg: &str, spelling: Spelling<'_>) -> bool {
-    let Some(failure) = failure_of(rt.alloc(), path) else {
+fn is_made(alloc: Global, path: &str, msg: &str, spelling: Spelling<'_>) -> bool {
+    let Some(failure) = failure_of(alloc, path) else {
         return false;
     };
-    let Ok(tree) = read_tree(rt.alloc(), msg.as_bytes()) else {
+    let Ok(tree) = read_tree(alloc, msg.as_bytes()) else {
         return false;
     };
-    let Ok(wanted) = spelled(rt.alloc(), spelling) else {
+    let Ok(wanted) = spelled(alloc, spelling) else {
         return false;
     };
-    match make_report(rt.alloc(), &failure, msg.as_bytes(), &tree) {
+    match make_report(alloc, &failure, msg.as_bytes(), &tree) {
         Ok(made) => made.as_slice() == wanted.as_slice(),
         Err(_) => false,
     }
 }
 
-#[test]
-fn a_report_returns_the_header_of_what_is_shown(rt: HostRuntime) -> Result<(), Fail> {
-    assert!(rt; is_made(&rt, "<a@example.org>", "Subject: é\r\n\r\n", PLAIN));
-    assert!(rt; is_made(&rt, "<é@x.example>", "Subject: é\r\n\r\n", GLOBAL));
-    Ok(())
+// A path, a message, and how the report of that failure is spelled.
+struct Made(&'static str, &'static str, Spelling<'static>);
+
+impl Case for Made {
+    fn holds(&self, alloc: Global) -> Result<bool, Memory> {
+        Ok(is_made(alloc, self.0, self.1, self.2))
+    }
 }
 
-#[test]
-fn a_domain_is_in_its_normal_form(rt: HostRuntime) -> Result<(), Fail> {
-    let spelling = Spelling {
-        to: "a@xn--bcher-kva.example",
-        ..PLAIN
-    };
-    assert!(rt;
-        is_made(
-            &rt,
+const MADE: [(&str, &[Made]); 6] = [
+    (
+        "a report returns the header of what is shown",
+        &[Made("<a@example.org>", "Subject: é\r\n\r\n", PLAIN)],
+    ),
+    (
+        "in UTF-8 to a path that is so",
+        &[Made("<é@x.example>", "Subject: é\r\n\r\n", GLOBAL)],
+    ),
+    (
+        "a domain is in its normal form",
+        &[Made(
             "<a@Bücher.example>",
             "Subject: é\r\n\r\nbody",
-            spelling
-        )
-    );
-    Ok(())
-}
-
-#[test]
-fn the_last_line_of_a_header_is_ended(rt: HostRuntime) -> Result<(), Fail> {
-    assert!(rt; is_made(&rt, "<a@example.org>", "Subject: é", PLAIN));
-    assert!(rt; is_made(&rt, "<é@x.example>", "Subject: é", GLOBAL));
-    assert!(rt;
-        is_made(
-            &rt,
+            Spelling {
+                to: "a@xn--bcher-kva.example",
+                ..PLAIN
+            },
+        )],
+    ),
+    (
+        "the last line of a header is ended",
+        &[Made("<a@example.org>", "Subject: é", PLAIN)],
+    ),
+    (
+        "in UTF-8, too",
+        &[Made("<é@x.example>", "Subject: é", GLOBAL)],
+    ),
+    (
+        "a header may be empty",
+        &[Made(
             "<a@example.org>",
             "\r\nx",
             Spelling {
                 header: "",
                 ..PLAIN
-            }
-        )
-    );
-    Ok(())
+            },
+        )],
+    ),
+];
+
+#[test]
+fn reports_are_made(rt: HostRuntime) -> Result<(), Fail> {
+    all_hold(rt.alloc(), &MADE)
 }

@@ -1,9 +1,47 @@
 //! Commands, paths and parameters, each public call with ample memory and a row or two for each rule.
+use mail_wire::Memory;
 use smtp_grammar::{Parameters, Verb, is_client, path_after, read_command, read_parameters};
 use std::alloc::Global;
 use std::test::Fail;
+use test_mail::{Case, all_hold};
 
-fn reads(line: &[u8], verb: Verb, argument: &[u8]) -> bool {
+// What is read.
+enum Line {
+    // a command: its verb and argument
+    Command(&'static [u8], Verb, &'static [u8]),
+    // the name of a client, if it is one
+    Client(&'static [u8], bool),
+    // an argument of MAIL, its path and what follows it
+    Path(&'static [u8], Option<(&'static [u8], &'static [u8])>),
+    // parameters: whether some are unknown, whether there is SMTPUTF8, and the size
+    Parameters(&'static [u8], [bool; 2], u64),
+    // parameters that are malformed or aren't
+    Malformed(&'static [u8], bool),
+}
+
+impl Case for Line {
+    fn holds(&self, alloc: Global) -> Result<bool, Memory> {
+        match self {
+            Line::Command(line, verb, argument) => Ok(is_command(*line, *verb, *argument)),
+            Line::Client(name, is) => Ok(is_client(*name) == *is),
+            Line::Path(argument, found) => Ok(is_path(*argument, *found)),
+            Line::Parameters(text, [unknown, smtputf8], size) => {
+                let wanted = Parameters {
+                    malformed: false,
+                    unknown: *unknown,
+                    smtputf8: *smtputf8,
+                    size: *size,
+                };
+                Ok(read_parameters(alloc, *text)? == wanted)
+            }
+            Line::Malformed(text, malformed) => {
+                Ok(read_parameters(alloc, *text)?.malformed == *malformed)
+            }
+        }
+    }
+}
+
+fn is_command(line: &[u8], verb: Verb, argument: &[u8]) -> bool {
     if line.len() < 2 {
         return false;
     }
@@ -11,146 +49,163 @@ fn reads(line: &[u8], verb: Verb, argument: &[u8]) -> bool {
     command.verb == verb && command.argument == argument
 }
 
-fn is_path(argument: &[u8], path: &[u8], rest: &[u8]) -> bool {
-    path_after(b"FROM:", argument).is_some_and(|found| found.path == path && found.rest == rest)
-}
-
-fn is_no_path(argument: &[u8]) -> bool {
-    path_after(b"FROM:", argument).is_none()
-}
-
-fn sound(unknown: bool, smtputf8: bool, size: u64) -> Parameters {
-    Parameters {
-        malformed: false,
-        unknown,
-        smtputf8,
-        size,
+fn is_path(argument: &[u8], wanted: Option<(&[u8], &[u8])>) -> bool {
+    match (path_after(b"FROM:", argument), wanted) {
+        (Some(found), Some((path, rest))) => found.path == path && found.rest == rest,
+        (None, None) => true,
+        _ => false,
     }
 }
 
-fn reads_parameters(alloc: Global, rest: &[u8], wanted: Parameters) -> Result<bool, Fail> {
-    let read = read_parameters(alloc, rest)?;
-    Ok(read == wanted)
+const COMMANDS: [(&str, &[Line]); 9] = [
+    (
+        "verbs are read in any case",
+        &[
+            Line::Command(b"EHLO a.example\r\n", Verb::Ehlo, b"a.example"),
+            Line::Command(b"heLO [192.0.2.1]\r\n", Verb::Helo, b"[192.0.2.1]"),
+            Line::Command(b"mail FROM:<>\r\n", Verb::Mail, b"FROM:<>"),
+            Line::Command(b"Rcpt to:<a@b> X\r\n", Verb::Rcpt, b"to:<a@b> X"),
+            Line::Command(b"dATA\r\n", Verb::Data, b""),
+            Line::Command(b"RSET\r\n", Verb::Rset, b""),
+            Line::Command(b"noop x  y\r\n", Verb::Noop, b"x  y"),
+            Line::Command(b"VRFY ann\r\n", Verb::Vrfy, b"ann"),
+            Line::Command(b"Quit\r\n", Verb::Quit, b""),
+        ],
+    ),
+    (
+        "another word is another verb",
+        &[
+            Line::Command(b"EXPN list\r\n", Verb::Other, b"list"),
+            Line::Command(b"MAILX\r\n", Verb::Other, b""),
+            Line::Command(b"\r\n", Verb::Other, b""),
+        ],
+    ),
+    (
+        "white at both ends is passed over",
+        &[
+            Line::Command(b" \tQUIT\r\n", Verb::Quit, b""),
+            Line::Command(b"QUIT \t \r\n", Verb::Quit, b""),
+            Line::Command(b"NOOP\t \ta b\t\r\n", Verb::Noop, b"a b"),
+            Line::Command(b" \t\r\n", Verb::Other, b""),
+        ],
+    ),
+    (
+        "clients say names",
+        &[Line::Client(b"mail_1.example-Z", true)],
+    ),
+    ("or literals", &[Line::Client(b"[IPv6:2001:db8::1]", true)]),
+    ("a name isn't empty", &[Line::Client(b"", false)]),
+    ("it has no white", &[Line::Client(b"a b", false)]),
+    ("nor parentheses", &[Line::Client(b"a(b)", false)]),
+    (
+        "nor octets above 127",
+        &[Line::Client(b"caf\xc3\xa9", false)],
+    ),
+];
+
+#[test]
+fn commands_and_clients_are_read(rt: HostRuntime) -> Result<(), Fail> {
+    all_hold(rt.alloc(), &COMMANDS)
 }
 
-fn are_malformed(alloc: Global, rest: &[u8]) -> Result<bool, Fail> {
-    let read = read_parameters(alloc, rest)?;
-    Ok(read.malformed)
+const PATHS: [(&str, &[Line]); 4] = [
+    (
+        "paths begin after one space",
+        &[
+            Line::Path(b"FROM:<a@b>", Some((b"<a@b>", b""))),
+            Line::Path(b"from:<> SIZE=1", Some((b"<>", b" SIZE=1"))),
+            Line::Path(b"FROM: <a@b>\tX", Some((b"<a@b>", b"\tX"))),
+        ],
+    ),
+    (
+        "and not after anything else",
+        &[
+            Line::Path(b"FROM:\t<a@b>", None),
+            Line::Path(b"FROM:  <a@b>", None),
+            Line::Path(b"FROM <a@b>", None),
+            Line::Path(b"TO:<a@b>", None),
+            Line::Path(b"FROM:a@b", None),
+            Line::Path(b"FROM:", None),
+            Line::Path(b"FR", None),
+        ],
+    ),
+    (
+        "paths end outside of quotes and literals",
+        &[
+            Line::Path(b"FROM:<\"a>b\"@c> X", Some((b"<\"a>b\"@c>", b" X"))),
+            Line::Path(b"FROM:<\"a\\\">b\"@c>", Some((b"<\"a\\\">b\"@c>", b""))),
+            Line::Path(b"FROM:<a@[b>c]>", Some((b"<a@[b>c]>", b""))),
+            Line::Path(b"FROM:<a@[b\\]>c]>", Some((b"<a@[b\\]>c]>", b""))),
+            Line::Path(b"FROM:<\"(\"@[(]>", Some((b"<\"(\"@[(]>", b""))),
+            Line::Path(b"FROM:<a> <b>", Some((b"<a>", b" <b>"))),
+            Line::Path(b"FROM:<a> (b)", Some((b"<a>", b" (b)"))),
+        ],
+    ),
+    (
+        "what doesn't end so is none",
+        &[
+            Line::Path(b"FROM:<a(b)@c>", None),
+            Line::Path(b"FROM:<a@b", None),
+            Line::Path(b"FROM:<\"a>", None),
+            Line::Path(b"FROM:<\"a\\", None),
+            Line::Path(b"FROM:<a@[b>", None),
+            Line::Path(b"FROM:<a@b>X", None),
+        ],
+    ),
+];
+
+#[test]
+fn paths_are_found(rt: HostRuntime) -> Result<(), Fail> {
+    all_hold(rt.alloc(), &PATHS)
+}
+
+const PARAMETERS: [(&str, &[Line]); 7] = [
+    (
+        "there may be no parameters",
+        &[Line::Parameters(b"", [false, false], 0)],
+    ),
+    (
+        "known parameters are read in any case",
+        &[Line::Parameters(b"\t body=8bitmime  Size=0120 SmtpUtf8 ", [false, true], 120)],
+    ),
+    (
+        "others are told",
+        &[Line::Parameters(b" BODY=7BIT RET=HDRS =", [true, false], 0)],
+    ),
+    (
+        "a size has a greatest value",
+        &[Line::Parameters(b" SIZE=18446744073709551616", [false, false], u64::MAX)],
+    ),
+    (
+        "whatever its digits",
+        &[Line::Parameters(b" SIZE=99999999999999999999999", [false, false], u64::MAX)],
+    ),
+    (
+        "malformed parameters are told",
+        &[
+            Line::Malformed(b" SIZE", true),
+            Line::Malformed(b" SIZE=", true),
+            Line::Malformed(b" SIZE=1x", true),
+            Line::Malformed(b" BODY=9BIT", true),
+            Line::Malformed(b" BODY", true),
+            Line::Malformed(b" SMTPUTF8=", true),
+            Line::Malformed(b" size=1 SIZE=1", true),
+            Line::Malformed(b" X=1 Y=2 x", true),
+        ],
+    ),
+    (
+        "others may have any words",
+        &[Line::Malformed(b" X=1 Y=2 XY=3", false)],
+    ),
+];
+
+#[test]
+fn parameters_are_read(rt: HostRuntime) -> Result<(), Fail> {
+    all_hold(rt.alloc(), &PARAMETERS)
 }
 
 #[test]
-fn verbs_are_read_in_any_case(rt: HostRuntime) -> Result<(), Fail> {
-    assert!(rt; reads(b"EHLO a.example\r\n", Verb::Ehlo, b"a.example"));
-    assert!(rt; reads(b"heLO [192.0.2.1]\r\n", Verb::Helo, b"[192.0.2.1]"));
-    assert!(rt; reads(b"mail FROM:<>\r\n", Verb::Mail, b"FROM:<>"));
-    assert!(rt; reads(b"Rcpt to:<a@b> X\r\n", Verb::Rcpt, b"to:<a@b> X"));
-    assert!(rt; reads(b"dATA\r\n", Verb::Data, b""));
-    assert!(rt; reads(b"RSET\r\n", Verb::Rset, b""));
-    assert!(rt; reads(b"noop x  y\r\n", Verb::Noop, b"x  y"));
-    assert!(rt; reads(b"VRFY ann\r\n", Verb::Vrfy, b"ann"));
-    assert!(rt; reads(b"Quit\r\n", Verb::Quit, b""));
-    assert!(rt; reads(b"EXPN list\r\n", Verb::Other, b"list"));
-    assert!(rt; reads(b"MAILX\r\n", Verb::Other, b""));
-    assert!(rt; reads(b"\r\n", Verb::Other, b""));
-    Ok(())
-}
-
-#[test]
-fn white_at_both_ends_is_passed_over(rt: HostRuntime) -> Result<(), Fail> {
-    assert!(rt; reads(b" \tQUIT\r\n", Verb::Quit, b""));
-    assert!(rt; reads(b"QUIT \t \r\n", Verb::Quit, b""));
-    assert!(rt; reads(b"NOOP\t \ta b\t\r\n", Verb::Noop, b"a b"));
-    assert!(rt; reads(b" \t\r\n", Verb::Other, b""));
-    Ok(())
-}
-
-#[test]
-fn clients_say_names_and_literals(rt: HostRuntime) -> Result<(), Fail> {
-    assert!(rt; is_client(b"mail_1.example-Z"));
-    assert!(rt; is_client(b"[IPv6:2001:db8::1]"));
-    assert!(rt; !is_client(b""));
-    assert!(rt; !is_client(b"a b"));
-    assert!(rt; !is_client(b"a(b)"));
-    assert!(rt; !is_client(b"caf\xc3\xa9"));
-    assert!(rt; is_client(&[b'a'; 255]));
-    assert!(rt; !is_client(&[b'a'; 256]));
-    Ok(())
-}
-
-#[test]
-fn paths_begin_after_one_space(rt: HostRuntime) -> Result<(), Fail> {
-    assert!(rt; is_path(b"FROM:<a@b>", b"<a@b>", b""));
-    assert!(rt; is_path(b"from:<> SIZE=1", b"<>", b" SIZE=1"));
-    assert!(rt; is_path(b"FROM: <a@b>\tX", b"<a@b>", b"\tX"));
-    assert!(rt; is_no_path(b"FROM:\t<a@b>"));
-    assert!(rt; is_no_path(b"FROM:  <a@b>"));
-    assert!(rt; is_no_path(b"FROM <a@b>"));
-    assert!(rt; is_no_path(b"TO:<a@b>"));
-    assert!(rt; is_no_path(b"FROM:a@b"));
-    assert!(rt; is_no_path(b"FROM:"));
-    assert!(rt; is_no_path(b"FR"));
+fn limits_and_other_words(rt: HostRuntime) {
+    assert!(rt; is_client(&[b'a'; 255]) && !is_client(&[b'a'; 256]));
     assert!(rt; path_after(b"TO:", b"tO:<a@b>").is_some());
-    Ok(())
-}
-
-#[test]
-fn paths_end_outside_of_quotes_and_literals(rt: HostRuntime) -> Result<(), Fail> {
-    assert!(rt; is_path(b"FROM:<\"a>b\"@c> X", b"<\"a>b\"@c>", b" X"));
-    assert!(rt; is_path(b"FROM:<\"a\\\">b\"@c>", b"<\"a\\\">b\"@c>", b""));
-    assert!(rt; is_path(b"FROM:<a@[b>c]>", b"<a@[b>c]>", b""));
-    assert!(rt; is_path(b"FROM:<a@[b\\]>c]>", b"<a@[b\\]>c]>", b""));
-    assert!(rt; is_path(b"FROM:<\"(\"@[(]>", b"<\"(\"@[(]>", b""));
-    assert!(rt; is_path(b"FROM:<a> <b>", b"<a>", b" <b>"));
-    assert!(rt; is_path(b"FROM:<a> (b)", b"<a>", b" (b)"));
-    assert!(rt; is_no_path(b"FROM:<a(b)@c>"));
-    assert!(rt; is_no_path(b"FROM:<a@b"));
-    assert!(rt; is_no_path(b"FROM:<\"a>"));
-    assert!(rt; is_no_path(b"FROM:<\"a\\"));
-    assert!(rt; is_no_path(b"FROM:<a@[b>"));
-    assert!(rt; is_no_path(b"FROM:<a@b>X"));
-    Ok(())
-}
-
-#[test]
-fn known_parameters_are_read(rt: HostRuntime) -> Result<(), Fail> {
-    let alloc = rt.alloc();
-    assert!(rt; reads_parameters(alloc, b"", sound(false, false, 0))?);
-    assert!(rt;
-        reads_parameters(
-            alloc,
-            b"\t body=8bitmime  Size=0120 SmtpUtf8 ",
-            sound(false, true, 120)
-        )?
-    );
-    assert!(rt; reads_parameters(alloc, b" BODY=7BIT RET=HDRS =", sound(true, false, 0))?);
-    assert!(rt;
-        reads_parameters(
-            alloc,
-            b" SIZE=18446744073709551616",
-            sound(false, false, u64::MAX)
-        )?
-    );
-    assert!(rt;
-        reads_parameters(
-            alloc,
-            b" SIZE=99999999999999999999999",
-            sound(false, false, u64::MAX)
-        )?
-    );
-    Ok(())
-}
-
-#[test]
-fn malformed_parameters_are_told(rt: HostRuntime) -> Result<(), Fail> {
-    let alloc = rt.alloc();
-    assert!(rt; are_malformed(alloc, b" SIZE")?);
-    assert!(rt; are_malformed(alloc, b" SIZE=")?);
-    assert!(rt; are_malformed(alloc, b" SIZE=1x")?);
-    assert!(rt; are_malformed(alloc, b" BODY=9BIT")?);
-    assert!(rt; are_malformed(alloc, b" BODY")?);
-    assert!(rt; are_malformed(alloc, b" SMTPUTF8=")?);
-    assert!(rt; are_malformed(alloc, b" size=1 SIZE=1")?);
-    assert!(rt; are_malformed(alloc, b" X=1 Y=2 x")?);
-    assert!(rt; !are_malformed(alloc, b" X=1 Y=2 XY=3")?);
-    Ok(())
 }
