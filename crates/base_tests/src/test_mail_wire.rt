@@ -1,103 +1,126 @@
 //! Texts, words, wires and keepers, each public call once with ample memory.
 use mail_wire::{
     CLOCK_END, Clock, Dial, Entry, Failed, Failure, Fault, FileKeeper, FixedClock, Items, Keeper,
-    MemDial, MemKeeper, MemServer, MemWire, Octets, StdWire, SystemClock, TableWord, WireFailure,
-    Words, date_text, find_crlf, find_word, first_faulty, give_all, internal_date, is_message,
-    lines, take_piece, unfold,
+    MemDial, MemKeeper, MemServer, MemWire, Memory, Octets, StdWire, SystemClock, TableWord,
+    WireFailure, Words, date_text, find_crlf, find_word, first_faulty, give_all, internal_date,
+    is_message, lines, take_piece, unfold,
 };
+use std::alloc::Global;
 use std::fs::OpenOptions;
 use std::io::{self, ErrorKind, Read, Write};
 use std::test::Fail;
 
-#[test]
-fn unfolding_takes_the_crlf_of_folds(rt: HostRuntime) -> Result<(), Fail> {
-    let unfolded = unfold(rt.alloc(), b" a\r\n b\r\n\tc\r\n\r\n")?;
-    assert!(rt; unfolded.as_slice() == b" a b\tc\r\n\r\n".as_slice());
-    let mut spans = lines(b"a\r\n\r\nb");
-    assert!(rt;
-        spans
-            .next()
-            .is_some_and(|line| line.at == 0 && line.len == 3)
-    );
-    assert!(rt;
-        spans
-            .next()
-            .is_some_and(|line| line.at == 3 && line.len == 2)
-    );
-    assert!(rt;
-        spans
-            .next()
-            .is_some_and(|line| line.at == 5 && line.len == 1)
-    );
-    assert!(rt; spans.next().is_none());
-    Ok(())
+// Whether this is unfolded so.
+fn is_unfolded(alloc: Global, text: &[u8], wanted: &[u8]) -> Result<bool, Memory> {
+    Ok(unfold(alloc, text)?.as_slice() == wanted)
+}
+
+// Whether the lines have these places and lengths.
+fn has_lines(octets: &[u8], wanted: &[[usize; 2]]) -> bool {
+    let mut spans = lines(octets);
+    for place in wanted {
+        match spans.next() {
+            Some(line) => {
+                if [line.at, line.len] != *place {
+                    return false;
+                }
+            }
+            None => return false,
+        }
+    }
+    spans.next().is_none()
 }
 
 #[test]
-fn faulty_octets_are_found(rt: HostRuntime) -> Result<(), Fail> {
-    assert!(rt; is_message(b"") && is_message(b"a\r\n\r\n"));
-    assert!(rt; !is_message(b"a"));
-    assert_eq!(rt; first_faulty(b"a\r\nb\0\r"), Some(4));
-    assert_eq!(rt; first_faulty(b"a\r\r\n"), Some(1));
-    assert_eq!(rt; first_faulty(b"\r\n\n"), Some(2));
-    Ok(())
+fn unfolding_takes_the_crlf_of_folds(rt: HostRuntime) {
+    assert!(rt;
+        is_unfolded(rt.alloc(), b" a\r\n b\r\n\tc\r\n\r\n", b" a b\tc\r\n\r\n") == Ok(true)
+            && has_lines(b"a\r\n\r\nb", &[[0, 3], [3, 2], [5, 1]])
+    );
+}
+
+#[test]
+fn faulty_octets_are_found(rt: HostRuntime) {
+    assert!(rt; is_message(b"") && is_message(b"a\r\n\r\n") && !is_message(b"a"));
+    assert!(rt;
+        first_faulty(b"a\r\nb\0\r") == Some(4)
+            && first_faulty(b"a\r\r\n") == Some(1)
+            && first_faulty(b"\r\n\n") == Some(2)
+    );
 }
 
 // Octets are looked at many at a time, so a fault stands at each place once.
+const SOUND: &[u8; 70] =
+    b"aaaaaaaaaaaaaaaaaaaaaaaaaaaaaaaaa\r\naaaaaaaaaaaaaaaaaaaaaaaaaaaaaaaaaaa";
+
+// Whether a faulty octet is found at this place.
+fn is_found(faulty: u8, at: usize) -> bool {
+    let mut octets = *SOUND;
+    if at < 70 {
+        octets[at] = faulty;
+    }
+    first_faulty(&octets) == Some(at) && find_crlf(&octets) == Some(33)
+}
+
 #[test]
-fn a_faulty_octet_is_found_at_each_place(rt: HostRuntime) -> Result<(), Fail> {
-    let mut octets = [b'a'; 70];
-    octets[33] = b'\r';
-    octets[34] = b'\n';
-    assert!(rt; first_faulty(&octets).is_none());
-    assert_eq!(rt; find_crlf(&octets), Some(33));
+fn a_faulty_octet_is_found_at_each_place(rt: HostRuntime) {
+    assert!(rt; first_faulty(SOUND).is_none() && find_crlf(SOUND) == Some(33));
     for at in 0..70 {
         if at != 33 && at != 34 {
-            for faulty in [0, b'\r', b'\n'] {
-                octets[at] = faulty;
-                assert_eq!(rt; first_faulty(&octets), Some(at));
-                assert_eq!(rt; find_crlf(&octets), Some(33));
-            }
-            octets[at] = b'a';
+            assert!(rt;
+                is_found(0, at) && is_found(b'\r', at) && is_found(b'\n', at),
+                "at {at}"
+            );
         }
     }
-    Ok(())
 }
 
-#[test]
-fn words_are_kept_in_order(rt: HostRuntime) -> Result<(), Fail> {
-    let mut words = Words::none(rt.alloc());
+// Whether two words are kept, and no more.
+fn keeps_words(alloc: Global) -> Result<bool, Memory> {
+    let mut words = Words::none(alloc);
     words.push("pop")?;
     words.push("é")?;
-    assert!(rt; words.get(0) == Some("pop") && words.get(1) == Some("é") && words.get(2).is_none());
-    Ok(())
+    Ok(words.get(0) == Some("pop") && words.get(1) == Some("é") && words.get(2).is_none())
 }
 
 #[test]
-fn a_wire_in_memory_hands_out_pieces_and_fails(rt: HostRuntime) -> Result<(), Fail> {
-    let alloc = rt.alloc();
-    let failure = Failure { call: 2, kept: 1 };
-    let mut wire = MemWire::new(
-        alloc,
-        Octets::from_slice(alloc, b"abc")?,
-        Vec::from_slice(alloc, &[2])?,
-        Vec::from_slice(alloc, &[failure])?,
-    );
+fn words_are_kept_in_order(rt: HostRuntime) {
+    assert!(rt; keeps_words(rt.alloc()) == Ok(true));
+}
+
+// Whether a wire hands out pieces of 2 octets and then 1, and its third call fails.
+fn hands_out_and_fails(wire: &mut MemWire) -> bool {
     let mut buffer = [0; 8];
-    assert_eq!(rt; take_piece(&mut wire, &mut buffer), Ok(2));
-    assert_eq!(rt; give_all(&mut wire, b"x"), Ok(()));
-    assert_eq!(rt; give_all(&mut wire, b"yz"), Err(Fault::Wire));
-    assert_eq!(rt; take_piece(&mut wire, &mut buffer), Ok(1));
-    assert_eq!(rt; take_piece(&mut wire, &mut buffer), Ok(0));
+    take_piece(wire, &mut buffer) == Ok(2)
+        && give_all(wire, b"x") == Ok(())
+        && give_all(wire, b"yz") == Err(Fault::Wire)
+        && take_piece(wire, &mut buffer) == Ok(1)
+        && take_piece(wire, &mut buffer) == Ok(0)
+}
+
+// Whether this is what was given.
+fn was_given(alloc: Global, entries: &[Entry], wanted: &[u8]) -> Result<bool, Memory> {
     let mut given = Octets::new(alloc);
-    for entry in wire.entries() {
+    for entry in entries {
         if let Entry::Given(octets) = entry {
             given.push_slice(octets.as_slice())?;
         }
     }
     given.push(b'.')?;
-    assert!(rt; given.as_slice() == b"xy.".as_slice());
-    Ok(())
+    Ok(given.as_slice() == wanted)
+}
+
+fn wire_goes_well(alloc: Global) -> Result<bool, Memory> {
+    let input = Octets::from_slice(alloc, b"abc")?;
+    let sizes = Vec::from_slice(alloc, &[2])?;
+    let failures = Vec::from_slice(alloc, &[Failure { call: 2, kept: 1 }])?;
+    let mut wire = MemWire::new(alloc, input, sizes, failures);
+    Ok(hands_out_and_fails(&mut wire) && was_given(alloc, wire.entries(), b"xy.")?)
+}
+
+#[test]
+fn a_wire_in_memory_hands_out_pieces_and_fails(rt: HostRuntime) {
+    assert!(rt; wire_goes_well(rt.alloc()) == Ok(true));
 }
 
 // A keeper's calls, through its bound.
@@ -111,41 +134,53 @@ fn use_parts<J: Keeper>(keeper: &mut J) -> Result<(), Failed> {
     keeper.append_all(&[b"ab", b"", b"cde"])
 }
 
-#[test]
-fn a_keeper_in_memory_keeps_and_fails(rt: HostRuntime) -> Result<(), Fail> {
-    let alloc = rt.alloc();
-    let failure = Failure { call: 1, kept: 1 };
-    let mut keeper = MemKeeper::new(
-        Octets::from_slice(alloc, b"abc")?,
-        Vec::from_slice(alloc, &[failure])?,
-    );
-    assert_eq!(rt; use_keeper(&mut keeper), Ok(()));
-    assert_eq!(rt; use_keeper(&mut keeper), Err(Failed::Outside));
-    assert_eq!(rt; keeper.len(), Ok(6));
+// Whether a keeper of three octets keeps two more, and one of them when its second append fails.
+fn keeps_and_fails(keeper: &mut MemKeeper) -> bool {
     let mut buffer = [0; 3];
-    assert_eq!(rt; keeper.read_at(2, &mut buffer), Ok(()));
-    assert_eq!(rt; buffer, *b"cyz");
-    assert_eq!(rt; keeper.cut(4), Ok(()));
-    assert!(rt; keeper.octets() == b"abcy".as_slice());
-    Ok(())
+    use_keeper(keeper) == Ok(())
+        && use_keeper(keeper) == Err(Failed::Outside)
+        && keeper.len() == Ok(6)
+        && keeper.read_at(2, &mut buffer) == Ok(())
+        && buffer == *b"cyz"
+        && keeper.cut(4) == Ok(())
+        && keeper.octets() == b"abcy".as_slice()
+}
+
+fn keeper_goes_well(alloc: Global) -> Result<bool, Memory> {
+    let octets = Octets::from_slice(alloc, b"abc")?;
+    let failures = Vec::from_slice(alloc, &[Failure { call: 1, kept: 1 }])?;
+    Ok(keeps_and_fails(&mut MemKeeper::new(octets, failures)))
 }
 
 #[test]
-fn a_keeper_puts_several_parts_by_one_call(rt: HostRuntime) -> Result<(), Fail> {
-    let alloc = rt.alloc();
-    let failure = Failure { call: 1, kept: 3 };
-    let mut keeper = MemKeeper::new(Octets::new(alloc), Vec::from_slice(alloc, &[failure])?);
-    assert_eq!(rt; use_parts(&mut keeper), Ok(()));
-    assert_eq!(rt; use_parts(&mut keeper), Err(Failed::Outside));
-    assert!(rt; keeper.octets() == b"abcdeabc".as_slice());
+fn a_keeper_in_memory_keeps_and_fails(rt: HostRuntime) {
+    assert!(rt; keeper_goes_well(rt.alloc()) == Ok(true));
+}
+
+// Whether a keeper takes parts by one call, of which the second one fails.
+fn takes_parts(keeper: &mut MemKeeper) -> bool {
+    use_parts(keeper) == Ok(())
+        && use_parts(keeper) == Err(Failed::Outside)
+        && keeper.octets() == b"abcdeabc".as_slice()
+}
+
+fn parts_go_well(alloc: Global) -> Result<bool, Memory> {
+    let failures = Vec::from_slice(alloc, &[Failure { call: 1, kept: 3 }])?;
+    Ok(takes_parts(&mut MemKeeper::new(Octets::new(alloc), failures)))
+}
+
+#[test]
+fn a_keeper_puts_several_parts_by_one_call(rt: HostRuntime) {
+    assert!(rt; parts_go_well(rt.alloc()) == Ok(true));
     let mut keeper = FileKeeper::new(rt, "parts");
-    assert_eq!(rt; use_keeper(&mut keeper), Ok(()));
-    assert_eq!(rt; use_parts(&mut keeper), Ok(()));
     let mut buffer = [0; 7];
-    assert_eq!(rt; keeper.read_at(0, &mut buffer), Ok(()));
-    assert_eq!(rt; buffer, *b"yzabcde");
-    assert_eq!(rt; keeper.len(), Ok(7));
-    Ok(())
+    assert!(rt;
+        use_keeper(&mut keeper) == Ok(())
+            && use_parts(&mut keeper) == Ok(())
+            && keeper.read_at(0, &mut buffer) == Ok(())
+            && buffer == *b"yzabcde"
+            && keeper.len() == Ok(7)
+    );
 }
 
 #[test]
@@ -230,11 +265,9 @@ fn reading_of<C: Clock>(clock: &mut C) -> u64 {
 }
 
 #[test]
-fn a_fixed_clock_stands_still(rt: HostRuntime) -> Result<(), Fail> {
+fn a_fixed_clock_stands_still(rt: HostRuntime) {
     let mut clock = FixedClock::new(86_399);
-    assert_eq!(rt; reading_of(&mut clock), 86_399);
-    assert_eq!(rt; reading_of(&mut clock), 86_399);
-    Ok(())
+    assert!(rt; reading_of(&mut clock) == 86_399 && reading_of(&mut clock) == 86_399);
 }
 
 #[test]

@@ -1,22 +1,22 @@
 //! The rows of words and of what is added, over wires and keepers in memory.
-use mail_wire::{Failure, Fault, MemKeeper, MemWire};
+use mail_wire::{Failure, Fault, MemKeeper, MemWire, Memory};
 use setup_command::{read_account, read_domain, run_account, run_domain, run_help};
 use std::alloc::Global;
 use std::test::Fail;
-use test_mail::{given, keeper_of, wire_of, words_of};
+use test_mail::{Case, NEVER, all_hold, failing, given, keeper_of, wire_of, words_of};
 
 // An empty journal, and one with the domain `x.org`.
 const BEGUN: &[u8] = b"MAILJNL1";
 
 const WITH_DOMAIN: &[u8] = b"MAILJNL1\0\0\0\x0a\x02\0\0\0\x05x.org";
 
-// The status of the words of `account` or `domain`, which are such.
+// The status of the words of `account` or `domain`, if they are such.
 fn answer(
     alloc: Global,
     list: &[&str],
     wire: &mut MemWire,
     keeper: &mut MemKeeper,
-) -> Result<u8, Fail> {
+) -> Result<Option<u8>, Memory> {
     let words = words_of(alloc, list)?;
     let status = match (read_account(alloc, &words)?, read_domain(alloc, &words)?) {
         (Some(said), None) => run_account(
@@ -27,42 +27,86 @@ fn answer(
             keeper,
         ),
         (None, Some(domain)) => run_domain(alloc, domain.as_str(), wire, keeper),
-        _ => return Err(Fail::from("the words are of no command")),
+        _ => return Ok(None),
     };
-    Ok(match status {
+    Ok(Some(match status {
         Ok(status) => status,
         Err(Fault::Wire) => 1,
         Err(Fault::Keeper) => 2,
         Err(Fault::Memory) => 3,
-    })
+    }))
 }
+
+// What a keeper has, the calls of it and of the wire that fail, and the status and what is given then, when the domain `x.org` is added.
+// What it had stays.
+struct Adding {
+    kept: &'static [u8],
+    calls: [u64; 2],
+    status: u8,
+    given: &'static [u8],
+}
+
+impl Case for Adding {
+    fn holds(&self, alloc: Global) -> Result<bool, Memory> {
+        let [keeper_call, wire_call] = self.calls;
+        let mut wire = wire_of(alloc, b"", &[], failing(wire_call))?;
+        let failure = Some(Failure {
+            call: keeper_call,
+            kept: 2,
+        });
+        let mut keeper = keeper_of(alloc, self.kept, failure)?;
+        let status = answer(alloc, &["domain", "x.org"], &mut wire, &mut keeper)?;
+        let given = given(alloc, wire.entries())?;
+        Ok(
+            status == Some(self.status)
+                && given.as_slice() == self.given
+                && keeper.octets().starts_with(self.kept),
+        )
+    }
+}
+
+// The keeper's calls are one for the length, one for the first octets, and one that puts the record last.
+const ADDING: [(&str, &[Adding]); 2] = [
+    (
+        "each failing call of the keeper breaks off",
+        &[
+            Adding {
+                kept: BEGUN,
+                calls: [0, NEVER],
+                status: 2,
+                given: b"",
+            },
+            Adding {
+                kept: BEGUN,
+                calls: [1, NEVER],
+                status: 2,
+                given: b"",
+            },
+            Adding {
+                kept: BEGUN,
+                calls: [2, NEVER],
+                status: 2,
+                given: b"",
+            },
+        ],
+    ),
+    (
+        "so does that of the wire",
+        &[Adding {
+            kept: WITH_DOMAIN,
+            calls: [NEVER, 0],
+            status: 1,
+            given: b"exi",
+        }],
+    ),
+];
 
 #[test]
 fn each_failing_call_breaks_off(rt: HostRuntime) -> Result<(), Fail> {
-    let alloc = rt.alloc();
-    // The keeper's calls are one for the length, one for the first octets, and one that puts the record last.
-    for call in 0..3 {
-        let mut wire = wire_of(alloc, b"", &[], None)?;
-        let mut keeper = keeper_of(alloc, BEGUN, Some(Failure { call, kept: 2 }))?;
-        let status = answer(alloc, &["domain", "x.org"], &mut wire, &mut keeper)?;
-        assert_eq!(rt; status, 2, "at {call}");
-        assert!(rt; given(alloc, wire.entries())?.is_empty(), "at {call}");
-        assert!(rt; keeper.octets().starts_with(BEGUN), "at {call}");
-    }
-    let mut wire = wire_of(alloc, b"", &[], Some(Failure { call: 0, kept: 3 }))?;
-    let mut keeper = keeper_of(alloc, WITH_DOMAIN, None)?;
-    let status = answer(alloc, &["domain", "x.org"], &mut wire, &mut keeper)?;
-    assert_eq!(rt; status, 1);
-    assert!(rt; given(alloc, wire.entries())?.as_slice() == b"exi".as_slice());
-    Ok(())
+    all_hold(rt.alloc(), &ADDING)
 }
 
-#[test]
-fn the_text_of_help(rt: HostRuntime) -> Result<(), Fail> {
-    let alloc = rt.alloc();
-    let mut wire = wire_of(alloc, b"", &[], None)?;
-    assert!(rt; run_help(alloc, &mut wire) == Ok(0));
-    let text = "dervlask 0.9.0\n\
+const HELP: &str = "dervlask 0.9.0\n\
         A mail server over standard input and output, or over a port\n\
         \n\
         Usage: dervlask COMMAND [WORDS]\n\
@@ -81,6 +125,16 @@ fn the_text_of_help(rt: HostRuntime) -> Result<(), Fail> {
         \x20 help       Give this text\n\
         \n\
         License: Apache-2.0 OR MIT\n";
-    assert!(rt; given(alloc, wire.entries())?.as_slice() == text.as_bytes());
-    Ok(())
+
+// Whether this text is given.
+fn gives_help(alloc: Global) -> Result<bool, Memory> {
+    let mut wire = wire_of(alloc, b"", &[], None)?;
+    let status = run_help(alloc, &mut wire);
+    let given = given(alloc, wire.entries())?;
+    Ok(status == Ok(0) && given.as_slice() == HELP.as_bytes())
+}
+
+#[test]
+fn the_text_of_help(rt: HostRuntime) {
+    assert!(rt; gives_help(rt.alloc()) == Ok(true));
 }

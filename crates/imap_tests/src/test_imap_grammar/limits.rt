@@ -1,8 +1,9 @@
-//! Commands and data that are larger than may be.
-use crate::test_imap_grammar::telling::{tells_always, told_cut};
+//! Commands that are longer than may be.
+use crate::test_imap_grammar::telling::told_cut;
 use mail_wire::{LINE_MAX, Memory, Octets};
 use std::alloc::Global;
 use std::test::Fail;
+use test_mail::{Case, all_hold};
 
 // A LOGIN with a literal, whose password makes the command so long.
 fn long_login(alloc: Global, len: usize) -> Result<Octets, Memory> {
@@ -24,31 +25,41 @@ fn is_told(alloc: Global, len: usize, cut: usize, wanted: &[u8]) -> Result<bool,
     Ok(told.as_slice().starts_with(wanted))
 }
 
-#[test]
-fn messages_that_are_too_large(rt: HostRuntime) -> Result<(), Fail> {
-    let rows: [(&[u8], &[u8]); 3] = [
-        (b"a APPEND x {33554432}\r\n", b"23 go\n"),
-        (
-            b"a APPEND x {33554433}\r\nb NOOP\r\n",
-            b"23 large <a>\n31 b Noop\n",
-        ),
-        (b"a APPEND x UTF8 (~{4294967295}\r\n", b"32 large <a>\n"),
-    ];
-    for (octets, wanted) in rows {
-        assert!(rt; tells_always(rt.alloc(), octets, wanted)?);
+// The length of a command, where it is cut, and how what is told begins.
+struct Long(usize, usize, &'static [u8]);
+
+impl Case for Long {
+    fn holds(&self, alloc: Global) -> Result<bool, Memory> {
+        is_told(alloc, self.0, self.1, self.2)
     }
-    Ok(())
 }
+
+const WITHIN: &[u8] = b"13 go\n65536 a Login <x> <p";
+
+const ABOVE: &[u8] = b"13 go\n65537 long\n";
+
+const LONG: [(&str, &[Long]); 2] = [
+    (
+        "a command of the greatest length is read",
+        &[
+            Long(LINE_MAX, 0, WITHIN),
+            Long(LINE_MAX, 9, WITHIN),
+            Long(LINE_MAX, 14, WITHIN),
+            Long(LINE_MAX, 65_530, WITHIN),
+        ],
+    ),
+    (
+        "a longer one is told",
+        &[
+            Long(LINE_MAX + 1, 0, ABOVE),
+            Long(LINE_MAX + 1, 9, ABOVE),
+            Long(LINE_MAX + 1, 14, ABOVE),
+            Long(LINE_MAX + 1, 65_530, ABOVE),
+        ],
+    ),
+];
 
 #[test]
 fn commands_have_a_limit(rt: HostRuntime) -> Result<(), Fail> {
-    let within: &[u8] = b"13 go\n65536 a Login <x> <p";
-    let above: &[u8] = b"13 go\n65537 long\n";
-    let rows: [(usize, &[u8]); 2] = [(LINE_MAX, within), (LINE_MAX + 1, above)];
-    for (len, wanted) in rows {
-        for cut in [0, 9, 14, 65_530] {
-            assert!(rt; is_told(rt.alloc(), len, cut, wanted)?);
-        }
-    }
-    Ok(())
+    all_hold(rt.alloc(), &LONG)
 }

@@ -10,6 +10,7 @@ use kept_mail::Listed;
 use mail_wire::{Items, Memory};
 use std::alloc::Global;
 use std::test::Fail;
+use test_mail::{Case, all_hold};
 
 fn listed(id: u32, uid: u32) -> Listed
     ensures { result.uid ≡ uid }
@@ -32,95 +33,95 @@ fn set_of(alloc: Global, text: &[u8]) -> Result<Set, Memory> {
     }
 }
 
-fn names(alloc: Global, by_uid: bool, text: &[u8], chosen: &[u32]) -> Result<bool, Memory> {
-    let set = set_of(alloc, text)?;
-    match places(alloc, by_uid, &set, &four())? {
-        Some(places) => Ok(places.as_slice() == chosen),
-        None => Ok(false),
+// Whether UIDs are named, a set, and the places of the messages of four that it names, if it may.
+struct Chosen(bool, &'static [u8], Option<&'static [u32]>);
+
+impl Case for Chosen {
+    fn holds(&self, alloc: Global) -> Result<bool, Memory> {
+        let set = set_of(alloc, self.1)?;
+        match places(alloc, self.0, &set, &four())? {
+            Some(places) => Ok(self.2 == Some(places.as_slice())),
+            None => Ok(self.2.is_none()),
+        }
     }
 }
 
-fn is_refused(alloc: Global, by_uid: bool, text: &[u8]) -> Result<bool, Memory> {
-    let set = set_of(alloc, text)?;
-    Ok(places(alloc, by_uid, &set, &four())?.is_none())
-}
-
-// Whether the set names no message of an empty folder; else it is refused there.
-fn names_none_of_none(alloc: Global, by_uid: bool, text: &[u8]) -> Result<bool, Memory> {
-    let set = set_of(alloc, text)?;
-    Ok(places(alloc, by_uid, &set, &[])?.is_some_and(|places| places.is_empty()))
-}
+const CHOSEN: [(&str, &[Chosen]); 4] = [
+    (
+        "numbers name messages in order",
+        &[
+            Chosen(false, b"1 ", Some(&[0])),
+            Chosen(false, b"1,1:2 ", Some(&[0, 1])),
+            Chosen(false, b"3:1,2 ", Some(&[0, 1, 2])),
+            Chosen(false, b"*:1 ", Some(&[0, 1, 2, 3])),
+            Chosen(false, b"* ", Some(&[3])),
+            Chosen(false, b"4,2,4,2:2 ", Some(&[1, 3])),
+            Chosen(false, b"1:4,2:3 ", Some(&[0, 1, 2, 3])),
+        ],
+    ),
+    (
+        "UIDs name messages that are there",
+        &[
+            Chosen(true, b"1 ", Some(&[])),
+            Chosen(true, b"2,3,9 ", Some(&[0, 3])),
+            Chosen(true, b"3:8 ", Some(&[1, 2])),
+            Chosen(true, b"8:3,5:9 ", Some(&[1, 2, 3])),
+            Chosen(true, b"4294967295:* ", Some(&[3])),
+            Chosen(true, b"*:7 ", Some(&[3])),
+            Chosen(true, b"1:* ", Some(&[0, 1, 2, 3])),
+            Chosen(true, b"10:4294967295 ", Some(&[])),
+        ],
+    ),
+    (
+        "numbers past the last are refused",
+        &[
+            Chosen(false, b"5 ", None),
+            Chosen(false, b"1,2:5 ", None),
+            Chosen(false, b"4294967295:* ", None),
+            Chosen(false, b"4 ", Some(&[3])),
+        ],
+    ),
+    (
+        "but no UIDs past the last",
+        &[Chosen(true, b"4294967295 ", Some(&[]))],
+    ),
+];
 
 #[test]
-fn numbers_name_messages_in_order(rt: HostRuntime) -> Result<(), Fail> {
-    let rows: [(&[u8], &[u32]); 7] = [
-        (b"1 ", &[0]),
-        (b"1,1:2 ", &[0, 1]),
-        (b"3:1,2 ", &[0, 1, 2]),
-        (b"*:1 ", &[0, 1, 2, 3]),
-        (b"* ", &[3]),
-        (b"4,2,4,2:2 ", &[1, 3]),
-        (b"1:4,2:3 ", &[0, 1, 2, 3]),
-    ];
-    for (text, chosen) in rows {
-        assert!(rt; names(rt.alloc(), false, text, chosen)?);
-    }
-    Ok(())
+fn sets_name_messages_in_order(rt: HostRuntime) -> Result<(), Fail> {
+    all_hold(rt.alloc(), &CHOSEN)
 }
 
 #[test]
 fn no_ranges_name_nothing(rt: HostRuntime) -> Result<(), Fail> {
-    let alloc = rt.alloc();
     let set = Set {
-        ranges: Items::new(alloc),
+        ranges: Items::new(rt.alloc()),
     };
-    let chosen = places(alloc, false, &set, &four())?;
+    let chosen = places(rt.alloc(), false, &set, &four())?;
     assert!(rt; chosen.is_some_and(|places| places.is_empty()));
     Ok(())
 }
 
-#[test]
-fn numbers_past_the_last_are_refused(rt: HostRuntime) -> Result<(), Fail> {
-    let rows: [(bool, &[u8], bool); 5] = [
-        (false, b"5 ", true),
-        (false, b"1,2:5 ", true),
-        (false, b"4294967295:* ", true),
-        (false, b"4 ", false),
-        (true, b"4294967295 ", false),
-    ];
-    for (by_uid, text, wanted) in rows {
-        assert!(rt; is_refused(rt.alloc(), by_uid, text)? == wanted);
+// Whether UIDs are named, a set, and whether it names no message of an empty folder; else it is refused there.
+struct Empty(bool, &'static [u8], bool);
+
+impl Case for Empty {
+    fn holds(&self, alloc: Global) -> Result<bool, Memory> {
+        let set = set_of(alloc, self.1)?;
+        match places(alloc, self.0, &set, &[])? {
+            Some(places) => Ok(self.2 && places.is_empty()),
+            None => Ok(!self.2),
+        }
     }
-    Ok(())
 }
 
-#[test]
-fn uids_name_messages_that_are_there(rt: HostRuntime) -> Result<(), Fail> {
-    let rows: [(&[u8], &[u32]); 8] = [
-        (b"1 ", &[]),
-        (b"2,3,9 ", &[0, 3]),
-        (b"3:8 ", &[1, 2]),
-        (b"8:3,5:9 ", &[1, 2, 3]),
-        (b"4294967295:* ", &[3]),
-        (b"*:7 ", &[3]),
-        (b"1:* ", &[0, 1, 2, 3]),
-        (b"10:4294967295 ", &[]),
-    ];
-    for (text, chosen) in rows {
-        assert!(rt; names(rt.alloc(), true, text, chosen)?);
-    }
-    Ok(())
-}
+const EMPTY: [(&str, &[Empty]); 3] = [
+    ("the last of none is none", &[Empty(false, b"* ", true)]),
+    ("a number is refused", &[Empty(false, b"1:* ", false)]),
+    ("a UID isn't", &[Empty(true, b"1:* ", true)]),
+];
 
 #[test]
 fn an_empty_folder_has_nothing_to_name(rt: HostRuntime) -> Result<(), Fail> {
-    let rows: [(bool, &[u8], bool); 3] = [
-        (false, b"* ", true),
-        (false, b"1:* ", false),
-        (true, b"1:* ", true),
-    ];
-    for (by_uid, text, wanted) in rows {
-        assert!(rt; names_none_of_none(rt.alloc(), by_uid, text)? == wanted);
-    }
-    Ok(())
+    all_hold(rt.alloc(), &EMPTY)
 }

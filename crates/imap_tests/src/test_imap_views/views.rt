@@ -4,11 +4,12 @@ ghost use Rattle.imap_views.specs.Fields.{HasSomeBlock};
 ghost use Rattle.surrogate_rope.specs.Served.{IsShownOf};
 
 use imap_views::{envelope, read_range, structure};
-use mail_wire::{Octets, Span};
+use mail_wire::{Memory, Octets, Span};
 use mime_tree::read_tree;
 use std::alloc::Global;
 use std::test::Fail;
 use surrogate_rope::{Rope, Shown};
+use test_mail::{Case, all_hold};
 use utf8_fields::read_block;
 
 const NIL_ENVELOPE: &str = "(NIL NIL NIL NIL NIL NIL NIL NIL NIL NIL)";
@@ -37,14 +38,6 @@ fn has_block(alloc: Global, header: &[u8]) -> Option<&[u8]>
     }
 }
 
-fn envelope_is(rt: &HostRuntime, header: &str, wanted: &str) -> bool {
-    let mut text = Octets::new(rt.alloc());
-    let Some(header) = has_block(rt.alloc(), header.as_bytes()) else {
-        return false;
-    };
-    envelope(rt.alloc(), header, &mut text).is_ok() && text.as_slice() == wanted.as_bytes()
-}
-
 fn shown_of(alloc: Global, msg: &[u8], enabled: bool) -> Option<Shown>
     ensures { IfSome result (IsShownOf msg.now) }
 {
@@ -60,202 +53,258 @@ fn shown_of(alloc: Global, msg: &[u8], enabled: bool) -> Option<Shown>
     }
 }
 
-fn structure_is(rt: &HostRuntime, msg: &str, enabled: bool, extended: bool, wanted: &str) -> bool {
-    let msg = msg.as_bytes();
-    let Some(shown) = shown_of(rt.alloc(), msg, enabled) else {
-        return false;
+// A view and what it says.
+enum View {
+    // of a header
+    Envelope(&'static str, &'static str),
+    // of a message as it is shown where UTF-8 is enabled or isn't, and with extensions or without
+    Structure(&'static str, bool, bool, &'static str),
+    // of a message that is so shown: so many octets from a place on, if there are
+    Range(bool, usize, usize, Option<&'static str>),
+}
+
+impl Case for View {
+    fn holds(&self, alloc: Global) -> Result<bool, Memory> {
+        match self {
+            View::Envelope(header, wanted) => envelope_is(alloc, *header, *wanted),
+            View::Structure(msg, enabled, extended, wanted) => {
+                structure_is(alloc, msg.as_bytes(), *enabled, *extended, *wanted)
+            }
+            View::Range(enabled, at, len, wanted) => {
+                range_is(alloc, *enabled, Span { at: *at, len: *len }, *wanted)
+            }
+        }
+    }
+}
+
+fn envelope_is(alloc: Global, header: &str, wanted: &str) -> Result<bool, Memory> {
+    let Some(header) = has_block(alloc, header.as_bytes()) else {
+        return Ok(false);
     };
-    let mut text = Octets::new(rt.alloc());
-    structure(rt.alloc(), &shown, msg, extended, &mut text).is_ok()
-        && text.as_slice() == wanted.as_bytes()
+    let mut text = Octets::new(alloc);
+    envelope(alloc, header, &mut text)?;
+    Ok(text.as_slice() == wanted.as_bytes())
 }
 
-#[test]
-fn an_envelope_tells_the_first_fields(rt: HostRuntime) -> Result<(), Fail> {
-    assert!(rt; envelope_is(&rt, MESSAGE, ENVELOPE));
-    assert!(rt; envelope_is(&rt, "", NIL_ENVELOPE));
-    assert!(rt;
-        envelope_is(
-            &rt,
-            "Downgraded-Message-ID:\r\n =?UTF-8?B?PMOpQHg+?=\r\n",
-            NIL_ENVELOPE
-        )
-    );
-    assert!(rt;
-        envelope_is(
-            &rt,
-            "Message-ID: <é@x>\r\n",
-            "(NIL NIL NIL NIL NIL NIL NIL NIL NIL \"<é@x>\")"
-        )
-    );
-    Ok(())
-}
-
-#[test]
-fn a_malformed_sender_is_nil(rt: HostRuntime) -> Result<(), Fail> {
-    let wanted =
-        "(NIL NIL ((NIL NIL \"a\" \"x\")) NIL ((NIL NIL \"a\" \"x\")) NIL NIL NIL NIL NIL)";
-    assert!(rt; envelope_is(&rt, "From: a@x\r\nSender: a\r\n", wanted));
-    Ok(())
-}
-
-#[test]
-fn a_structure_tells_all_parts(rt: HostRuntime) -> Result<(), Fail> {
-    assert!(rt; structure_is(&rt, NESTED, true, false, NESTED_BODY));
-    assert!(rt; structure_is(&rt, NESTED, true, true, NESTED_STRUCTURE));
-    assert!(rt; structure_is(&rt, NESTED, false, true, NESTED_STRUCTURE));
-    Ok(())
-}
-
-#[test]
-fn a_structure_is_that_of_what_is_shown(rt: HostRuntime) -> Result<(), Fail> {
-    let text = "(\"text\" \"plain\" (\"charset\" \"us-ascii\") NIL NIL \"7bit\" 3 1)";
-    assert!(rt; structure_is(&rt, "Subject: café bar\r\n\r\nx\r\n", false, false, text));
-    let msg = "Content-Type: a/b; c=\"é\"\r\nContent-Description: é\r\n\r\n";
-    assert!(rt;
-        structure_is(
-            &rt,
-            msg,
-            true,
-            false,
-            "(\"a\" \"b\" (\"c\" \"é\") NIL \"é\" \"7bit\" 0)"
-        )
-    );
-    let made = "(\"a\" \"b\" (\"c*\" \"UTF-8''%C3%A9\") NIL \"=?UTF-8?B?w6k=?=\" \"7bit\" 0)";
-    assert!(rt; structure_is(&rt, msg, false, false, made));
-    Ok(())
-}
-
-const LEAF: &str = "(\"text\" \"plain\" (\"charset\" \"us-ascii\") NIL NIL \"7bit\"";
-
-// The structure of a message that is one text of so many octets and lines.
-fn is_plain(rt: &HostRuntime, msg: &str, size_and_lines: &str) -> bool {
-    let Ok(mut wanted) = Octets::from_slice(rt.alloc(), LEAF.as_bytes()) else {
-        return false;
+fn structure_is(
+    alloc: Global,
+    msg: &[u8],
+    enabled: bool,
+    extended: bool,
+    wanted: &str,
+) -> Result<bool, Memory> {
+    let Some(shown) = shown_of(alloc, msg, enabled) else {
+        return Ok(false);
     };
-    let Ok(()) = wanted.push_slice(size_and_lines.as_bytes()) else {
-        return false;
-    };
-    let Some(shown) = shown_of(rt.alloc(), msg.as_bytes(), true) else {
-        return false;
-    };
-    let mut text = Octets::new(rt.alloc());
-    structure(rt.alloc(), &shown, msg.as_bytes(), false, &mut text).is_ok()
-        && text.as_slice() == wanted.as_slice()
+    let mut text = Octets::new(alloc);
+    structure(alloc, &shown, msg, extended, &mut text)?;
+    Ok(text.as_slice() == wanted.as_bytes())
 }
 
-#[test]
-fn absent_senders_are_from(rt: HostRuntime) -> Result<(), Fail> {
-    let from = "From: Ann <a@x>\r\n";
-    let wanted =
-        "(NIL NIL ((\"Ann\" NIL \"a\" \"x\")) ((\"Ann\" NIL \"a\" \"x\")) ((\"Ann\" NIL \"a\" \"x\")) NIL NIL NIL NIL NIL)";
-    assert!(rt; envelope_is(&rt, from, wanted));
-    assert!(rt; envelope_is(&rt, "From: a\r\n", NIL_ENVELOPE));
-    assert!(rt; envelope_is(&rt, "Reply-To:\r\nFrom: ,\r\n", NIL_ENVELOPE));
-    Ok(())
-}
-
-#[test]
-fn names_stay_as_they_are_written(rt: HostRuntime) -> Result<(), Fail> {
-    assert!(rt;
-        envelope_is(
-            &rt,
-            "To: =?UTF-8?B?w6k=?= (c) x <a@x>\r\n",
-            "(NIL NIL NIL NIL NIL ((\"=?UTF-8?B?w6k=?= x\" NIL \"a\" \"x\")) NIL NIL NIL NIL)"
-        )
-    );
-    assert!(rt;
-        envelope_is(
-            &rt,
-            "To: é <é@é>\r\n",
-            "(NIL NIL NIL NIL NIL ((\"é\" NIL \"é\" \"é\")) NIL NIL NIL NIL)"
-        )
-    );
-    assert!(rt;
-        envelope_is(
-            &rt,
-            "Cc: =?x?Q?y?=:;\r\n",
-            "(NIL NIL NIL NIL NIL NIL ((NIL NIL \"=?x?Q?y?=\" NIL)(NIL NIL NIL NIL)) NIL NIL NIL)"
-        )
-    );
-    Ok(())
-}
-
-#[test]
-fn values_are_unfolded(rt: HostRuntime) -> Result<(), Fail> {
-    assert!(rt;
-        envelope_is(
-            &rt,
-            "DATE :  a\r\n\tb \r\nSubject:\r\nIn-Reply-To: <\"x\\\">\r\n\r\n",
-            "(\"a\tb\" \"\" NIL NIL NIL NIL NIL NIL \"<\\\"x\\\\\\\">\" NIL)"
-        )
-    );
-    Ok(())
-}
-
-#[test]
-fn lines_are_those_that_end(rt: HostRuntime) -> Result<(), Fail> {
-    assert!(rt; is_plain(&rt, "", " 0 0)"));
-    assert!(rt; is_plain(&rt, "\r\n", " 0 0)"));
-    assert!(rt; is_plain(&rt, "\r\n\r\n", " 2 1)"));
-    assert!(rt; is_plain(&rt, "A: b\r\n\r\na\r\nb", " 4 1)"));
-    assert!(rt; is_plain(&rt, "A: b\r\n\r\na\r\n\r\n", " 5 2)"));
-    Ok(())
-}
-
-#[test]
-fn what_is_malformed_is_usual(rt: HostRuntime) -> Result<(), Fail> {
-    assert!(rt;
-        is_plain(
-            &rt,
-            "Content-Type: x\r\nContent-Disposition: a b\r\n\r\na",
-            " 1 0)"
-        )
-    );
-    assert!(rt; is_plain(&rt, "Content-Transfer-Encoding: 8 bit\r\n\r\na", " 1 0)"));
-    assert!(rt;
-        structure_is(
-            &rt,
-            "Content-Type: Message/RFC822\r\nContent-Transfer-Encoding: base64\r\n\r\na\r\n",
-            true,
-            false,
-            "(\"message\" \"rfc822\" NIL NIL NIL \"base64\" 3)"
-        )
-    );
-    assert!(rt;
-        structure_is(
-            &rt,
-            "Content-Type: multipart/mixed; A=\"\\b\\\"\"; b=c/d\r\n\r\na\r\n",
-            true,
-            true,
-            "(\"multipart\" \"mixed\" (\"A\" \"b\\\"\" \"b\" \"c/d\") NIL NIL \"7bit\" 3 NIL NIL NIL NIL)"
-        )
-    );
-    Ok(())
-}
-
-// Whether so many octets from this place on of what is shown are these.
-fn range_is(rt: &HostRuntime, enabled: bool, at: usize, len: usize, wanted: &str) -> bool {
+// Whether these octets of what is shown say this, or there are none.
+fn range_is(
+    alloc: Global,
+    enabled: bool,
+    span: Span,
+    wanted: Option<&str>,
+) -> Result<bool, Memory> {
     let msg = "Subject: café bar\r\n\r\nx\r\n".as_bytes();
-    let Some(shown) = shown_of(rt.alloc(), msg, enabled) else {
-        return false;
+    let Some(shown) = shown_of(alloc, msg, enabled) else {
+        return Ok(false);
     };
     let size = shown.size(msg);
-    if at > size || len > size - at {
-        return false;
+    if span.at > size || span.len > size - span.at {
+        return Ok(wanted.is_none());
     }
-    match read_range(rt.alloc(), &shown, msg, Span { at, len }) {
-        Ok(made) => made.as_slice() == wanted.as_bytes(),
-        Err(_) => false,
-    }
+    let made = read_range(alloc, &shown, msg, span)?;
+    Ok(wanted.is_some_and(|text| made.as_slice() == text.as_bytes()))
 }
+
+const ENVELOPES: [(&str, &[View]); 5] = [
+    (
+        "an envelope tells the first fields",
+        &[
+            View::Envelope(MESSAGE, ENVELOPE),
+            View::Envelope("", NIL_ENVELOPE),
+            View::Envelope(
+                "Downgraded-Message-ID:\r\n =?UTF-8?B?PMOpQHg+?=\r\n",
+                NIL_ENVELOPE,
+            ),
+            View::Envelope(
+                "Message-ID: <é@x>\r\n",
+                "(NIL NIL NIL NIL NIL NIL NIL NIL NIL \"<é@x>\")",
+            ),
+        ],
+    ),
+    (
+        "a malformed sender is nil",
+        &[View::Envelope(
+            "From: a@x\r\nSender: a\r\n",
+            "(NIL NIL ((NIL NIL \"a\" \"x\")) NIL ((NIL NIL \"a\" \"x\")) NIL NIL NIL NIL NIL)",
+        )],
+    ),
+    (
+        "absent senders are from",
+        &[
+            View::Envelope(
+                "From: Ann <a@x>\r\n",
+                "(NIL NIL ((\"Ann\" NIL \"a\" \"x\")) ((\"Ann\" NIL \"a\" \"x\")) ((\"Ann\" NIL \"a\" \"x\")) NIL NIL NIL NIL NIL)",
+            ),
+            View::Envelope("From: a\r\n", NIL_ENVELOPE),
+            View::Envelope("Reply-To:\r\nFrom: ,\r\n", NIL_ENVELOPE),
+        ],
+    ),
+    (
+        "names stay as they are written",
+        &[
+            View::Envelope(
+                "To: =?UTF-8?B?w6k=?= (c) x <a@x>\r\n",
+                "(NIL NIL NIL NIL NIL ((\"=?UTF-8?B?w6k=?= x\" NIL \"a\" \"x\")) NIL NIL NIL NIL)",
+            ),
+            View::Envelope(
+                "To: é <é@é>\r\n",
+                "(NIL NIL NIL NIL NIL ((\"é\" NIL \"é\" \"é\")) NIL NIL NIL NIL)",
+            ),
+            View::Envelope(
+                "Cc: =?x?Q?y?=:;\r\n",
+                "(NIL NIL NIL NIL NIL NIL ((NIL NIL \"=?x?Q?y?=\" NIL)(NIL NIL NIL NIL)) NIL NIL NIL)",
+            ),
+        ],
+    ),
+    (
+        "values are unfolded",
+        &[View::Envelope(
+            "DATE :  a\r\n\tb \r\nSubject:\r\nIn-Reply-To: <\"x\\\">\r\n\r\n",
+            "(\"a\tb\" \"\" NIL NIL NIL NIL NIL NIL \"<\\\"x\\\\\\\">\" NIL)",
+        )],
+    ),
+];
+
+#[test]
+fn envelopes_tell_the_first_fields(rt: HostRuntime) -> Result<(), Fail> {
+    all_hold(rt.alloc(), &ENVELOPES)
+}
+
+const STRUCTURES: [(&str, &[View]); 4] = [
+    (
+        "a structure tells all parts",
+        &[
+            View::Structure(NESTED, true, false, NESTED_BODY),
+            View::Structure(NESTED, true, true, NESTED_STRUCTURE),
+            View::Structure(NESTED, false, true, NESTED_STRUCTURE),
+        ],
+    ),
+    (
+        "a structure is that of what is shown",
+        &[
+            View::Structure(
+                "Subject: café bar\r\n\r\nx\r\n",
+                false,
+                false,
+                "(\"text\" \"plain\" (\"charset\" \"us-ascii\") NIL NIL \"7bit\" 3 1)",
+            ),
+            View::Structure(
+                "Content-Type: a/b; c=\"é\"\r\nContent-Description: é\r\n\r\n",
+                true,
+                false,
+                "(\"a\" \"b\" (\"c\" \"é\") NIL \"é\" \"7bit\" 0)",
+            ),
+            View::Structure(
+                "Content-Type: a/b; c=\"é\"\r\nContent-Description: é\r\n\r\n",
+                false,
+                false,
+                "(\"a\" \"b\" (\"c*\" \"UTF-8''%C3%A9\") NIL \"=?UTF-8?B?w6k=?=\" \"7bit\" 0)",
+            ),
+        ],
+    ),
+    (
+        "lines are those that end",
+        &[
+            View::Structure(
+                "",
+                true,
+                false,
+                "(\"text\" \"plain\" (\"charset\" \"us-ascii\") NIL NIL \"7bit\" 0 0)",
+            ),
+            View::Structure(
+                "\r\n",
+                true,
+                false,
+                "(\"text\" \"plain\" (\"charset\" \"us-ascii\") NIL NIL \"7bit\" 0 0)",
+            ),
+            View::Structure(
+                "\r\n\r\n",
+                true,
+                false,
+                "(\"text\" \"plain\" (\"charset\" \"us-ascii\") NIL NIL \"7bit\" 2 1)",
+            ),
+            View::Structure(
+                "A: b\r\n\r\na\r\nb",
+                true,
+                false,
+                "(\"text\" \"plain\" (\"charset\" \"us-ascii\") NIL NIL \"7bit\" 4 1)",
+            ),
+            View::Structure(
+                "A: b\r\n\r\na\r\n\r\n",
+                true,
+                false,
+                "(\"text\" \"plain\" (\"charset\" \"us-ascii\") NIL NIL \"7bit\" 5 2)",
+            ),
+        ],
+    ),
+    (
+        "what is malformed is usual",
+        &[
+            View::Structure(
+                "Content-Type: Message/RFC822\r\nContent-Transfer-Encoding: base64\r\n\r\na\r\n",
+                true,
+                false,
+                "(\"message\" \"rfc822\" NIL NIL NIL \"base64\" 3)",
+            ),
+            View::Structure(
+                "Content-Type: multipart/mixed; A=\"\\b\\\"\"; b=c/d\r\n\r\na\r\n",
+                true,
+                true,
+                "(\"multipart\" \"mixed\" (\"A\" \"b\\\"\" \"b\" \"c/d\") NIL NIL \"7bit\" 3 NIL NIL NIL NIL)",
+            ),
+            View::Structure(
+                "Content-Type: x\r\nContent-Disposition: a b\r\n\r\na",
+                true,
+                false,
+                "(\"text\" \"plain\" (\"charset\" \"us-ascii\") NIL NIL \"7bit\" 1 0)",
+            ),
+            View::Structure(
+                "Content-Transfer-Encoding: 8 bit\r\n\r\na",
+                true,
+                false,
+                "(\"text\" \"plain\" (\"charset\" \"us-ascii\") NIL NIL \"7bit\" 1 0)",
+            ),
+        ],
+    ),
+];
+
+#[test]
+fn structures_tell_all_parts_of_what_is_shown(rt: HostRuntime) -> Result<(), Fail> {
+    all_hold(rt.alloc(), &STRUCTURES)
+}
+
+const RANGES: [(&str, &[View]); 2] = [
+    (
+        "ranges are of what is shown",
+        &[
+            View::Range(true, 8, 10, Some(" café bar")),
+            View::Range(false, 8, 10, Some("\r\n =?UTF-8")),
+            View::Range(false, 41, 3, Some("x\r\n")),
+            View::Range(true, 25, 0, Some("")),
+        ],
+    ),
+    (
+        "there is no range past the end",
+        &[View::Range(true, 25, 1, None)],
+    ),
+];
 
 #[test]
 fn ranges_are_of_what_is_shown(rt: HostRuntime) -> Result<(), Fail> {
-    assert!(rt; range_is(&rt, true, 8, 10, " café bar"));
-    assert!(rt; range_is(&rt, false, 8, 10, "\r\n =?UTF-8"));
-    assert!(rt; range_is(&rt, false, 41, 3, "x\r\n"));
-    assert!(rt; range_is(&rt, true, 25, 0, ""));
-    assert!(rt; !range_is(&rt, true, 25, 1, ""));
-    Ok(())
+    all_hold(rt.alloc(), &RANGES)
 }

@@ -1,156 +1,135 @@
 //! Mailbox names in modified UTF-7, read and written.
 use imap_words::{read_mutf7, write_mutf7};
+use mail_wire::Memory;
 use std::alloc::Global;
 use std::test::Fail;
+use test_mail::{Case, all_hold};
+
+// A text, and the name that it is, if it is one.
+struct Name(&'static [u8], Option<&'static str>);
+
+impl Case for Name {
+    fn holds(&self, alloc: Global) -> Result<bool, Memory> {
+        match self.1 {
+            Some(name) => is_name(alloc, self.0, name),
+            None => Ok(read_mutf7(alloc, self.0)?.is_none()),
+        }
+    }
+}
 
 // Whether the text is read as this name, and the name is written so.
-fn is_name(alloc: Global, text: &[u8], name: &str) -> Result<bool, Fail> {
+fn is_name(alloc: Global, text: &[u8], name: &str) -> Result<bool, Memory> {
     let made = write_mutf7(alloc, name)?;
-    if made.as_slice() != text {
-        return Ok(false);
-    }
     match read_mutf7(alloc, text)? {
-        Some(read) => Ok(read.as_slice() == name.as_bytes()),
+        Some(read) => Ok(made.as_slice() == text && read.as_slice() == name.as_bytes()),
         None => Ok(false),
     }
 }
 
-fn is_no_name(alloc: Global, text: &[u8]) -> Result<bool, Fail> {
-    Ok(read_mutf7(alloc, text)?.is_none())
-}
+const NAMES: [(&str, &[Name]); 7] = [
+    (
+        "printable octets are themselves",
+        &[
+            Name(b"", Some("")),
+            Name(b"INBOX", Some("INBOX")),
+            Name(b" ~", Some(" ~")),
+            Name(b"AH8-\"", Some("AH8-\"")),
+            Name(b",/+-\\{}%*()", Some(",/+-\\{}%*()")),
+        ],
+    ),
+    (
+        "an ampersand is written with a dash",
+        &[
+            Name(b"&-", Some("&")),
+            Name(b"&-&-&AMk-", Some("&&É")),
+            Name(b"&A8I-&-&-9", Some("ς&&9")),
+            Name(b"&---", Some("&--")),
+            Name(b"&", None),
+            Name(b"a&b", None),
+            Name(b"& -", None),
+        ],
+    ),
+    (
+        "other characters are written in runs",
+        &[
+            Name(
+                b"~peter/mail/&U,BTFw-/&ZeVnLIqe-",
+                Some("~peter/mail/台北/日本語"),
+            ),
+            Name(b"&Jjo-!", Some("☺!")),
+            Name(b"&A6M-", Some("Σ")),
+            Name(b"&A6MAAQ-", Some("Σ\u{1}")),
+            Name(b"&A6MDowOj-", Some("ΣΣΣ")),
+            Name(b"&zJaU,w-", Some("첖铿")),
+            Name(b"&AAk-.*", Some("\t.*")),
+            Name(b"&AH8-", Some("\u{7f}")),
+            Name(b"&AIA-a", Some("\u{80}a")),
+            Name(b"e&AwE-K", Some("e\u{301}K")),
+        ],
+    ),
+    (
+        "characters above 65535 are pairs",
+        &[
+            Name(b"&2D3eAA-", Some("😀")),
+            Name(b"+&2D3eAA-a", Some("+😀a")),
+            Name(b"*&ATHYPd4A-", Some("*ı😀")),
+            Name(b"&2D3eAB+z-", Some("😀ᾳ")),
+            Name(b"&2ADcANv,3,8-", Some("\u{10000}\u{10ffff}")),
+            Name(b"&2D0-", None),
+            Name(b"&3gA-", None),
+            Name(b"&3gDYPQ-", None),
+            Name(b"&2D3YPQ-", None),
+        ],
+    ),
+    (
+        "a second spelling is none",
+        &[
+            Name(b"&A6M-a&A6M-", Some("ΣaΣ")),
+            // printable characters in a run
+            Name(b"&AEE-", None),
+            Name(b"&AGEA6Q-", None),
+            Name(b"&ACY-", None),
+            // two runs in place of one
+            Name(b"&A6M-&A6M-", None),
+            Name(b"&AMk-&2D3eAA-", None),
+            // bits after the last octet that aren't 0
+            Name(b"&A6N-", None),
+            Name(b"&2D3eAB-", None),
+        ],
+    ),
+    (
+        "runs that say nothing are none",
+        &[
+            // not ended
+            Name(b"&A6M", None),
+            Name(b"a&AN8", None),
+            Name(b"&2D3eAA", None),
+            // so many symbols that no octets, or an odd number of them, have
+            Name(b"&A-", None),
+            Name(b"&AQ-", None),
+            Name(b"&A6MA-", None),
+            Name(b"&A6MAA-", None),
+            // other symbols
+            Name(b"&zJaU/w-", None),
+            Name(b"&A6M=-", None),
+            Name(b"&A 6M-", None),
+            Name(b"&A\xc3\xa9-", None),
+        ],
+    ),
+    (
+        "octets that are not printable are none",
+        &[
+            Name(b"a\tb", None),
+            Name(b"a\r\n", None),
+            Name(b"\0", None),
+            Name(b"\x7f", None),
+            Name(b"\xc3\xa9", None),
+            Name(b"&A6M-\xff", None),
+        ],
+    ),
+];
 
 #[test]
-fn printable_octets_are_themselves(rt: HostRuntime) -> Result<(), Fail> {
-    let rows: [(&[u8], &str); 5] = [
-        (b"", ""),
-        (b"INBOX", "INBOX"),
-        (b" ~", " ~"),
-        (b"AH8-\"", "AH8-\""),
-        (b",/+-\\{}%*()", ",/+-\\{}%*()"),
-    ];
-    for (text, name) in rows {
-        assert!(rt; is_name(rt.alloc(), text, name)?);
-    }
-    Ok(())
-}
-
-#[test]
-fn an_ampersand_is_written_with_a_dash(rt: HostRuntime) -> Result<(), Fail> {
-    let rows: [(&[u8], &str); 4] = [
-        (b"&-", "&"),
-        (b"&-&-&AMk-", "&&É"),
-        (b"&A8I-&-&-9", "ς&&9"),
-        (b"&---", "&--"),
-    ];
-    for (text, name) in rows {
-        assert!(rt; is_name(rt.alloc(), text, name)?);
-    }
-    let texts: [&[u8]; 3] = [b"&", b"a&b", b"& -"];
-    for text in texts {
-        assert!(rt; is_no_name(rt.alloc(), text)?);
-    }
-    Ok(())
-}
-
-#[test]
-fn other_characters_are_written_in_runs(rt: HostRuntime) -> Result<(), Fail> {
-    let rows: [(&[u8], &str); 10] = [
-        (b"~peter/mail/&U,BTFw-/&ZeVnLIqe-", "~peter/mail/台北/日本語"),
-        (b"&Jjo-!", "☺!"),
-        (b"&A6M-", "Σ"),
-        (b"&A6MAAQ-", "Σ\u{1}"),
-        (b"&A6MDowOj-", "ΣΣΣ"),
-        (b"&zJaU,w-", "첖铿"),
-        (b"&AAk-.*", "\t.*"),
-        (b"&AH8-", "\u{7f}"),
-        (b"&AIA-a", "\u{80}a"),
-        (b"e&AwE-K", "e\u{301}K"),
-    ];
-    for (text, name) in rows {
-        assert!(rt; is_name(rt.alloc(), text, name)?);
-    }
-    Ok(())
-}
-
-#[test]
-fn characters_above_65535_are_pairs(rt: HostRuntime) -> Result<(), Fail> {
-    let rows: [(&[u8], &str); 5] = [
-        (b"&2D3eAA-", "😀"),
-        (b"+&2D3eAA-a", "+😀a"),
-        (b"*&ATHYPd4A-", "*ı😀"),
-        (b"&2D3eAB+z-", "😀ᾳ"),
-        (b"&2ADcANv,3,8-", "\u{10000}\u{10ffff}"),
-    ];
-    for (text, name) in rows {
-        assert!(rt; is_name(rt.alloc(), text, name)?);
-    }
-    let texts: [&[u8]; 4] = [b"&2D0-", b"&3gA-", b"&3gDYPQ-", b"&2D3YPQ-"];
-    for text in texts {
-        assert!(rt; is_no_name(rt.alloc(), text)?);
-    }
-    Ok(())
-}
-
-#[test]
-fn a_second_spelling_is_none(rt: HostRuntime) -> Result<(), Fail> {
-    let rows: [(&[u8], &str); 1] = [(b"&A6M-a&A6M-", "ΣaΣ")];
-    for (text, name) in rows {
-        assert!(rt; is_name(rt.alloc(), text, name)?);
-    }
-    let texts: [&[u8]; 7] = [
-        // printable characters in a run
-        b"&AEE-",
-        b"&AGEA6Q-",
-        b"&ACY-",
-        // two runs in place of one
-        b"&A6M-&A6M-",
-        b"&AMk-&2D3eAA-",
-        // bits after the last octet that aren't 0
-        b"&A6N-",
-        b"&2D3eAB-",
-    ];
-    for text in texts {
-        assert!(rt; is_no_name(rt.alloc(), text)?);
-    }
-    Ok(())
-}
-
-#[test]
-fn runs_that_say_nothing_are_none(rt: HostRuntime) -> Result<(), Fail> {
-    let texts: [&[u8]; 11] = [
-        // not ended
-        b"&A6M",
-        b"a&AN8",
-        b"&2D3eAA",
-        // so many symbols that no octets, or an odd number of them, have
-        b"&A-",
-        b"&AQ-",
-        b"&A6MA-",
-        b"&A6MAA-",
-        // other symbols
-        b"&zJaU/w-",
-        b"&A6M=-",
-        b"&A 6M-",
-        b"&A\xc3\xa9-",
-    ];
-    for text in texts {
-        assert!(rt; is_no_name(rt.alloc(), text)?);
-    }
-    Ok(())
-}
-
-#[test]
-fn octets_that_are_not_printable_are_none(rt: HostRuntime) -> Result<(), Fail> {
-    let texts: [&[u8]; 6] = [
-        b"a\tb",
-        b"a\r\n",
-        b"\0",
-        b"\x7f",
-        "é".as_bytes(),
-        b"&A6M-\xff",
-    ];
-    for text in texts {
-        assert!(rt; is_no_name(rt.alloc(), text)?);
-    }
-    Ok(())
+fn names_have_one_text(rt: HostRuntime) -> Result<(), Fail> {
+    all_hold(rt.alloc(), &NAMES)
 }

@@ -114,49 +114,62 @@ fn put_acts(made: &mut Octets, acts: &Acts, queue: &[Queued]) -> Result<(), Memo
     Ok(())
 }
 
-// What a run over the server's octets gives, and `!` and the octets that stop it.
+// Puts `!` and the octets that stop a run.
+fn put_stop(made: &mut Octets, octets: &[u8]) -> Result<(), Memory> {
+    made.push(b'!')?;
+    made.push_slice(octets)
+}
+
+// The client after a reply, unless the run ends with it, whose acts are put last.
+fn answered(
+    alloc: Global,
+    client: Client,
+    octets: &[u8],
+    queue: &[Queued],
+    made: &mut Octets,
+) -> Result<Option<Client>, Memory> {
+    let ReplyRead::Whole { reply, .. } = read_reply(alloc, octets)? else {
+        put_stop(made, octets)?;
+        return Ok(None);
+    };
+    match client.take(&reply)? {
+        Turn::Goes { client: next, acts } => {
+            put_acts(made, &acts, queue)?;
+            Ok(Some(next))
+        }
+        Turn::Ends(acts) => {
+            put_acts(made, &acts, queue)?;
+            Ok(None)
+        }
+        Turn::Stops => {
+            put_stop(made, octets)?;
+            Ok(None)
+        }
+    }
+}
+
+// Puts what a run over the server's octets gives last.
 fn run(
     alloc: Global,
-    mail_objects: MailObjects,
+    mut client: Client,
     queue: &[Queued],
     peer: &[u8],
-) -> Result<Octets, Memory>
-    requires { All IsAddressed mail_objects }
-{
-    let mut made = Octets::new(alloc);
-    let name = Octets::from_slice(alloc, b"example.org")?;
-    let mut client = Client::new(alloc, name, mail_objects);
+    made: &mut Octets,
+) -> Result<(), Memory> {
     let mut reader = ReplyReader::new(alloc);
     for octet in peer.chunks(1) {
         match reader.take(octet)? {
             Taken::Begun(longer) => reader = longer,
             Taken::Decided { octets, .. } => {
-                let ReplyRead::Whole { reply, .. } = read_reply(alloc, octets.as_slice())? else {
-                    made.push(b'!')?;
-                    made.push_slice(octets.as_slice())?;
-                    return Ok(made);
-                };
-                match client.take(&reply)? {
-                    Turn::Goes { client: next, acts } => {
-                        put_acts(&mut made, &acts, queue)?;
-                        client = next;
-                    }
-                    Turn::Ends(acts) => {
-                        put_acts(&mut made, &acts, queue)?;
-                        return Ok(made);
-                    }
-                    Turn::Stops => {
-                        made.push(b'!')?;
-                        made.push_slice(octets.as_slice())?;
-                        return Ok(made);
-                    }
+                match answered(alloc, client, octets.as_slice(), queue, made)? {
+                    Some(next) => client = next,
+                    None => return Ok(()),
                 }
                 reader = ReplyReader::new(alloc);
             }
         }
     }
-    made.push(b'?')?;
-    Ok(made)
+    made.push(b'?')
 }
 
 // A queue, what a server sends, and what is said and settled.
@@ -167,7 +180,10 @@ impl Case for Talk {
         let Some(mail_objects) = queued_mail_objects(alloc, self.0)? else {
             return Ok(false);
         };
-        let made = run(alloc, mail_objects, self.0, self.1)?;
+        let name = Octets::from_slice(alloc, b"example.org")?;
+        let mut made = Octets::new(alloc);
+        let client = Client::new(alloc, name, mail_objects);
+        run(alloc, client, self.0, self.1, &mut made)?;
         Ok(made.as_slice() == self.2.as_bytes())
     }
 }

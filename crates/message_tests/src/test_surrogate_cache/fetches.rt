@@ -183,16 +183,6 @@ fn holds_after(
     Ok(cache.entries(alloc)?.as_slice() == entries && cache.counts() == counts)
 }
 
-// Whether a message that is fetched again after others has the rope that it had.
-fn is_same_again(alloc: Global, messages: &[Octets]) -> Result<bool, Fail> {
-    let mut cache = open(alloc, 2, 8, messages)?;
-    fetch(alloc, &mut cache, messages, 0)?;
-    let built = fetch(alloc, &mut cache, messages, 1)?;
-    fetch(alloc, &mut cache, messages, 3)?;
-    let hit = fetch(alloc, &mut cache, messages, 1)?;
-    Ok(hit.as_slice() == built.as_slice())
-}
-
 // Fetches, the entries that are held then, and how many were built and found. The last row ends with one that no cache of this size holds.
 const FETCHES: [(&[u32], [u32; 2], u64, u64); 3] = [
     (&[0, 1, 3], [3, 1], 3, 0),
@@ -207,25 +197,6 @@ fn the_last_fetched_are_held(rt: HostRuntime) -> Result<(), Fail> {
         let counts = Counts { built, hits };
         assert!(rt; holds_after(rt.alloc(), &messages, ids, &entries, counts)?);
     }
-    assert!(rt; is_same_again(rt.alloc(), &messages)?);
-    Ok(())
-}
-
-#[test]
-fn a_held_rope_needs_no_tree(rt: HostRuntime) -> Result<(), Fail> {
-    let alloc = rt.alloc();
-    let messages = all_messages(alloc)?;
-    let mut cache = open(alloc, 4, 4, &messages)?;
-    assert!(rt; held(alloc, &mut cache, &messages, 0)?.is_none());
-    assert!(rt; cache.counts() == Counts { built: 0, hits: 0 });
-    let built = fetch(alloc, &mut cache, &messages, 0)?;
-    fetch(alloc, &mut cache, &messages, 2)?;
-    let Some(rope) = held(alloc, &mut cache, &messages, 0)? else {
-        return Err(Fail::from("not held"));
-    };
-    assert!(rt; rope.store(alloc)?.as_slice() == built.as_slice());
-    assert!(rt; cache.entries(alloc)?.as_slice() == [0, 2].as_slice());
-    assert!(rt; cache.counts() == Counts { built: 2, hits: 1 });
     Ok(())
 }
 
@@ -243,39 +214,145 @@ fn each_pool_is_a_plain_list(rt: HostRuntime) -> Result<(), Fail> {
     Ok(())
 }
 
-// These two say more where memory is refused, one request after the other, as `rt try --test --fail-alloc N` does.
-#[test]
-fn a_refused_build_counts_nothing(rt: HostRuntime) -> Result<(), Fail> {
-    let alloc = rt.alloc();
-    let messages = all_messages(alloc)?;
-    let mut cache = open(alloc, 3, 3, &messages)?;
-    fetch(alloc, &mut cache, &messages, 0)?;
-    fetch(alloc, &mut cache, &messages, 1)?;
-    if try_fetch(alloc, &mut cache, &messages, 2)?.is_err() {
-        assert!(rt; cache.counts() == Counts { built: 2, hits: 0 });
-        let held = cache.entries(alloc)?;
-        assert!(rt; held.as_slice() == [1, 0].as_slice() || held.as_slice() == [1].as_slice());
-        fetch(alloc, &mut cache, &messages, 2)?;
+// Whether a cache holds these entries, with these counts.
+fn has_left(
+    alloc: Global,
+    cache: &Cache,
+    entries: &[u32],
+    built: u64,
+    hits: u64,
+) -> Result<bool, Memory> {
+    let held = cache.entries(alloc)?;
+    Ok(held.as_slice() == entries && cache.counts() == Counts { built, hits })
+}
+
+// Whether a message that is fetched again after others has the rope that it had.
+fn is_same_again(alloc: Global, cache: &mut Cache, messages: &[Octets]) -> Result<bool, Fail>
+    requires { HoldsEach (λ id. IsStoredOf (slice_index_or messages.now id [])) cache.old }
+{
+    fetch(alloc, cache, messages, 0)?;
+    let built = fetch(alloc, cache, messages, 1)?;
+    fetch(alloc, cache, messages, 3)?;
+    let hit = fetch(alloc, cache, messages, 1)?;
+    Ok(hit.as_slice() == built.as_slice())
+}
+
+// Whether the rope of a message is held, and stored as this.
+fn is_held(
+    alloc: Global,
+    cache: &mut Cache,
+    messages: &[Octets],
+    id: u32,
+    stored: &[u8],
+) -> Result<bool, Memory>
+    requires { HoldsEach (λ id. IsStoredOf (slice_index_or messages.now id [])) cache.old }
+{
+    match held(alloc, cache, messages, id)? {
+        Some(rope) => Ok(rope.store(alloc)?.as_slice() == stored),
+        None => Ok(false),
     }
-    assert!(rt; cache.entries(alloc)?.as_slice() == [2, 1].as_slice());
-    assert!(rt; cache.counts() == Counts { built: 3, hits: 0 });
-    Ok(())
+}
+
+// Whether a rope that is held needs no tree, and one that isn't held isn't counted.
+fn is_held_without_tree(alloc: Global, cache: &mut Cache, messages: &[Octets]) -> Result<bool, Fail>
+    requires { HoldsEach (λ id. IsStoredOf (slice_index_or messages.now id [])) cache.old }
+{
+    if held(alloc, cache, messages, 0)?.is_some() || !has_left(alloc, cache, &[], 0, 0)? {
+        return Ok(false);
+    }
+    let built = fetch(alloc, cache, messages, 0)?;
+    fetch(alloc, cache, messages, 2)?;
+    let is_held = is_held(alloc, cache, messages, 0, built.as_slice())?;
+    Ok(is_held && has_left(alloc, cache, &[0, 2], 2, 1)?)
+}
+
+// Whether a build that was refused isn't counted, and leaves one entry or two.
+fn is_uncounted(alloc: Global, cache: &Cache) -> Result<bool, Memory> {
+    Ok(has_left(alloc, cache, &[1, 0], 2, 0)? || has_left(alloc, cache, &[1], 2, 0)?)
+}
+
+// This and the next one say more where memory is refused, one request after the other, as `rt try --test --fail-alloc N` does.
+fn refused_build_counts_nothing(
+    alloc: Global,
+    cache: &mut Cache,
+    messages: &[Octets],
+) -> Result<bool, Fail>
+    requires { HoldsEach (λ id. IsStoredOf (slice_index_or messages.now id [])) cache.old }
+{
+    fetch(alloc, cache, messages, 0)?;
+    fetch(alloc, cache, messages, 1)?;
+    if try_fetch(alloc, cache, messages, 2)?.is_err() {
+        if !is_uncounted(alloc, cache)? {
+            return Ok(false);
+        }
+        fetch(alloc, cache, messages, 2)?;
+    }
+    Ok(has_left(alloc, cache, &[2, 1], 3, 0)?)
+}
+
+fn refused_hit_is_counted_and_moves(
+    alloc: Global,
+    cache: &mut Cache,
+    messages: &[Octets],
+) -> Result<bool, Fail>
+    requires { HoldsEach (λ id. IsStoredOf (slice_index_or messages.now id [])) cache.old }
+{
+    let built = fetch(alloc, cache, messages, 2)?;
+    fetch(alloc, cache, messages, 0)?;
+    let refused = try_fetch(alloc, cache, messages, 2)?.is_err();
+    if !has_left(alloc, cache, &[2, 0], 2, 1)? {
+        return Ok(false);
+    }
+    if !refused {
+        return Ok(true);
+    }
+    let held = fetch(alloc, cache, messages, 2)?;
+    Ok(held.as_slice() == built.as_slice() && cache.counts() == Counts { built: 2, hits: 2 })
+}
+
+// What is tried of a cache of all messages.
+#[derive(Clone, Copy)]
+enum Trial {
+    SameAgain,
+    HeldWithoutTree,
+    RefusedBuild,
+    RefusedHit,
+}
+
+fn goes_well(
+    alloc: Global,
+    cache: &mut Cache,
+    messages: &[Octets],
+    trial: Trial,
+) -> Result<bool, Fail>
+    requires { HoldsEach (λ id. IsStoredOf (slice_index_or messages.now id [])) cache.old }
+{
+    match trial {
+        Trial::SameAgain => is_same_again(alloc, cache, messages),
+        Trial::HeldWithoutTree => is_held_without_tree(alloc, cache, messages),
+        Trial::RefusedBuild => refused_build_counts_nothing(alloc, cache, messages),
+        Trial::RefusedHit => refused_hit_is_counted_and_moves(alloc, cache, messages),
+    }
+}
+
+// Whether the trial goes well with one of so many blocks and entries.
+fn tried(alloc: Global, messages: &[Octets], size: u32, trial: Trial) -> Result<bool, Fail>
+    requires size { (1 ≤ size) × (size ≤ 65536) }
+{
+    let mut cache = open(alloc, size, size, messages)?;
+    goes_well(alloc, &mut cache, messages, trial)
 }
 
 #[test]
-fn a_refused_hit_is_counted_and_moves(rt: HostRuntime) -> Result<(), Fail> {
-    let alloc = rt.alloc();
-    let messages = all_messages(alloc)?;
-    let mut cache = open(alloc, 3, 3, &messages)?;
-    let built = fetch(alloc, &mut cache, &messages, 2)?;
-    fetch(alloc, &mut cache, &messages, 0)?;
-    let refused = try_fetch(alloc, &mut cache, &messages, 2)?.is_err();
-    assert!(rt; cache.entries(alloc)?.as_slice() == [2, 0].as_slice());
-    assert!(rt; cache.counts() == Counts { built: 2, hits: 1 });
-    if refused {
-        let held = fetch(alloc, &mut cache, &messages, 2)?;
-        assert!(rt; held.as_slice() == built.as_slice());
-        assert!(rt; cache.counts() == Counts { built: 2, hits: 2 });
+fn ropes_are_held_and_refused(rt: HostRuntime) -> Result<(), Fail> {
+    let messages = all_messages(rt.alloc())?;
+    for (size, trial) in [
+        (2, Trial::SameAgain),
+        (4, Trial::HeldWithoutTree),
+        (3, Trial::RefusedBuild),
+        (3, Trial::RefusedHit),
+    ] {
+        assert!(rt; tried(rt.alloc(), &messages, size, trial)?);
     }
     Ok(())
 }

@@ -63,12 +63,17 @@ const SHOWN: [(&str, &str); 2] = [
     ),
 ];
 
+// Whether this is shown of a message where UTF-8 isn't enabled, and the message itself where it is.
+fn is_shown_by_kind(alloc: Global, message: &[u8], made: &[u8]) -> Result<bool, Fail> {
+    let legacy = shown::<Legacy>(alloc, message)?;
+    let enabled = shown::<Enabled>(alloc, message)?;
+    Ok(legacy.as_slice() == made && enabled.as_slice() == message)
+}
+
 #[test]
 fn messages_are_shown_by_kind(rt: HostRuntime) -> Result<(), Fail> {
     for (message, made) in &SHOWN {
-        let message = message.as_bytes();
-        assert!(rt; shown::<Legacy>(rt.alloc(), message)?.as_slice() == made.as_bytes());
-        assert!(rt; shown::<Enabled>(rt.alloc(), message)?.as_slice() == message);
+        assert!(rt; is_shown_by_kind(rt.alloc(), message.as_bytes(), made.as_bytes())?);
     }
     assert!(rt; Enabled::enabled() && !Legacy::enabled());
     Ok(())
@@ -94,18 +99,25 @@ struct Range {
 
 const STORED: &str = "A: b\r\nSubject: é\r\nC: d\r\n\r\nx\r\n";
 
-// Whether this range of what is shown of it is given so.
-fn is_given<V: View>(alloc: Global, range: &Range) -> Result<bool, Fail> {
-    let msg = STORED.as_bytes();
-    let mut cache = open(alloc, 1, 1, msg)?;
-    let shown = show::<V>(alloc, &mut cache, 0, msg)?;
+// Whether a range of what is shown is given so.
+fn gives(alloc: Global, shown: &Shown, msg: &[u8], range: &Range) -> Result<bool, Memory>
+    requires { IsShownOf msg.now shown.now }
+{
     let size = shown.size(msg);
     if size < range.len || size - range.len < range.at {
         return Ok(false);
     }
     let mut wire = wire_of(alloc, b"", &[], failing(range.call))?;
-    let answer = give_range(&shown, msg, range.at, range.len, &mut wire);
-    Ok(answer == range.answer && are_given(&wire.into_entries(), range.parts))
+    let answer = give_range(shown, msg, range.at, range.len, &mut wire);
+    Ok(answer == range.answer && are_given(wire.entries(), range.parts))
+}
+
+// Whether this range of what is shown of it is.
+fn is_given<V: View>(alloc: Global, range: &Range) -> Result<bool, Fail> {
+    let msg = STORED.as_bytes();
+    let mut cache = open(alloc, 1, 1, msg)?;
+    let shown = show::<V>(alloc, &mut cache, 0, msg)?;
+    Ok(gives(alloc, &shown, msg, range)?)
 }
 
 const MADE: &str = "Subject:\r\n =?UTF-8?B?w6k=?=\r\n";
@@ -160,22 +172,42 @@ fn a_range_is_given_run_by_run(rt: HostRuntime) -> Result<(), Fail> {
     Ok(())
 }
 
+// Whether the same is shown of a message by both.
+fn are_alike(alloc: Global, first: &Shown, second: &Shown, msg: &[u8]) -> Result<bool, Memory>
+    requires first { IsShownOf msg.now first.now }
+    requires second { IsShownOf msg.now second.now }
+{
+    let all = all_of(alloc, first, msg)?;
+    Ok(all_of(alloc, second, msg)?.as_slice() == all.as_slice())
+}
+
+// Whether the same is shown of it twice, from where it is built and from where it is held.
+fn is_same_again(alloc: Global, cache: &mut Cache, msg: &[u8]) -> Result<bool, Fail>
+    requires { HoldsEach (λ _. IsStoredOf msg.now) cache.old }
+    ensures { OnOk result (HoldsEach (λ _. IsStoredOf msg.now) cache.new) }
+{
+    let built = show::<Legacy>(alloc, cache, 5, msg)?;
+    let held = show::<Legacy>(alloc, cache, 5, msg)?;
+    Ok(are_alike(alloc, &built, &held, msg)?)
+}
+
+// Whether a message that is shown where UTF-8 isn't enabled comes through the cache, and no other.
+fn comes_through(alloc: Global, cache: &mut Cache, msg: &[u8]) -> Result<bool, Fail>
+    requires { HoldsEach (λ _. IsStoredOf msg.now) cache.old }
+{
+    show::<Enabled>(alloc, cache, 5, msg)?;
+    let begun = cache.counts() == Counts { built: 0, hits: 0 };
+    let same = is_same_again(alloc, cache, msg)?;
+    show::<Legacy>(alloc, cache, 4, msg)?;
+    let counted = cache.counts() == Counts { built: 2, hits: 1 };
+    show::<Enabled>(alloc, cache, 5, msg)?;
+    let left = cache.counts() == Counts { built: 2, hits: 1 };
+    Ok(begun && same && counted && left && cache.entries(alloc)?.as_slice() == [4, 5].as_slice())
+}
+
 #[test]
 fn a_legacy_message_comes_through_the_cache(rt: HostRuntime) -> Result<(), Fail> {
-    let alloc = rt.alloc();
-    let message = STORED.as_bytes();
-    let mut cache = open(alloc, 2, 2, message)?;
-    show::<Enabled>(alloc, &mut cache, 5, message)?;
-    assert!(rt; cache.counts() == Counts { built: 0, hits: 0 });
-    let built = show::<Legacy>(alloc, &mut cache, 5, message)?;
-    let held = show::<Legacy>(alloc, &mut cache, 5, message)?;
-    assert!(rt;
-        all_of(alloc, &held, message)?.as_slice() == all_of(alloc, &built, message)?.as_slice()
-    );
-    show::<Legacy>(alloc, &mut cache, 4, message)?;
-    assert!(rt; cache.counts() == Counts { built: 2, hits: 1 });
-    show::<Enabled>(alloc, &mut cache, 5, message)?;
-    assert!(rt; cache.entries(alloc)?.as_slice() == [4, 5].as_slice());
-    assert!(rt; cache.counts() == Counts { built: 2, hits: 1 });
+    let mut cache = open(rt.alloc(), 2, 2, STORED.as_bytes())?;
+    assert!(rt; comes_through(rt.alloc(), &mut cache, STORED.as_bytes())?);
     Ok(())
 }

@@ -195,21 +195,36 @@ fn deep_date(alloc: Global, depth: usize) -> Result<Octets, Memory> {
     Ok(msg)
 }
 
-#[test]
-fn comments_of_any_depth(rt: HostRuntime) -> Result<(), Fail> {
-    let deeper = deep_date(rt.alloc(), 65)?;
-    let aside =
-        "Downgraded-Date:\r\n =?UTF-8?B?KCgoKCgoKCgoKCgoKCgoKCgoKCgoKCgoKCgoKCgoKCgoKCgoKCgoKCgoKCgo?=\r\n =?UTF-8?B?KCgoKCgoKCgoKCgoKCgoKCgoKCjDqSkpKSkpKSkpKSkpKSkpKSkpKSkpKSkp?=\r\n =?UTF-8?B?KSkpKSkpKSkpKSkpKSkpKSkpKSkpKSkpKSkpKSkpKSkpKSkpKSkpKSkp?=\r\n\r\n";
-    assert!(rt; is_served(rt.alloc(), deeper.as_slice(), aside.as_bytes(), 1, &[Leaf]));
-    let deep = deep_date(rt.alloc(), 64)?;
-    let mut made = Octets::new(rt.alloc());
+// What it is written as where each comment is a piece.
+fn deep_date_made(alloc: Global, depth: usize) -> Result<Octets, Memory> {
+    let mut made = Octets::new(alloc);
     made.push_slice(b"Date:\r\n")?;
-    push_times(&mut made, " (\r\n", 64)?;
+    push_times(&mut made, " (\r\n", depth)?;
     made.push_slice(b" =?UTF-8?B?w6k=?=\r\n")?;
-    push_times(&mut made, " )\r\n", 64)?;
+    push_times(&mut made, " )\r\n", depth)?;
     made.push_slice(b"\r\n")?;
-    assert!(rt; is_served(rt.alloc(), deep.as_slice(), made.as_slice(), 1, &[Leaf]));
-    Ok(())
+    Ok(made)
+}
+
+// Whether comments are pieces at this depth.
+fn are_pieces(alloc: Global, depth: usize) -> Result<bool, Memory> {
+    let msg = deep_date(alloc, depth)?;
+    let made = deep_date_made(alloc, depth)?;
+    Ok(is_served(alloc, msg.as_slice(), made.as_slice(), 1, &[Leaf]))
+}
+
+const ASIDE: &str =
+    "Downgraded-Date:\r\n =?UTF-8?B?KCgoKCgoKCgoKCgoKCgoKCgoKCgoKCgoKCgoKCgoKCgoKCgoKCgoKCgoKCgo?=\r\n =?UTF-8?B?KCgoKCgoKCgoKCgoKCgoKCgoKCjDqSkpKSkpKSkpKSkpKSkpKSkpKSkpKSkp?=\r\n =?UTF-8?B?KSkpKSkpKSkpKSkpKSkpKSkpKSkpKSkpKSkpKSkpKSkpKSkpKSkpKSkp?=\r\n\r\n";
+
+// Whether the field is put aside at this depth.
+fn is_put_aside(alloc: Global, depth: usize) -> Result<bool, Memory> {
+    let msg = deep_date(alloc, depth)?;
+    Ok(is_served(alloc, msg.as_slice(), ASIDE.as_bytes(), 1, &[Leaf]))
+}
+
+#[test]
+fn comments_of_any_depth(rt: HostRuntime) {
+    assert!(rt; are_pieces(rt.alloc(), 64) == Ok(true) && is_put_aside(rt.alloc(), 65) == Ok(true));
 }
 
 // A message within messages, so many of them, and an UTF-8 field in the last one.
@@ -228,19 +243,37 @@ fn has_ascii_blocks(msg: &[u8], tree: &Tree) -> bool {
     })
 }
 
-#[test]
-fn messages_within_messages(rt: HostRuntime) -> Result<(), Fail> {
-    let mut shapes = [Message; 33];
-    shapes[32] = Leaf;
-    let deeper = nested(rt.alloc(), 40, "Subject: é\r\n")?;
-    let Ok(tree) = read_tree(rt.alloc(), deeper.as_slice()) else {
-        return Err(Fail::from("no tree"));
+const SHAPES: [Shape; 33] = [
+    Message, Message, Message, Message, Message, Message, Message, Message, Message, Message,
+    Message, Message, Message, Message, Message, Message, Message, Message, Message, Message,
+    Message, Message, Message, Message, Message, Message, Message, Message, Message, Message,
+    Message, Message, Leaf,
+];
+
+// Whether messages within messages have so many octets, and the field of the last one is made anew.
+fn is_made_anew(alloc: Global, count: usize, lens: [usize; 2]) -> Result<bool, Memory> {
+    let msg = nested(alloc, count, "Subject: é\r\n")?;
+    let made = nested(alloc, count, "Subject:\r\n =?UTF-8?B?w6k=?=\r\n")?;
+    Ok(
+        [msg.len(), made.len()] == lens
+            && is_served(alloc, msg.as_slice(), made.as_slice(), 1, &SHAPES),
+    )
+}
+
+// Whether they have so many octets, and it is too deep to be seen.
+fn is_too_deep(alloc: Global, count: usize, len: usize) -> Result<bool, Memory> {
+    let msg = nested(alloc, count, "Subject: é\r\n")?;
+    let is_ascii = match read_tree(alloc, msg.as_slice()) {
+        Ok(tree) => has_ascii_blocks(msg.as_slice(), &tree),
+        Err(_) => false,
     };
-    assert!(rt; deeper.len() == 1293 && has_ascii_blocks(deeper.as_slice(), &tree));
-    assert!(rt; is_served(rt.alloc(), deeper.as_slice(), deeper.as_slice(), 0, &shapes));
-    let deep = nested(rt.alloc(), 32, "Subject: é\r\n")?;
-    let made = nested(rt.alloc(), 32, "Subject:\r\n =?UTF-8?B?w6k=?=\r\n")?;
-    assert!(rt; deep.len() == 1037 && made.len() == 1053);
-    assert!(rt; is_served(rt.alloc(), deep.as_slice(), made.as_slice(), 1, &shapes));
-    Ok(())
+    Ok(msg.len() == len && is_ascii && is_served(alloc, msg.as_slice(), msg.as_slice(), 0, &SHAPES))
+}
+
+#[test]
+fn messages_within_messages(rt: HostRuntime) {
+    assert!(rt;
+        is_made_anew(rt.alloc(), 32, [1037, 1053]) == Ok(true)
+            && is_too_deep(rt.alloc(), 40, 1293) == Ok(true)
+    );
 }

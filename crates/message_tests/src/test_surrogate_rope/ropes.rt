@@ -233,23 +233,34 @@ fn is_read_in_pieces(
     )
 }
 
+// Whether it is, and its second part stands in it.
+fn is_shown(alloc: Global, shown: &Shown, msg: &[u8], wanted: &[u8]) -> bool
+    requires { IsShownOf msg.now shown.now }
+{
+    stands_at(wanted, shown.section(&[2], Part::Whole), Some("JVBERg=="))
+        && is_read_in_pieces(alloc, shown, msg, wanted) == Ok(true)
+}
+
+// Whether the surrogate of a message is shown so.
+fn is_made(alloc: Global, msg: &[u8], made: &[u8]) -> bool {
+    match rope_of(alloc, msg) {
+        Some(rope) => is_shown(alloc, &Shown::Rope(rope), msg, made),
+        None => false,
+    }
+}
+
+// Whether a message is shown as it is.
+fn is_kept(alloc: Global, msg: &[u8]) -> bool {
+    match read_tree(alloc, msg) {
+        Ok(tree) => is_shown(alloc, &Shown::Whole(tree), msg, msg),
+        Err(_) => false,
+    }
+}
+
 #[test]
-fn what_is_shown_is_read_in_pieces(rt: HostRuntime) -> Result<(), Fail> {
+fn what_is_shown_is_read_in_pieces(rt: HostRuntime) {
     let msg = MENU.as_bytes();
-    let Some(rope) = rope_of(rt.alloc(), msg) else {
-        return Err(Fail::from("no rope"));
-    };
-    let shown = Shown::Rope(rope);
-    assert!(rt; is_read_in_pieces(rt.alloc(), &shown, msg, MENU_MADE.as_bytes())?);
-    let section = shown.section(&[2], Part::Whole);
-    assert!(rt; stands_at(MENU_MADE.as_bytes(), section, Some("JVBERg==")));
-    let Ok(tree) = read_tree(rt.alloc(), msg) else {
-        return Err(Fail::from("no tree"));
-    };
-    let shown = Shown::Whole(tree);
-    assert!(rt; is_read_in_pieces(rt.alloc(), &shown, msg, msg)?);
-    assert!(rt; stands_at(msg, shown.section(&[2], Part::Whole), Some("JVBERg==")));
-    Ok(())
+    assert!(rt; is_made(rt.alloc(), msg, MENU_MADE.as_bytes()) && is_kept(rt.alloc(), msg));
 }
 
 // Whether so many octets from each place on are those of the surrogate.
@@ -325,21 +336,36 @@ fn runs_alike(shown: &Shown, msg: &[u8], made: &[u8]) -> bool
     true
 }
 
+const MENU_LENS: [usize; 7] = [50, 27, 51, 235, 63, 69, 56];
+
+// Whether a surrogate has runs of these lengths.
+fn is_made_in_runs(alloc: Global, msg: &[u8], made: &[u8], lens: &[usize]) -> bool {
+    match rope_of(alloc, msg) {
+        Some(rope) => {
+            has_runs(&rope, msg, made, lens) && runs_alike(&Shown::Rope(rope), msg, made)
+        }
+        None => false,
+    }
+}
+
+// Whether a message is one run.
+fn is_one_run(alloc: Global, msg: &[u8]) -> bool {
+    match read_tree(alloc, msg) {
+        Ok(tree) => {
+            let shown = Shown::Whole(tree);
+            runs_alike(&shown, msg, msg) && shown.run_at(msg, 0).len() == msg.len()
+        }
+        Err(_) => false,
+    }
+}
+
 #[test]
-fn a_surrogate_is_read_in_runs(rt: HostRuntime) -> Result<(), Fail> {
+fn a_surrogate_is_read_in_runs(rt: HostRuntime) {
     let msg = MENU.as_bytes();
-    let Some(rope) = rope_of(rt.alloc(), msg) else {
-        return Err(Fail::from("no rope"));
-    };
-    let lens = [50, 27, 51, 235, 63, 69, 56];
-    assert!(rt; has_runs(&rope, msg, MENU_MADE.as_bytes(), &lens));
-    assert!(rt; runs_alike(&Shown::Rope(rope), msg, MENU_MADE.as_bytes()));
-    let Ok(tree) = read_tree(rt.alloc(), msg) else {
-        return Err(Fail::from("no tree"));
-    };
-    let shown = Shown::Whole(tree);
-    assert!(rt; runs_alike(&shown, msg, msg) && shown.run_at(msg, 0).len() == 481);
-    Ok(())
+    assert!(rt;
+        is_made_in_runs(rt.alloc(), msg, MENU_MADE.as_bytes(), &MENU_LENS)
+            && is_one_run(rt.alloc(), msg)
+    );
 }
 
 // The rope that is loaded from the stored form of this one, and how many octets that form has.
@@ -351,27 +377,38 @@ fn again(alloc: Global, rope: &Rope) -> Result<(Rope, usize), Memory>
     Ok((loaded, stored.len()))
 }
 
+// Whether the rope of a message with four fields made anew is stored in so many octets, and loaded.
+fn is_loaded(alloc: Global, msg: &[u8], made: &[u8], stored: usize) -> bool {
+    let Some(rope) = rope_of(alloc, msg) else {
+        return false;
+    };
+    let Ok((loaded, size)) = again(alloc, &rope) else {
+        return false;
+    };
+    size == stored
+        && loaded.size() == made.len()
+        && loaded.rewritten() == 4
+        && reads_alike(&loaded, msg, made, 600)
+        && stands_at(made, loaded.section(&[2], Part::Whole), Some("JVBERg=="))
+}
+
+// How many octets the stored rope of a message has.
+fn stored_size(alloc: Global, msg: &[u8]) -> Option<usize> {
+    let rope = rope_of(alloc, msg)?;
+    match again(alloc, &rope) {
+        Ok((_loaded, size)) => Some(size),
+        Err(_) => None,
+    }
+}
+
+// How many octets the stored rope of the message with two parts has.
+const MENU_STORED: usize = 24 + 3 * 17 + 4 * 9 + 233 + 3 * 41;
+
 #[test]
-fn a_stored_rope_is_small_and_loaded(rt: HostRuntime) -> Result<(), Fail> {
+fn a_stored_rope_is_small_and_loaded(rt: HostRuntime) {
     let msg = MENU.as_bytes();
-    let Some(rope) = rope_of(rt.alloc(), msg) else {
-        return Err(Fail::from("no rope"));
-    };
-    let (loaded, size) = again(rt.alloc(), &rope)?;
-    assert!(rt; size == 24 + 3 * 17 + 4 * 9 + 233 + 3 * 41 && size <= 617);
-    assert!(rt; loaded.size() == 551 && loaded.rewritten() == 4);
-    assert!(rt; reads_alike(&loaded, msg, MENU_MADE.as_bytes(), 600));
     assert!(rt;
-        stands_at(
-            MENU_MADE.as_bytes(),
-            loaded.section(&[2], Part::Whole),
-            Some("JVBERg==")
-        )
+        is_loaded(rt.alloc(), msg, MENU_MADE.as_bytes(), MENU_STORED) && MENU_STORED <= 617
     );
-    let Some(whole) = rope_of(rt.alloc(), SHUT.as_bytes()) else {
-        return Err(Fail::from("no rope"));
-    };
-    let (_loaded, size) = again(rt.alloc(), &whole)?;
-    assert!(rt; size == 24 + 17 + 2 * 41);
-    Ok(())
+    assert!(rt; stored_size(rt.alloc(), SHUT.as_bytes()) == Some(24 + 17 + 2 * 41));
 }

@@ -1,6 +1,7 @@
 //! The octets of a report, spelled out.
 use mail_wire::{Memory, Octets};
 use std::alloc::Global;
+use test_mail::joined;
 
 /// What differs between the reports of the tests. The fields of the recipients begin with an empty line.
 #[derive(Clone, Copy)]
@@ -12,7 +13,7 @@ pub struct Spelling<'a> {
     pub header: &'a str,
 }
 
-const BEHIND_TO: &str =
+const AFTER_TO: &str =
     "\r\nDate: Thu, 01 Jan 1970 00:00:00 +0000\r\nSubject: Undelivered mail\r\nMIME-Version: 1.0\r\nContent-Type: multipart/report; report-type=delivery-status; boundary=report\r\n\r\n--report\r\n\r\nSome recipients could not be served.\r\n--report\r\nContent-Type: ";
 
 /// The report in ASCII to a mailbox of this text, of one recipient that isn't ASCII.
@@ -35,16 +36,20 @@ pub const GLOBAL: Spelling<'static> = Spelling {
 
 /// The report that is spelled so.
 pub fn spelled(alloc: Global, spelling: Spelling<'_>) -> Result<Octets, Memory> {
-    let mut made = Octets::from_slice(alloc, b"From: MAILER-DAEMON@example.org\r\nTo: ")?;
-    made.push_slice(spelling.to.as_bytes())?;
-    made.push_slice(BEHIND_TO.as_bytes())?;
-    made.push_slice(spelling.status_type.as_bytes())?;
-    made.push_slice(b"\r\n\r\nReporting-MTA: dns; example.org\r\n")?;
-    made.push_slice(spelling.recipients.as_bytes())?;
-    made.push_slice(b"--report\r\nContent-Type: ")?;
-    made.push_slice(spelling.header_type.as_bytes())?;
-    made.push_slice(b"\r\n\r\n")?;
-    made.push_slice(spelling.header.as_bytes())?;
-    made.push_slice(b"--report--\r\n")?;
-    Ok(made)
+    joined(
+        alloc,
+        &[
+            b"From: MAILER-DAEMON@example.org\r\nTo: ",
+            spelling.to.as_bytes(),
+            AFTER_TO.as_bytes(),
+            spelling.status_type.as_bytes(),
+            b"\r\n\r\nReporting-MTA: dns; example.org\r\n",
+            spelling.recipients.as_bytes(),
+            b"--report\r\nContent-Type: ",
+            spelling.header_type.as_bytes(),
+            b"\r\n\r\n",
+            spelling.header.as_bytes(),
+            b"--report--\r\n",
+        ],
+    )
 }

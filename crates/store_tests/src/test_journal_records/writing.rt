@@ -1,56 +1,48 @@
 //! Records written.
 ghost use Rattle.journal_records.specs.Addresses.{IsSendable};
-ghost use Rattle.std.specs.Prelude.{IfOk};
+ghost use Rattle.std.specs.Prelude.{IfSome};
 
 use address_grammar::{Address, write_address};
 use journal_records::{
     Record, TEXT_MAX, Texts, account_text, domain_text, expunge_text, message_front, queue_front,
     read_text, record_text,
 };
-use mail_wire::Octets;
+use mail_wire::{Memory, Octets};
 use std::alloc::Global;
 use std::test::Fail;
+use test_mail::{Case, all_hold};
 
-#[test]
-fn a_folder_is_written(rt: HostRuntime) -> Result<(), Fail> {
-    let folder = Record::Folder {
-        account: 258,
-        name: Octets::from_slice(rt.alloc(), b"f")?,
+/// The address of a text, which a path may have.
+pub fn address_of(alloc: Global, text: &[u8]) -> Option<Address>
+    ensures { IfSome result IsSendable }
+{
+    let Ok(Some(address)) = read_text(alloc, text) else {
+        return None;
     };
-    let text = record_text(rt.alloc(), &folder)?;
-    assert!(rt; text.as_slice() == b"\0\0\0\x0a\x03\0\0\x01\x02\0\0\0\x01f".as_slice());
-    Ok(())
+    match write_address(alloc, &address) {
+        Ok(written) if written.len() <= TEXT_MAX => Some(address),
+        _ => None,
+    }
 }
 
-#[test]
-fn flags_are_written(rt: HostRuntime) -> Result<(), Fail> {
-    let flags = Record::Flags {
-        message: 1,
-        flags: 3,
-    };
-    let text = record_text(rt.alloc(), &flags)?;
-    assert!(rt; text.as_slice() == b"\0\0\0\x06\x05\0\0\0\x01\x03".as_slice());
-    Ok(())
+// What is written.
+enum Written {
+    Folder,
+    Flags,
+    Settle,
+    // two messages that are expunged
+    Expunged,
+    // a message from the null path that waits for `b` and `cd`
+    Queue,
+    Domain,
+    // a message but for its octets
+    MessageFront,
+    // a message that waits, but for its octets
+    QueueFront,
+    Account,
 }
 
-#[test]
-fn a_settled_recipient_is_written(rt: HostRuntime) -> Result<(), Fail> {
-    let settle = Record::Settle { entry: 0, index: 1 };
-    let text = record_text(rt.alloc(), &settle)?;
-    assert!(rt; text.as_slice() == b"\0\0\0\x09\x08\0\0\0\0\0\0\0\x01".as_slice());
-    Ok(())
-}
-
-#[test]
-fn expunged_messages_are_written(rt: HostRuntime) -> Result<(), Fail> {
-    let text = expunge_text(rt.alloc(), &[2, 258])?;
-    let wanted = b"\0\0\0\x05\x06\0\0\0\x02\0\0\0\x05\x06\0\0\x01\x02";
-    assert!(rt; text.as_slice() == wanted.as_slice());
-    Ok(())
-}
-
-// The text of a message from the null path that waits for `b` and `cd`.
-fn queue_text(alloc: Global) -> Result<Octets, Fail> {
+fn queue_text(alloc: Global) -> Result<Octets, Memory> {
     let mut addresses = Vec::new(alloc);
     addresses.push(Octets::from_slice(alloc, b"b")?)?;
     addresses.push(Octets::from_slice(alloc, b"cd")?)?;
@@ -62,55 +54,107 @@ fn queue_text(alloc: Global) -> Result<Octets, Fail> {
     Ok(record_text(alloc, &queue)?)
 }
 
-#[test]
-fn a_waiting_message_is_written(rt: HostRuntime) -> Result<(), Fail> {
-    let text = queue_text(rt.alloc())?;
-    let wanted = b"\0\0\0\x19\x07\0\0\0\0\0\0\0\x02\0\0\0\x01b\0\0\0\x02cd\0\0\0\x01x";
-    assert!(rt; text.as_slice() == wanted.as_slice());
-    Ok(())
-}
-
-#[test]
-fn a_domain_is_written(rt: HostRuntime) -> Result<(), Fail> {
-    let text = domain_text(rt.alloc(), b"example.org")?;
-    assert!(rt; text.as_slice() == b"\0\0\0\x10\x02\0\0\0\x0bexample.org".as_slice());
-    Ok(())
-}
-
-#[test]
-fn a_message_is_written_but_for_its_octets(rt: HostRuntime) -> Result<(), Fail> {
-    let front = message_front(rt.alloc(), 1, 9, b"01-Jan-1970 00:00:00 +0000", b"x")?;
-    let wanted = b"\0\0\0)\x04\0\0\0\x01\x09\0\0\0\x1a01-Jan-1970 00:00:00 +0000\0\0\0\x01";
-    assert!(rt; front.as_slice() == wanted.as_slice());
-    Ok(())
-}
-
-#[test]
-fn a_waiting_message_is_written_but_for_its_octets(rt: HostRuntime) -> Result<(), Fail> {
-    let front = queue_front(rt.alloc(), b"p", &[], b"xy")?;
-    let wanted = b"\0\0\0\x10\x07\0\0\0\x01p\0\0\0\0\0\0\0\x02";
-    assert!(rt; front.as_slice() == wanted.as_slice());
-    Ok(())
-}
-
-/// The address of a text, which a path may have.
-pub fn address_of(alloc: Global, text: &[u8]) -> Result<Address, Fail>
-    ensures { IfOk result IsSendable }
-{
-    let Some(address) = read_text(alloc, text)? else {
-        return Err(Fail::from("no address"));
+fn folder_text(alloc: Global) -> Result<Octets, Memory> {
+    let folder = Record::Folder {
+        account: 258,
+        name: Octets::from_slice(alloc, b"f")?,
     };
-    if write_address(alloc, &address)?.len() > TEXT_MAX {
-        return Err(Fail::from("too long"));
-    }
-    Ok(address)
+    let text = record_text(alloc, &folder)?;
+    Ok(text)
 }
 
+const FLAGS: Record = Record::Flags {
+    message: 1,
+    flags: 3,
+};
+
+const SETTLE: Record = Record::Settle { entry: 0, index: 1 };
+
+fn written_account(alloc: Global) -> Result<Octets, Memory> {
+    match address_of(alloc, b"ann@example.org") {
+        Some(address) => account_text(alloc, &address, b"pw"),
+        None => Err(Memory),
+    }
+}
+
+fn text_of(alloc: Global, what: &Written) -> Result<Octets, Memory> {
+    match what {
+        Written::Folder => folder_text(alloc),
+        Written::Flags => record_text(alloc, &FLAGS),
+        Written::Settle => record_text(alloc, &SETTLE),
+        Written::Expunged => expunge_text(alloc, &[2, 258]),
+        Written::Queue => queue_text(alloc),
+        Written::Domain => domain_text(alloc, b"example.org"),
+        Written::MessageFront => { message_front(alloc, 1, 9, b"01-Jan-1970 00:00:00 +0000", b"x") }
+        Written::QueueFront => queue_front(alloc, b"p", &[], b"xy"),
+        Written::Account => written_account(alloc),
+    }
+}
+
+// What is written, and its text.
+struct Row(Written, &'static [u8]);
+
+impl Case for Row {
+    fn holds(&self, alloc: Global) -> Result<bool, Memory> {
+        Ok(text_of(alloc, &self.0)?.as_slice() == self.1)
+    }
+}
+
+const ROWS: [(&str, &[Row]); 9] = [
+    (
+        "a folder is written",
+        &[Row(Written::Folder, b"\0\0\0\x0a\x03\0\0\x01\x02\0\0\0\x01f")],
+    ),
+    (
+        "flags are written",
+        &[Row(Written::Flags, b"\0\0\0\x06\x05\0\0\0\x01\x03")],
+    ),
+    (
+        "a settled recipient is written",
+        &[Row(Written::Settle, b"\0\0\0\x09\x08\0\0\0\0\0\0\0\x01")],
+    ),
+    (
+        "expunged messages are written",
+        &[Row(
+            Written::Expunged,
+            b"\0\0\0\x05\x06\0\0\0\x02\0\0\0\x05\x06\0\0\x01\x02",
+        )],
+    ),
+    (
+        "a waiting message is written",
+        &[Row(
+            Written::Queue,
+            b"\0\0\0\x19\x07\0\0\0\0\0\0\0\x02\0\0\0\x01b\0\0\0\x02cd\0\0\0\x01x",
+        )],
+    ),
+    (
+        "a domain is written",
+        &[Row(Written::Domain, b"\0\0\0\x10\x02\0\0\0\x0bexample.org")],
+    ),
+    (
+        "a message is written but for its octets",
+        &[Row(
+            Written::MessageFront,
+            b"\0\0\0)\x04\0\0\0\x01\x09\0\0\0\x1a01-Jan-1970 00:00:00 +0000\0\0\0\x01",
+        )],
+    ),
+    (
+        "a waiting message is written but for its octets",
+        &[Row(
+            Written::QueueFront,
+            b"\0\0\0\x10\x07\0\0\0\x01p\0\0\0\0\0\0\0\x02",
+        )],
+    ),
+    (
+        "an account is written",
+        &[Row(
+            Written::Account,
+            b"\0\0\0\x1a\x01\0\0\0\x0fann@example.org\0\0\0\x02pw",
+        )],
+    ),
+];
+
 #[test]
-fn an_account_is_written(rt: HostRuntime) -> Result<(), Fail> {
-    let address = address_of(rt.alloc(), b"ann@example.org")?;
-    let text = account_text(rt.alloc(), &address, b"pw")?;
-    let wanted = b"\0\0\0\x1a\x01\0\0\0\x0fann@example.org\0\0\0\x02pw";
-    assert!(rt; text.as_slice() == wanted.as_slice());
-    Ok(())
+fn records_are_written(rt: HostRuntime) -> Result<(), Fail> {
+    all_hold(rt.alloc(), &ROWS)
 }

@@ -1,11 +1,12 @@
 //! Messages put last in a folder.
+use crate::test_mail_store::{Row, Trial as StoreTrial};
 use journal_records::{is_date, is_stored};
 use kept_mail::Listed;
 use mail_store::{Store, StoreFault};
-use mail_wire::{MemKeeper, Octets};
+use mail_wire::{MemKeeper, Memory, Octets};
 use std::alloc::Global;
 use std::test::Fail;
-use test_mail::{failing, keeper_of};
+use test_mail::{NEVER, all_hold, keeper_of};
 
 // A domain, an account of it, and a second folder of this.
 const BEGUN: [u8; 62] =
@@ -34,101 +35,105 @@ fn appends(
     alloc: Global,
     given: Given,
     answer: Result<u32, StoreFault>,
-) -> Result<bool, Fail> {
+) -> bool {
+    let Ok(true) = is_stored(alloc, given.octets) else {
+        return false;
+    };
     if store.failed() || given.folder as usize >= store.folder_count() || given.flags >= 32 {
-        return Err(Fail::from("no folder or no flags"));
+        return false;
     }
-    if !is_date(&DATE) || !is_stored(alloc, given.octets)? {
-        return Err(Fail::from("no message"));
+    if !is_date(&DATE) {
+        return false;
     }
-    Ok(store.append(keeper, given.folder, given.flags, &DATE, given.octets) == answer)
+    store.append(keeper, given.folder, given.flags, &DATE, given.octets) == answer
 }
 
 // Whether a folder has these messages.
-fn lists(store: &Store, folder: u32, wanted: &[Listed]) -> Result<bool, Fail> {
+fn lists(store: &Store, folder: u32, wanted: &[Listed]) -> bool {
     if folder as usize >= store.folder_count() {
-        return Err(Fail::from("no folder"));
+        return false;
     }
-    let listing = store.list(folder)?;
+    let Ok(listing) = store.list(folder) else {
+        return false;
+    };
     if listing.len() != wanted.len() {
-        return Ok(false);
+        return false;
     }
     for (one, other) in listing.iter().zip(wanted.iter()) {
         if one != other {
-            return Ok(false);
+            return false;
         }
     }
-    Ok(true)
+    true
 }
 
-// Whether the messages that were put last are listed, each with its flags.
-fn are_listed(store: &Store) -> Result<bool, Fail> {
-    let first = Listed {
+// The messages that were put last in the second folder and in INBOX.
+const SECOND: [Listed; 2] = [
+    Listed {
         id: 0,
         uid: 1,
         flags: 17,
-    };
-    let second = Listed {
+    },
+    Listed {
         id: 2,
         uid: 2,
         flags: 0,
-    };
-    let other = Listed {
-        id: 1,
-        uid: 1,
-        flags: 31,
-    };
-    Ok(lists(store, 1, &[first, second])? && lists(store, 0, &[other])?)
-}
+    },
+];
 
-// Whether the octets and the date of the first message are those that were given.
-fn is_kept(store: &Store) -> bool {
-    store.message_count() > 0
+const INBOX: [Listed; 1] = [Listed {
+    id: 1,
+    uid: 1,
+    flags: 31,
+}];
+
+// Whether they are listed, each with its flags, and the first has the octets and the date that were given.
+fn are_listed(store: &Store) -> bool {
+    lists(store, 1, &SECOND)
+        && lists(store, 0, &INBOX)
+        && store.message_count() > 0
         && store.octets(0) == SUBJECT.as_slice()
         && store.date(0) == DATE.as_slice()
 }
 
-// Whether what is told of a store of these octets is told again.
-fn is_there_again(alloc: Global, octets: &[u8]) -> Result<bool, Fail> {
-    let mut keeper = keeper_of(alloc, octets, None)?;
-    let store = Store::open(alloc, &mut keeper, 1000)?;
-    Ok(are_listed(&store)? && is_kept(&store))
+// Whether they are in a store of these octets, too.
+fn are_there_again(alloc: Global, octets: &[u8]) -> bool {
+    let Ok(mut keeper) = keeper_of(alloc, octets, None) else {
+        return false;
+    };
+    match Store::open(alloc, &mut keeper, 1000) {
+        Ok(store) => are_listed(&store),
+        Err(_) => false,
+    }
+}
+
+// The message, for a folder and with flags.
+fn subject_for(folder: u32, flags: u8) -> Given<'static> {
+    Given {
+        folder,
+        flags,
+        octets: &SUBJECT,
+    }
 }
 
 // Whether one message is written in the second folder, and its octets alone.
-fn is_written(store: &mut Store, keeper: &mut MemKeeper, alloc: Global) -> Result<bool, Fail> {
-    let given = Given {
-        folder: 1,
-        flags: 17,
-        octets: &SUBJECT,
-    };
-    let appended = appends(store, keeper, alloc, given, Ok(1))?;
-    let written = keeper.octets().len().checked_sub(BEGUN.len()) == Some(APPENDED.len());
-    Ok(appended && written && keeper.octets().ends_with(&APPENDED))
+fn is_written(store: &mut Store, keeper: &mut MemKeeper, alloc: Global) -> bool {
+    appends(store, keeper, alloc, subject_for(1, 17), Ok(1))
+        && keeper.octets().len().checked_sub(BEGUN.len()) == Some(APPENDED.len())
+        && keeper.octets().ends_with(&APPENDED)
 }
 
 // Whether messages are put last in two folders, and are there again.
-fn are_appended(alloc: Global) -> Result<bool, Fail> {
-    let mut keeper = keeper_of(alloc, &BEGUN, None)?;
-    let mut store = Store::open(alloc, &mut keeper, 1000)?;
-    if !is_written(&mut store, &mut keeper, alloc)? {
-        return Ok(false);
-    }
-    for (folder, flags, uid) in [(0, 31, 1), (1, 0, 2)] {
-        let given = Given {
-            folder,
-            flags,
-            octets: &SUBJECT,
-        };
-        if !appends(&mut store, &mut keeper, alloc, given, Ok(uid))? {
-            return Ok(false);
-        }
-    }
-    Ok(are_listed(&store)? && is_kept(&store) && is_there_again(alloc, keeper.octets())?)
+fn are_appended(store: &mut Store, keeper: &mut MemKeeper, alloc: Global) -> bool {
+    is_written(store, keeper, alloc)
+        && appends(store, keeper, alloc, subject_for(0, 31), Ok(1))
+        && appends(store, keeper, alloc, subject_for(1, 0), Ok(2))
+        && are_listed(store)
+        && are_there_again(alloc, keeper.octets())
 }
 
 // A message of a thousand octets, and more.
-fn large(alloc: Global, more: &[u8]) -> Result<Octets, Fail> {
+fn large(alloc: Global, more: &[u8]) -> Result<Octets, Memory> {
     let mut octets = Octets::from_slice(alloc, b"A: b\r\n\r\n")?;
     for _ in 0..62 {
         octets.push_slice(b"line, no more.\r\n")?;
@@ -137,56 +142,91 @@ fn large(alloc: Global, more: &[u8]) -> Result<Octets, Fail> {
     Ok(octets)
 }
 
-// Whether the largest message is taken and one of an octet more isn't, for which nothing is written.
-fn is_limited(alloc: Global) -> Result<bool, Fail> {
-    let mut keeper = keeper_of(alloc, &BEGUN, None)?;
-    let mut store = Store::open(alloc, &mut keeper, 1000)?;
-    for (more, answer) in [
-        (b"x".as_slice(), Err(StoreFault::TooLarge)),
-        (b"".as_slice(), Ok(1)),
-    ] {
-        let octets = large(alloc, more)?;
-        let given = Given {
-            folder: 0,
-            flags: 0,
-            octets: octets.as_slice(),
-        };
-        if !appends(&mut store, &mut keeper, alloc, given, answer)? {
-            return Ok(false);
-        }
-    }
-    Ok(keeper.octets().len() == BEGUN.len() + 44 + 1000 && store.message_count() == 1)
-}
-
-// Whether a failed append is told, and the message isn't there.
-fn tells_failure(alloc: Global) -> Result<bool, Fail> {
-    let mut keeper = keeper_of(alloc, &BEGUN, failing(8))?;
-    let mut store = Store::open(alloc, &mut keeper, 1000)?;
+// Whether putting such a message last in INBOX answers this.
+fn takes_large(
+    store: &mut Store,
+    keeper: &mut MemKeeper,
+    alloc: Global,
+    more: &[u8],
+    answer: Result<u32, StoreFault>,
+) -> bool {
+    let Ok(octets) = large(alloc, more) else {
+        return false;
+    };
     let given = Given {
         folder: 0,
         flags: 0,
-        octets: &SUBJECT,
+        octets: octets.as_slice(),
     };
-    let fault = Err(StoreFault::Keeper);
-    let told = appends(&mut store, &mut keeper, alloc, given, fault)?;
-    let partly = keeper.octets().len() == BEGUN.len() + 3;
-    Ok(told && partly && store.failed() && lists(&store, 0, &[])?)
+    appends(store, keeper, alloc, given, answer)
 }
 
-#[test]
-fn messages_are_put_last(rt: HostRuntime) -> Result<(), Fail> {
-    assert!(rt; are_appended(rt.alloc())?);
-    Ok(())
+// Whether the largest message is taken and one of an octet more isn't, for which nothing is written.
+fn is_limited(store: &mut Store, keeper: &mut MemKeeper, alloc: Global) -> bool {
+    takes_large(store, keeper, alloc, b"x", Err(StoreFault::TooLarge))
+        && takes_large(store, keeper, alloc, b"", Ok(1))
+        && keeper.octets().len() == BEGUN.len() + 44 + 1000
+        && store.message_count() == 1
 }
 
-#[test]
-fn a_message_may_have_so_many_octets(rt: HostRuntime) -> Result<(), Fail> {
-    assert!(rt; is_limited(rt.alloc())?);
-    Ok(())
+// Whether a failed append is told, and the message isn't there.
+fn tells_failure(store: &mut Store, keeper: &mut MemKeeper, alloc: Global) -> bool {
+    appends(
+        store,
+        keeper,
+        alloc,
+        subject_for(0, 0),
+        Err(StoreFault::Keeper),
+    ) && keeper.octets().len() == BEGUN.len() + 3
+        && store.failed()
+        && lists(store, 0, &[])
 }
 
+/// What is tried of messages that are put last.
+#[derive(Clone, Copy)]
+pub enum Trial {
+    AreAppended,
+    IsLimited,
+    TellsFailure,
+}
+
+/// Whether the trial goes well.
+pub fn goes_well(store: &mut Store, keeper: &mut MemKeeper, alloc: Global, trial: Trial) -> bool {
+    match trial {
+        Trial::AreAppended => are_appended(store, keeper, alloc),
+        Trial::IsLimited => is_limited(store, keeper, alloc),
+        Trial::TellsFailure => tells_failure(store, keeper, alloc),
+    }
+}
+
+const ROWS: [(&str, &[Row]); 3] = [
+    (
+        "messages are put last",
+        &[Row {
+            parts: &[&BEGUN],
+            call: NEVER,
+            trial: StoreTrial::Append(Trial::AreAppended),
+        }],
+    ),
+    (
+        "a message may have so many octets",
+        &[Row {
+            parts: &[&BEGUN],
+            call: NEVER,
+            trial: StoreTrial::Append(Trial::IsLimited),
+        }],
+    ),
+    (
+        "a failed append puts no message",
+        &[Row {
+            parts: &[&BEGUN],
+            call: 8,
+            trial: StoreTrial::Append(Trial::TellsFailure),
+        }],
+    ),
+];
+
 #[test]
-fn a_failed_append_puts_no_message(rt: HostRuntime) -> Result<(), Fail> {
-    assert!(rt; tells_failure(rt.alloc())?);
-    Ok(())
+fn messages_are_appended(rt: HostRuntime) -> Result<(), Fail> {
+    all_hold(rt.alloc(), &ROWS)
 }

@@ -1,10 +1,11 @@
 //! Stores that catch up with what others wrote after their records.
-use crate::test_mail_store::opened;
+use crate::test_mail_store::{Row, Trial as StoreTrial};
 use ace_domains::normal;
 use mail_store::{OpenFault, Store, StoreFault};
+use mail_wire::MemKeeper;
 use std::alloc::Global;
 use std::test::Fail;
-use test_mail::{failing, keeper_of_parts};
+use test_mail::{NEVER, all_hold, failing, keeper_of_parts};
 
 const BEGUN: [u8; 28] = *b"MAILJNL1\0\0\0\x10\x02\0\0\0\x0bexample.org";
 
@@ -32,113 +33,212 @@ fn catches(
     parts: &[&[u8]],
     len: usize,
     answer: Result<(), OpenFault>,
-) -> Result<bool, Fail> {
-    let mut keeper = keeper_of_parts(alloc, parts, None)?;
-    let is = store.catch_up(&mut keeper) == answer;
-    Ok(is && keeper.octets().len() == len && store.failed() == answer.is_err())
+) -> bool {
+    let Ok(mut keeper) = keeper_of_parts(alloc, parts, None) else {
+        return false;
+    };
+    store.catch_up(&mut keeper) == answer
+        && keeper.octets().len() == len
+        && store.failed() == answer.is_err()
 }
 
-#[test]
-fn records_of_others_are_read(rt: HostRuntime) -> Result<(), Fail> {
-    let alloc = rt.alloc();
-    let mut store = opened(alloc, &[&BEGUN])?;
-    assert!(rt; catches(&mut store, alloc, &[&BEGUN, &ACCOUNT, &FOLDER], 76, Ok(()))?);
-    assert!(rt; has(&store, 1, 2, 0));
-    let all = [BEGUN.as_slice(), &ACCOUNT, &FOLDER, &MESSAGE];
-    assert!(rt; catches(&mut store, alloc, &all, 145, Ok(()))?);
-    assert!(rt; has(&store, 1, 2, 1));
-    assert!(rt; store.find_folder(0, "caf\u{e9}")? == Some(1));
-    Ok(())
-}
-
-#[test]
-fn nothing_is_read_twice(rt: HostRuntime) -> Result<(), Fail> {
-    let alloc = rt.alloc();
-    let parts = [BEGUN.as_slice(), &ACCOUNT, &MESSAGE];
-    let mut store = opened(alloc, &parts)?;
-    for _ in 0..2 {
-        let mut keeper = keeper_of_parts(alloc, &parts, failing(1))?;
-        assert!(rt; store.catch_up(&mut keeper).is_ok());
-        assert!(rt; has(&store, 1, 1, 1));
+// Whether catching up with these parts answers this where a call of the keeper fails.
+fn answers(
+    store: &mut Store,
+    alloc: Global,
+    parts: &[&[u8]],
+    call: u64,
+    answer: Result<(), OpenFault>,
+) -> bool {
+    match keeper_of_parts(alloc, parts, failing(call)) {
+        Ok(mut keeper) => store.catch_up(&mut keeper) == answer,
+        Err(_) => false,
     }
-    Ok(())
 }
 
-#[test]
-fn a_record_that_was_broken_off_is_cut_off(rt: HostRuntime) -> Result<(), Fail> {
-    let alloc = rt.alloc();
-    let mut store = opened(alloc, &[&BEGUN])?;
+const TWO: [&[u8]; 3] = [&BEGUN, &ACCOUNT, &FOLDER];
+
+const ALL: [&[u8]; 4] = [&BEGUN, &ACCOUNT, &FOLDER, &MESSAGE];
+
+// Whether records of others are read.
+fn reads_others(store: &mut Store, alloc: Global) -> bool {
+    catches(store, alloc, &TWO, 76, Ok(()))
+        && has(store, 1, 2, 0)
+        && catches(store, alloc, &ALL, 145, Ok(()))
+        && has(store, 1, 2, 1)
+        && store.find_folder(0, "caf\u{e9}") == Ok(Some(1))
+}
+
+const MAILBOX: [&[u8]; 3] = [&BEGUN, &ACCOUNT, &MESSAGE];
+
+// Whether nothing is read twice: the keeper's second call would fail.
+fn reads_once(store: &mut Store, alloc: Global) -> bool {
+    answers(store, alloc, &MAILBOX, 1, Ok(()))
+        && has(store, 1, 1, 1)
+        && answers(store, alloc, &MAILBOX, 1, Ok(()))
+        && has(store, 1, 1, 1)
+}
+
+// Whether a record that was broken off is cut off.
+fn cuts_off(store: &mut Store, alloc: Global) -> bool {
     let parts = [BEGUN.as_slice(), &ACCOUNT, &MESSAGE[..68]];
-    assert!(rt; catches(&mut store, alloc, &parts, 58, Ok(()))?);
-    assert!(rt; has(&store, 1, 1, 0));
-    Ok(())
+    catches(store, alloc, &parts, 58, Ok(())) && has(store, 1, 1, 0)
 }
 
-#[test]
-fn a_shorter_journal_is_bad(rt: HostRuntime) -> Result<(), Fail> {
-    let alloc = rt.alloc();
-    let mut store = opened(alloc, &[&BEGUN, &ACCOUNT])?;
-    for (had, len) in [(&ACCOUNT[..29], 57), (b"".as_slice(), 28)] {
-        let bad = Err(OpenFault::BadJournal { at: len as u64 });
-        assert!(rt; catches(&mut store, alloc, &[&BEGUN, had], len, bad)?);
-    }
-    assert!(rt; has(&store, 1, 1, 0));
-    Ok(())
+// Whether a shorter journal is bad.
+fn refuses_shorter(store: &mut Store, alloc: Global) -> bool {
+    let bad = |at| Err(OpenFault::BadJournal { at });
+    catches(store, alloc, &[&BEGUN, &ACCOUNT[..29]], 57, bad(57))
+        && catches(store, alloc, &[&BEGUN], 28, bad(28))
+        && has(store, 1, 1, 0)
 }
 
-#[test]
-fn a_bad_record_is_told_with_its_place(rt: HostRuntime) -> Result<(), Fail> {
-    let alloc = rt.alloc();
-    let mut store = opened(alloc, &[&BEGUN])?;
+// Whether a bad record is told with its place, and another that stands there then is read.
+fn tells_bad(store: &mut Store, alloc: Global) -> bool {
     let bad = Err(OpenFault::BadJournal { at: 58 });
-    assert!(rt; catches(&mut store, alloc, &[&BEGUN, &ACCOUNT, &BAD], 67, bad)?);
-    assert!(rt; has(&store, 1, 1, 0));
-    assert!(rt;
-        catches(
-            &mut store,
-            alloc,
-            &[&BEGUN, &ACCOUNT, &MESSAGE],
-            127,
-            Ok(())
-        )?
-    );
-    assert!(rt; has(&store, 1, 1, 1));
-    Ok(())
+    catches(store, alloc, &[&BEGUN, &ACCOUNT, &BAD], 67, bad)
+        && has(store, 1, 1, 0)
+        && catches(store, alloc, &MAILBOX, 127, Ok(()))
+        && has(store, 1, 1, 1)
 }
+
+const BROKEN_OFF: [&[u8]; 4] = [&BEGUN, &ACCOUNT, &MESSAGE, b"\0\0"];
 
 // Whether a store catches up once more where this call of the keeper failed.
-fn goes_on_after(alloc: Global, call: u64) -> Result<bool, Fail> {
-    let mut store = opened(alloc, &[&BEGUN])?;
-    let parts = [BEGUN.as_slice(), &ACCOUNT, &MESSAGE, b"\0\0"];
-    let mut keeper = keeper_of_parts(alloc, &parts, failing(call))?;
-    let refused = store.catch_up(&mut keeper) == Err(OpenFault::Keeper);
-    let again = catches(&mut store, alloc, &parts, 127, Ok(()))?;
-    Ok(refused && again && has(&store, 1, 1, 1))
-}
-
-#[test]
-fn each_failing_call_is_told(rt: HostRuntime) -> Result<(), Fail> {
-    for call in 0..6 {
-        assert!(rt; goes_on_after(rt.alloc(), call)?);
-    }
-    Ok(())
+fn goes_on_after(store: &mut Store, alloc: Global, call: u64) -> bool {
+    answers(store, alloc, &BROKEN_OFF, call, Err(OpenFault::Keeper))
+        && catches(store, alloc, &BROKEN_OFF, 127, Ok(()))
+        && has(store, 1, 1, 1)
 }
 
 // Whether a domain's append fails, and the store catches up with what is left of it.
-fn heals(alloc: Global) -> Result<bool, Fail> {
-    let mut keeper = keeper_of_parts(alloc, &[&BEGUN], failing(4))?;
-    let mut store = Store::open(alloc, &mut keeper, 1000)?;
-    if store.failed() || normal(alloc, "y.org")?.is_none() {
-        return Err(Fail::from("no domain can be added"));
+fn heals(store: &mut Store, keeper: &mut MemKeeper, alloc: Global) -> bool {
+    let Ok(Some(_)) = normal(alloc, "y.org") else {
+        return false;
+    };
+    if store.failed() {
+        return false;
     }
-    let told = store.add_domain(&mut keeper, "y.org") == Err(StoreFault::Keeper);
-    let broken = store.failed() && keeper.octets().len() == 31;
-    let caught = store.catch_up(&mut keeper).is_ok();
-    Ok(told && broken && caught && !store.failed() && keeper.octets() == BEGUN.as_slice())
+    store.add_domain(keeper, "y.org") == Err(StoreFault::Keeper)
+        && store.failed()
+        && keeper.octets().len() == 31
+        && store.catch_up(keeper).is_ok()
+        && !store.failed()
+        && keeper.octets() == BEGUN.as_slice()
 }
 
+/// What is tried of a store that catches up.
+#[derive(Clone, Copy)]
+pub enum Trial {
+    ReadsOthers,
+    ReadsOnce,
+    CutsOff,
+    RefusesShorter,
+    TellsBad,
+    GoesOnAfter(u64),
+    Heals,
+}
+
+/// Whether the trial goes well.
+pub fn goes_well(store: &mut Store, keeper: &mut MemKeeper, alloc: Global, trial: Trial) -> bool {
+    match trial {
+        Trial::ReadsOthers => reads_others(store, alloc),
+        Trial::ReadsOnce => reads_once(store, alloc),
+        Trial::CutsOff => cuts_off(store, alloc),
+        Trial::RefusesShorter => refuses_shorter(store, alloc),
+        Trial::TellsBad => tells_bad(store, alloc),
+        Trial::GoesOnAfter(call) => goes_on_after(store, alloc, call),
+        Trial::Heals => heals(store, keeper, alloc),
+    }
+}
+
+const ROWS: [(&str, &[Row]); 7] = [
+    (
+        "records of others are read",
+        &[Row {
+            parts: &[&BEGUN],
+            call: NEVER,
+            trial: StoreTrial::CatchUp(Trial::ReadsOthers),
+        }],
+    ),
+    (
+        "nothing is read twice",
+        &[Row {
+            parts: &[&BEGUN, &ACCOUNT, &MESSAGE],
+            call: NEVER,
+            trial: StoreTrial::CatchUp(Trial::ReadsOnce),
+        }],
+    ),
+    (
+        "a record that was broken off is cut off",
+        &[Row {
+            parts: &[&BEGUN],
+            call: NEVER,
+            trial: StoreTrial::CatchUp(Trial::CutsOff),
+        }],
+    ),
+    (
+        "a shorter journal is bad",
+        &[Row {
+            parts: &[&BEGUN, &ACCOUNT],
+            call: NEVER,
+            trial: StoreTrial::CatchUp(Trial::RefusesShorter),
+        }],
+    ),
+    (
+        "a bad record is told with its place",
+        &[Row {
+            parts: &[&BEGUN],
+            call: NEVER,
+            trial: StoreTrial::CatchUp(Trial::TellsBad),
+        }],
+    ),
+    (
+        "each failing call is told",
+        &[
+            Row {
+                parts: &[&BEGUN],
+                call: NEVER,
+                trial: StoreTrial::CatchUp(Trial::GoesOnAfter(0)),
+            },
+            Row {
+                parts: &[&BEGUN],
+                call: NEVER,
+                trial: StoreTrial::CatchUp(Trial::GoesOnAfter(1)),
+            },
+            Row {
+                parts: &[&BEGUN],
+                call: NEVER,
+                trial: StoreTrial::CatchUp(Trial::GoesOnAfter(2)),
+            },
+            Row {
+                parts: &[&BEGUN],
+                call: NEVER,
+                trial: StoreTrial::CatchUp(Trial::GoesOnAfter(3)),
+            },
+            Row {
+                parts: &[&BEGUN],
+                call: NEVER,
+                trial: StoreTrial::CatchUp(Trial::GoesOnAfter(4)),
+            },
+            Row {
+                parts: &[&BEGUN],
+                call: NEVER,
+                trial: StoreTrial::CatchUp(Trial::GoesOnAfter(5)),
+            },
+        ],
+    ),
+    (
+        "a store catches up with its own failed append",
+        &[Row {
+            parts: &[&BEGUN],
+            call: 4,
+            trial: StoreTrial::CatchUp(Trial::Heals),
+        }],
+    ),
+];
+
 #[test]
-fn a_store_catches_up_with_its_own_failed_append(rt: HostRuntime) -> Result<(), Fail> {
-    assert!(rt; heals(rt.alloc())?);
-    Ok(())
+fn stores_catch_up(rt: HostRuntime) -> Result<(), Fail> {
+    all_hold(rt.alloc(), &ROWS)
 }

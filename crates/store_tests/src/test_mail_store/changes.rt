@@ -7,6 +7,7 @@ ghost use Rattle.journal_records.specs.Stored.{IsStored};
 ghost use Rattle.kept_mail.specs.declared.limits.TheConstants.{RECIPIENTS_MAX};
 
 use crate::test_journal_records::address_of;
+use crate::test_mail_store::{Row, Trial as StoreTrial};
 use ace_domains::normal;
 use journal_records::{is_date, is_stored};
 use kept_mail::{Addresses, Delivery, Numbers};
@@ -14,7 +15,7 @@ use mail_store::{Store, StoreFault};
 use mail_wire::{MemKeeper, Octets};
 use std::alloc::Global;
 use std::test::Fail;
-use test_mail::{NEVER, failing, keeper_of};
+use test_mail::{NEVER, all_hold, keeper_of};
 
 pub const SUBJECT: [u8; 19] = *b"Subject: \xc3\xa9\r\n\r\n.x\r\n";
 
@@ -31,11 +32,14 @@ fn adds_domain(
     alloc: Global,
     domain: &str,
     answer: Result<(), StoreFault>,
-) -> Result<bool, Fail> {
-    if store.failed() || normal(alloc, domain)?.is_none() {
-        return Err(Fail::from("no domain can be added"));
+) -> bool {
+    let Ok(Some(_)) = normal(alloc, domain) else {
+        return false;
+    };
+    if store.failed() {
+        return false;
     }
-    Ok(store.add_domain(keeper, domain) == answer)
+    store.add_domain(keeper, domain) == answer
 }
 
 // Whether adding an account answers this.
@@ -45,33 +49,36 @@ fn adds_account(
     alloc: Global,
     text: &str,
     answer: Result<u32, StoreFault>,
-) -> Result<bool, Fail> {
-    let address = address_of(alloc, text.as_bytes())?;
+) -> bool {
+    let Some(address) = address_of(alloc, text.as_bytes()) else {
+        return false;
+    };
     if store.failed() {
-        return Err(Fail::from("failed"));
+        return false;
     }
-    Ok(store.add_account(keeper, &address, b"pw") == answer)
+    store.add_account(keeper, &address, b"pw") == answer
 }
 
 // Octets that have a tree.
-fn message(alloc: Global) -> Result<Octets, Fail>
-    ensures { IfOk result IsStored }
+fn message(alloc: Global) -> Option<Octets>
+    ensures { IfSome result IsStored }
 {
-    let octets = Octets::from_slice(alloc, &SUBJECT)?;
-    if !is_stored(alloc, octets.as_slice())? {
-        return Err(Fail::from("no tree"));
+    let octets = Octets::from_slice(alloc, &SUBJECT).ok()?;
+    match is_stored(alloc, octets.as_slice()) {
+        Ok(true) => Some(octets),
+        _ => None,
     }
-    Ok(octets)
 }
 
-fn date(alloc: Global) -> Result<Octets, Fail>
-    ensures { IfOk result IsDate }
+fn date(alloc: Global) -> Option<Octets>
+    ensures { IfSome result IsDate }
 {
-    let date = Octets::from_slice(alloc, &DATE)?;
-    if !is_date(date.as_slice()) {
-        return Err(Fail::from("no date"));
+    let date = Octets::from_slice(alloc, &DATE).ok()?;
+    if is_date(date.as_slice()) {
+        Some(date)
+    } else {
+        None
     }
-    Ok(date)
 }
 
 // Whether there are all of these accounts.
@@ -81,34 +88,34 @@ fn are_known(accounts: &[u32], count: usize) -> bool
     accounts.iter().all(|account| (*account as usize) < count)
 }
 
-fn numbers_of(alloc: Global, accounts: &[u32]) -> Result<Numbers, Fail> {
+fn numbers_of(alloc: Global, accounts: &[u32]) -> Option<Numbers> {
     let mut numbers = Numbers::new(alloc);
     for account in accounts {
-        numbers.push(*account)?;
+        numbers.push(*account).ok()?;
     }
-    Ok(numbers)
+    Some(numbers)
 }
 
 // The one recipient elsewhere.
-fn elsewhere(alloc: Global) -> Result<Addresses, Fail>
-    ensures addresses { IfOk result (All IsSendable) }
-    ensures few { IfOk result (λ remote. length remote ≤ RECIPIENTS_MAX) }
+fn elsewhere(alloc: Global) -> Option<Addresses>
+    ensures addresses { IfSome result (All IsSendable) }
+    ensures few { IfSome result (λ remote. length remote ≤ RECIPIENTS_MAX) }
 {
     let mut remote = Addresses::new(alloc);
-    remote.push(address_of(alloc, b"c@z.org")?)?;
-    Ok(remote)
+    remote.push(address_of(alloc, b"c@z.org")?).ok()?;
+    Some(remote)
 }
 
 // A message that comes from `b@y.org` and is for these accounts and for `c@z.org`.
-fn delivery(alloc: Global, accounts: &[u32]) -> Result<Delivery, Fail>
-    ensures path { IfOk result (λ made. IfSome made.path IsSendable) }
-    ensures local_tree { IfOk result (λ made. IsStored made.local_octets) }
-    ensures addresses { IfOk result (λ made. All IsSendable made.remote) }
-    ensures few { IfOk result (λ made. length made.remote ≤ RECIPIENTS_MAX) }
-    ensures remote_tree { IfOk result (λ made. IsStored made.remote_octets) }
-    ensures dated { IfOk result (λ made. IsDate made.date) }
+fn delivery(alloc: Global, accounts: &[u32]) -> Option<Delivery>
+    ensures path { IfSome result (λ made. IfSome made.path IsSendable) }
+    ensures local_tree { IfSome result (λ made. IsStored made.local_octets) }
+    ensures addresses { IfSome result (λ made. All IsSendable made.remote) }
+    ensures few { IfSome result (λ made. length made.remote ≤ RECIPIENTS_MAX) }
+    ensures remote_tree { IfSome result (λ made. IsStored made.remote_octets) }
+    ensures dated { IfSome result (λ made. IsDate made.date) }
 {
-    Ok(Delivery {
+    Some(Delivery {
         path: Some(address_of(alloc, b"b@y.org")?),
         local: numbers_of(alloc, accounts)?,
         local_octets: message(alloc)?,
@@ -118,18 +125,18 @@ fn delivery(alloc: Global, accounts: &[u32]) -> Result<Delivery, Fail>
     })
 }
 
-// Whether the message is delivered.
+// Whether the message is delivered, unless it can't be tried.
 pub fn is_delivered(
     store: &mut Store,
     keeper: &mut MemKeeper,
     alloc: Global,
     accounts: &[u32],
-) -> Result<bool, Fail> {
+) -> Option<bool> {
     let delivery = delivery(alloc, accounts)?;
     if store.failed() || !are_known(delivery.local.as_slice(), store.account_count()) {
-        return Err(Fail::from("can't be delivered"));
+        return None;
     }
-    Ok(store.deliver(keeper, &delivery).is_ok())
+    Some(store.deliver(keeper, &delivery).is_ok())
 }
 
 // Whether expunging a message answers this.
@@ -138,76 +145,86 @@ fn expunges(
     keeper: &mut MemKeeper,
     id: u32,
     answer: Result<(), StoreFault>,
-) -> Result<bool, Fail> {
+) -> bool {
     if store.failed() {
-        return Err(Fail::from("failed"));
+        return false;
     }
-    Ok(store.expunge(keeper, &[id]) == answer)
+    store.expunge(keeper, &[id]) == answer
 }
 
 // Whether an account has the message alone, and under this UID.
-fn has_only(store: &Store, account: u32, uid: u32) -> Result<bool, Fail> {
+fn has_only(store: &Store, account: u32, uid: u32) -> bool {
     if account as usize >= store.account_count() {
-        return Err(Fail::from("no account"));
+        return false;
     }
     let folder = store.inbox(account);
-    let listing = store.list(folder)?;
+    let Ok(listing) = store.list(folder) else {
+        return false;
+    };
     if listing.len() != 1 {
-        return Ok(false);
+        return false;
     }
     let one = listing[0];
     let follows = store.uid_next(folder).checked_sub(uid) == Some(1);
-    Ok(one.uid == uid && follows && store.octets(one.id) == SUBJECT.as_slice())
+    one.uid == uid && follows && store.octets(one.id) == SUBJECT.as_slice()
 }
 
 // Whether the address names the mailbox of an account of this number, or of none.
-fn finds(store: &Store, alloc: Global, text: &str, account: Option<u32>) -> Result<bool, Fail> {
-    let address = address_of(alloc, text.as_bytes())?;
-    Ok(store.find_account(&address)? == account)
-}
-
-// Whether the mailbox that was begun with is found, and no other is.
-fn knows_mailbox(store: &Store, alloc: Global) -> Result<bool, Fail> {
-    for (text, account) in [("A@x.org", Some(0)), ("b@x.org", None)] {
-        if !finds(store, alloc, text, account)? {
-            return Ok(false);
-        }
+fn finds(store: &Store, alloc: Global, text: &str, account: Option<u32>) -> bool {
+    match address_of(alloc, text.as_bytes()) {
+        Some(address) => store.find_account(&address) == Ok(account),
+        None => false,
     }
-    Ok(store.login(b"A@x.org", b"pw")? == Some(0))
 }
 
 // Whether the store has the domain and the account that were begun with, and no others.
-fn has_begun(store: &Store, alloc: Global) -> Result<bool, Fail> {
-    let counted = store.account_count() == 1 && store.folder_count() == 1;
-    if !counted || store.name() != "x.org" {
-        return Ok(false);
-    }
-    for (domain, is) in [("x.ORG", true), ("y.org", false)] {
-        if store.is_local(domain)? != is {
-            return Ok(false);
-        }
-    }
-    knows_mailbox(store, alloc)
+fn has_begun(store: &Store, alloc: Global) -> bool {
+    store.account_count() == 1
+        && store.folder_count() == 1
+        && store.name() == "x.org"
+        && store.is_local("x.ORG") == Ok(true)
+        && store.is_local("y.org") == Ok(false)
+        && knows_mailbox(store, alloc)
 }
 
+// Whether the mailbox that was begun with is found, and no other is.
+fn knows_mailbox(store: &Store, alloc: Global) -> bool {
+    finds(store, alloc, "A@x.org", Some(0))
+        && finds(store, alloc, "b@x.org", None)
+        && store.login(b"A@x.org", b"pw") == Ok(Some(0))
+}
+
+const DOMAINS: [(&str, Result<(), StoreFault>); 2] = [
+    ("x.org", Ok(())),
+    ("X.ORG", Err(StoreFault::Exists)),
+];
+
+const ACCOUNTS: [(&str, Result<u32, StoreFault>); 2] = [
+    ("a@x.org", Ok(0)),
+    ("A@X.org", Err(StoreFault::Exists)),
+];
+
 // Whether a domain and its account are added, each once.
-fn is_begun(store: &mut Store, keeper: &mut MemKeeper, alloc: Global) -> Result<bool, Fail> {
-    let mut is = adds_account(store, keeper, alloc, "a@x.org", Err(StoreFault::NoSuch))?;
-    for (domain, answer) in [("x.org", Ok(())), ("X.ORG", Err(StoreFault::Exists))] {
-        is = is && adds_domain(store, keeper, alloc, domain, answer)?;
+fn is_begun(store: &mut Store, keeper: &mut MemKeeper, alloc: Global) -> bool {
+    if !adds_account(store, keeper, alloc, "a@x.org", Err(StoreFault::NoSuch)) {
+        return false;
     }
-    for (text, answer) in [("a@x.org", Ok(0)), ("A@X.org", Err(StoreFault::Exists))] {
-        is = is && adds_account(store, keeper, alloc, text, answer)?;
+    for (domain, answer) in DOMAINS {
+        if !adds_domain(store, keeper, alloc, domain, answer) {
+            return false;
+        }
     }
-    Ok(is)
+    for (text, answer) in ACCOUNTS {
+        if !adds_account(store, keeper, alloc, text, answer) {
+            return false;
+        }
+    }
+    true
 }
 
 // Whether a domain and its account are written, and known.
-fn begins(store: &mut Store, keeper: &mut MemKeeper, alloc: Global) -> Result<bool, Fail> {
-    if !is_begun(store, keeper, alloc)? || keeper.octets() != BEGUN.as_slice() {
-        return Ok(false);
-    }
-    has_begun(store, alloc)
+fn begins(store: &mut Store, keeper: &mut MemKeeper, alloc: Global) -> bool {
+    is_begun(store, keeper, alloc) && keeper.octets() == BEGUN.as_slice() && has_begun(store, alloc)
 }
 
 // The records of a message for the first two accounts and for the recipient elsewhere.
@@ -215,73 +232,51 @@ const DELIVERED: [u8; 180] =
     *b"\0\0\0;\x04\0\0\0\0\0\0\0\0\x1a01-Jan-1970 00:00:00 +0000\0\0\0\x13Subject: \xc3\xa9\r\n\r\n.x\r\n\0\0\0;\x04\0\0\0\x01\0\0\0\0\x1a01-Jan-1970 00:00:00 +0000\0\0\0\x13Subject: \xc3\xa9\r\n\r\n.x\r\n\0\0\02\x07\0\0\0\x07b@y.org\0\0\0\x01\0\0\0\x07c@z.org\0\0\0\x13Subject: \xc3\xa9\r\n\r\n.x\r\n";
 
 // Whether the message is delivered to two accounts, and only its records are written.
-fn is_written_for_two(
-    store: &mut Store,
-    keeper: &mut MemKeeper,
-    alloc: Global,
-) -> Result<bool, Fail> {
-    let added = adds_account(store, keeper, alloc, "b@x.org", Ok(1))?;
+fn is_written_for_two(store: &mut Store, keeper: &mut MemKeeper, alloc: Global) -> bool {
+    if !adds_account(store, keeper, alloc, "b@x.org", Ok(1)) {
+        return false;
+    }
     let had = keeper.octets().len();
-    let delivered = is_delivered(store, keeper, alloc, &[0, 1])?;
-    let written = keeper.octets().len().checked_sub(had) == Some(DELIVERED.len());
-    Ok(added && delivered && written && keeper.octets().ends_with(&DELIVERED))
+    is_delivered(store, keeper, alloc, &[0, 1]) == Some(true)
+        && keeper.octets().len().checked_sub(had) == Some(DELIVERED.len())
+        && keeper.octets().ends_with(&DELIVERED)
 }
 
 // Whether the first two accounts have the message alone.
-fn two_have_it(store: &Store) -> Result<bool, Fail> {
-    for account in 0..2 {
-        if !has_only(store, account, 1)? {
-            return Ok(false);
-        }
-    }
-    Ok(true)
+fn two_have_it(store: &Store) -> bool {
+    has_only(store, 0, 1) && has_only(store, 1, 1)
 }
 
 // Whether a message is delivered to two accounts, and the keeper's failing call after it is told.
-fn delivers(store: &mut Store, keeper: &mut MemKeeper, alloc: Global) -> Result<bool, Fail> {
-    if !is_written_for_two(store, keeper, alloc)? || !two_have_it(store)? {
-        return Ok(false);
-    }
-    if !is_again(alloc, keeper.octets(), Again::TwoHaveIt)? {
-        return Ok(false);
-    }
-    adds_domain(store, keeper, alloc, "y.org", Err(StoreFault::Keeper))
+fn delivers(store: &mut Store, keeper: &mut MemKeeper, alloc: Global) -> bool {
+    is_written_for_two(store, keeper, alloc)
+        && two_have_it(store)
+        && is_again(alloc, keeper.octets(), Again::TwoHaveIt)
+        && adds_domain(store, keeper, alloc, "y.org", Err(StoreFault::Keeper))
 }
 
 // Whether the second of two messages is left once the first was expunged, which goes once.
-fn second_is_left(store: &mut Store, keeper: &mut MemKeeper, alloc: Global) -> Result<bool, Fail> {
-    for _ in 0..2 {
-        if !is_delivered(store, keeper, alloc, &[0])? {
-            return Ok(false);
-        }
-    }
-    if has_only(store, 0, 2)? {
-        return Ok(false);
-    }
-    for answer in [Ok(()), Err(StoreFault::NoSuch)] {
-        if !expunges(store, keeper, 0, answer)? {
-            return Ok(false);
-        }
-    }
-    has_only(store, 0, 2)
+fn second_is_left(store: &mut Store, keeper: &mut MemKeeper, alloc: Global) -> bool {
+    is_delivered(store, keeper, alloc, &[0]) == Some(true)
+        && is_delivered(store, keeper, alloc, &[0]) == Some(true)
+        && !has_only(store, 0, 2)
+        && expunges(store, keeper, 0, Ok(()))
+        && expunges(store, keeper, 0, Err(StoreFault::NoSuch))
+        && has_only(store, 0, 2)
 }
 
 // Whether the second message is left, and is there again.
-fn leaves_second(store: &mut Store, keeper: &mut MemKeeper, alloc: Global) -> Result<bool, Fail> {
-    if !second_is_left(store, keeper, alloc)? {
-        return Ok(false);
-    }
-    is_again(alloc, keeper.octets(), Again::SecondIsLeft)
+fn leaves_second(store: &mut Store, keeper: &mut MemKeeper, alloc: Global) -> bool {
+    second_is_left(store, keeper, alloc) && is_again(alloc, keeper.octets(), Again::SecondIsLeft)
 }
 
 // Whether a failed append is told, and leaves what was begun.
-fn tells_failure(store: &mut Store, keeper: &mut MemKeeper, alloc: Global) -> Result<bool, Fail> {
-    let told = adds_domain(store, keeper, alloc, "y.org", Err(StoreFault::Keeper))?;
-    let len = keeper.octets().len();
-    if !told || !store.failed() || len != BEGUN.len() + 3 || !has_begun(store, alloc)? {
-        return Ok(false);
-    }
-    is_again(alloc, keeper.octets(), Again::Begun)
+fn tells_failure(store: &mut Store, keeper: &mut MemKeeper, alloc: Global) -> bool {
+    adds_domain(store, keeper, alloc, "y.org", Err(StoreFault::Keeper))
+        && keeper.octets().len() == BEGUN.len() + 3
+        && store.failed()
+        && has_begun(store, alloc)
+        && is_again(alloc, keeper.octets(), Again::Begun)
 }
 
 // What is there again.
@@ -293,9 +288,13 @@ enum Again {
 }
 
 // Whether this holds of the store of these octets.
-fn is_again(alloc: Global, octets: &[u8], again: Again) -> Result<bool, Fail> {
-    let mut keeper = keeper_of(alloc, octets, None)?;
-    let store = Store::open(alloc, &mut keeper, 1000)?;
+fn is_again(alloc: Global, octets: &[u8], again: Again) -> bool {
+    let Ok(mut keeper) = keeper_of(alloc, octets, None) else {
+        return false;
+    };
+    let Ok(store) = Store::open(alloc, &mut keeper, 1000) else {
+        return false;
+    };
     match again {
         Again::Begun => has_begun(&store, alloc),
         Again::TwoHaveIt => two_have_it(&store),
@@ -303,53 +302,71 @@ fn is_again(alloc: Global, octets: &[u8], again: Again) -> Result<bool, Fail> {
     }
 }
 
-// What is tried.
+/// What is tried of a store that changes.
 #[derive(Clone, Copy)]
-enum Trial {
+pub enum Trial {
     Begins,
+    HasBegun,
     Delivers,
     LeavesSecond,
     TellsFailure,
 }
 
-// Whether the trial goes well over a keeper of these octets, whose call of this number fails.
-fn goes_well(alloc: Global, octets: &[u8], call: u64, trial: Trial) -> Result<bool, Fail> {
-    let mut keeper = keeper_of(alloc, octets, failing(call))?;
-    let mut store = Store::open(alloc, &mut keeper, 1000)?;
+/// Whether the trial goes well.
+pub fn goes_well(store: &mut Store, keeper: &mut MemKeeper, alloc: Global, trial: Trial) -> bool {
     match trial {
-        Trial::Begins => begins(&mut store, &mut keeper, alloc),
-        Trial::Delivers => delivers(&mut store, &mut keeper, alloc),
-        Trial::LeavesSecond => leaves_second(&mut store, &mut keeper, alloc),
-        Trial::TellsFailure => tells_failure(&mut store, &mut keeper, alloc),
+        Trial::Begins => begins(store, keeper, alloc),
+        Trial::HasBegun => has_begun(store, alloc),
+        Trial::Delivers => delivers(store, keeper, alloc),
+        Trial::LeavesSecond => leaves_second(store, keeper, alloc),
+        Trial::TellsFailure => tells_failure(store, keeper, alloc),
     }
 }
 
-#[test]
-fn a_domain_and_an_account_are_written(rt: HostRuntime) -> Result<(), Fail> {
-    assert!(rt; goes_well(rt.alloc(), b"", NEVER, Trial::Begins)?);
-    Ok(())
-}
+const ROWS: [(&str, &[Row]); 5] = [
+    (
+        "a domain and an account are written",
+        &[Row {
+            parts: &[b""],
+            call: NEVER,
+            trial: StoreTrial::Change(Trial::Begins),
+        }],
+    ),
+    (
+        "a written account is there again",
+        &[Row {
+            parts: &[&BEGUN],
+            call: NEVER,
+            trial: StoreTrial::Change(Trial::HasBegun),
+        }],
+    ),
+    (
+        "a message is delivered to each",
+        &[Row {
+            parts: &[&BEGUN],
+            call: 8,
+            trial: StoreTrial::Change(Trial::Delivers),
+        }],
+    ),
+    (
+        "an expunged message is gone",
+        &[Row {
+            parts: &[&BEGUN],
+            call: NEVER,
+            trial: StoreTrial::Change(Trial::LeavesSecond),
+        }],
+    ),
+    (
+        "a failed append is told",
+        &[Row {
+            parts: &[&BEGUN],
+            call: 6,
+            trial: StoreTrial::Change(Trial::TellsFailure),
+        }],
+    ),
+];
 
 #[test]
-fn a_written_account_is_there_again(rt: HostRuntime) -> Result<(), Fail> {
-    assert!(rt; is_again(rt.alloc(), &BEGUN, Again::Begun)?);
-    Ok(())
-}
-
-#[test]
-fn a_message_is_delivered_to_each(rt: HostRuntime) -> Result<(), Fail> {
-    assert!(rt; goes_well(rt.alloc(), &BEGUN, 8, Trial::Delivers)?);
-    Ok(())
-}
-
-#[test]
-fn an_expunged_message_is_gone(rt: HostRuntime) -> Result<(), Fail> {
-    assert!(rt; goes_well(rt.alloc(), &BEGUN, NEVER, Trial::LeavesSecond)?);
-    Ok(())
-}
-
-#[test]
-fn a_failed_append_is_told(rt: HostRuntime) -> Result<(), Fail> {
-    assert!(rt; goes_well(rt.alloc(), &BEGUN, 6, Trial::TellsFailure)?);
-    Ok(())
+fn stores_change_with_their_journals(rt: HostRuntime) -> Result<(), Fail> {
+    all_hold(rt.alloc(), &ROWS)
 }

@@ -3,12 +3,13 @@ ghost use Rattle.std.specs.Prelude.{◌<◌, length};
 ghost use Rattle.std.specs.List.{All};
 
 use crate::test_mail_store::changes::{SUBJECT, is_delivered};
+use crate::test_mail_store::{Row, Trial as StoreTrial};
 use address_grammar::Address;
 use mail_store::{Queued, Store, StoreFault};
-use mail_wire::{MemKeeper, Octets};
+use mail_wire::{MemKeeper, Memory, Octets};
 use std::alloc::Global;
 use std::test::Fail;
-use test_mail::{failing, keeper_of};
+use test_mail::{NEVER, all_hold, keeper_of};
 
 // A message without a path for `c@z.org`, who is settled, and `d@z.org`; one of `b@y.org` for an address in UTF-8; and one for
 // `c@z.org`, who is settled.
@@ -29,15 +30,14 @@ fn digit(number: u32) -> u8 {
     b'0' + (number % 10) as u8
 }
 
-fn push_address(row: &mut Octets, address: &Address) -> Result<(), Fail> {
+fn push_address(row: &mut Octets, address: &Address) -> Result<(), Memory> {
     row.push_slice(address.local.as_slice())?;
     row.push(b'@')?;
-    row.push_slice(address.domain.as_slice())?;
-    Ok(())
+    row.push_slice(address.domain.as_slice())
 }
 
 // An entry as its number, its path in angle brackets, and the places and addresses of its recipients.
-fn push_queued(row: &mut Octets, one: &Queued) -> Result<(), Fail> {
+fn push_queued(row: &mut Octets, one: &Queued) -> Result<(), Memory> {
     row.push(digit(one.entry))?;
     row.push_slice(b" <")?;
     if let Some(path) = &one.path {
@@ -50,8 +50,16 @@ fn push_queued(row: &mut Octets, one: &Queued) -> Result<(), Fail> {
         row.push(b' ')?;
         push_address(row, &recipient.address)?;
     }
-    row.push(b';')?;
-    Ok(())
+    row.push(b';')
+}
+
+// The entries, one after the other.
+fn told_of(alloc: Global, queue: &[Queued]) -> Result<Octets, Memory> {
+    let mut row = Octets::new(alloc);
+    for one in queue {
+        push_queued(&mut row, one)?;
+    }
+    Ok(row)
 }
 
 // Whether each entry has the octets of the message.
@@ -67,20 +75,25 @@ fn have_octets(store: &Store, queue: &[Queued]) -> bool
 }
 
 // Whether the queue is told so.
-fn observed(store: &Store, alloc: Global, told: &[u8]) -> Result<bool, Fail> {
-    let queue = store.queue()?;
-    let mut row = Octets::new(alloc);
-    for one in queue.as_slice() {
-        push_queued(&mut row, one)?;
-    }
-    Ok(row.as_slice() == told && have_octets(store, queue.as_slice()))
+fn observed(store: &Store, alloc: Global, told: &[u8]) -> bool {
+    let Ok(queue) = store.queue() else {
+        return false;
+    };
+    let Ok(row) = told_of(alloc, queue.as_slice()) else {
+        return false;
+    };
+    row.as_slice() == told && have_octets(store, queue.as_slice())
 }
 
 // Whether the store of these octets tells the queue so.
-fn tells_again(alloc: Global, octets: &[u8], told: &[u8]) -> Result<bool, Fail> {
-    let mut keeper = keeper_of(alloc, octets, None)?;
-    let store = Store::open(alloc, &mut keeper, 1000)?;
-    observed(&store, alloc, told)
+fn tells_again(alloc: Global, octets: &[u8], told: &[u8]) -> bool {
+    let Ok(mut keeper) = keeper_of(alloc, octets, None) else {
+        return false;
+    };
+    match Store::open(alloc, &mut keeper, 1000) {
+        Ok(store) => observed(&store, alloc, told),
+        Err(_) => false,
+    }
 }
 
 // Whether taking a recipient of an entry off answers this.
@@ -90,116 +103,151 @@ fn settles(
     entry: u32,
     index: u32,
     answer: Result<(), StoreFault>,
-) -> Result<bool, Fail> {
+) -> bool {
     if store.failed() {
-        return Err(Fail::from("failed"));
+        return false;
     }
-    Ok(store.settle(keeper, entry, index) == answer)
+    store.settle(keeper, entry, index) == answer
 }
 
 // Whether the second recipient of the first entry goes, once, and is gone in the journal too.
-fn goes_once(alloc: Global) -> Result<bool, Fail> {
-    let mut keeper = keeper_of(alloc, &QUEUE, None)?;
-    let mut store = Store::open(alloc, &mut keeper, 1000)?;
-    let rows = [
-        (7, Err(StoreFault::NoSuch)),
-        (1, Err(StoreFault::NoSuch)),
-        (0, Ok(())),
-        (0, Err(StoreFault::NoSuch)),
-    ];
-    for (entry, answer) in rows {
-        if !settles(&mut store, &mut keeper, entry, 1, answer)? {
-            return Ok(false);
-        }
-    }
-    let written = keeper.octets().len() == QUEUE.len() + 13 && keeper.octets().ends_with(&SETTLED);
-    let again = tells_again(alloc, keeper.octets(), ONE_WAITS)?;
-    Ok(written && again && observed(&store, alloc, ONE_WAITS)?)
+fn goes_once(store: &mut Store, keeper: &mut MemKeeper, alloc: Global) -> bool {
+    settles(store, keeper, 7, 1, Err(StoreFault::NoSuch))
+        && settles(store, keeper, 1, 1, Err(StoreFault::NoSuch))
+        && settles(store, keeper, 0, 1, Ok(()))
+        && settles(store, keeper, 0, 1, Err(StoreFault::NoSuch))
+        && keeper.octets().len() == QUEUE.len() + 13
+        && keeper.octets().ends_with(&SETTLED)
+        && tells_again(alloc, keeper.octets(), ONE_WAITS)
+        && observed(store, alloc, ONE_WAITS)
 }
 
+// The recipient who goes, and what is told then.
+const IN_TURN: [(u32, &[u8]); 3] = [
+    (1, b"0 <> 0 c@z.org 2 e@z.org;1 <> 0 c@z.org;"),
+    (2, b"0 <> 0 c@z.org;1 <> 0 c@z.org;"),
+    (0, b"1 <> 0 c@z.org;"),
+];
+
 // Whether the queue is told rightly whenever a recipient of three went, not in their order, and so is that of the journal.
-fn go_in_turn(alloc: Global) -> Result<bool, Fail> {
-    let mut keeper = keeper_of(alloc, &THREE, None)?;
-    let mut store = Store::open(alloc, &mut keeper, 1000)?;
-    let rows: [(u32, &[u8]); 3] = [
-        (1, b"0 <> 0 c@z.org 2 e@z.org;1 <> 0 c@z.org;"),
-        (2, b"0 <> 0 c@z.org;1 <> 0 c@z.org;"),
-        (0, b"1 <> 0 c@z.org;"),
-    ];
-    for (index, told) in rows {
-        let gone = settles(&mut store, &mut keeper, 0, index, Ok(()))?;
-        if !gone || !observed(&store, alloc, told)? || !tells_again(alloc, keeper.octets(), told)? {
-            return Ok(false);
+fn go_in_turn(store: &mut Store, keeper: &mut MemKeeper, alloc: Global) -> bool {
+    for (index, told) in IN_TURN {
+        if !settles(store, keeper, 0, index, Ok(()))
+            || !observed(store, alloc, told)
+            || !tells_again(alloc, keeper.octets(), told)
+        {
+            return false;
         }
     }
-    Ok(true)
+    true
 }
 
 // Whether a recipient stays where the keeper fails.
-fn stays(alloc: Global, call: u64) -> Result<bool, Fail> {
-    let mut keeper = keeper_of(alloc, &QUEUE, failing(call))?;
-    let mut store = Store::open(alloc, &mut keeper, 1000)?;
-    let told = settles(&mut store, &mut keeper, 0, 1, Err(StoreFault::Keeper))?;
-    Ok(told && store.failed() && observed(&store, alloc, TWO_WAIT)?)
+fn stays(store: &mut Store, keeper: &mut MemKeeper, alloc: Global) -> bool {
+    settles(store, keeper, 0, 1, Err(StoreFault::Keeper))
+        && store.failed()
+        && observed(store, alloc, TWO_WAIT)
 }
 
+const THREE_WAIT: &[u8] = b"0 <> 1 d@z.org;1 <b@y.org> 0 \xc3\xa9@z.org;3 <b@y.org> 0 c@z.org;";
+
 // Whether a message that is delivered is told after those that wait.
-fn follows(alloc: Global) -> Result<bool, Fail> {
-    let mut keeper = keeper_of(alloc, &QUEUE, None)?;
-    let mut store = Store::open(alloc, &mut keeper, 1000)?;
-    if !is_delivered(&mut store, &mut keeper, alloc, &[])? {
-        return Ok(false);
-    }
-    let told: &[u8] = b"0 <> 1 d@z.org;1 <b@y.org> 0 \xc3\xa9@z.org;3 <b@y.org> 0 c@z.org;";
-    Ok(observed(&store, alloc, told)? && tells_again(alloc, keeper.octets(), told)?)
+fn follows(store: &mut Store, keeper: &mut MemKeeper, alloc: Global) -> bool {
+    is_delivered(store, keeper, alloc, &[]) == Some(true)
+        && observed(store, alloc, THREE_WAIT)
+        && tells_again(alloc, keeper.octets(), THREE_WAIT)
 }
 
 // Whether a message whose delivery failed isn't in the queue.
-fn is_left_out(alloc: Global, call: u64) -> Result<bool, Fail> {
-    let mut keeper = keeper_of(alloc, &QUEUE, failing(call))?;
-    let mut store = Store::open(alloc, &mut keeper, 1000)?;
-    let delivered = is_delivered(&mut store, &mut keeper, alloc, &[])?;
-    Ok(!delivered && store.failed() && observed(&store, alloc, TWO_WAIT)?)
+fn is_left_out(store: &mut Store, keeper: &mut MemKeeper, alloc: Global) -> bool {
+    is_delivered(store, keeper, alloc, &[]) == Some(false)
+        && store.failed()
+        && observed(store, alloc, TWO_WAIT)
 }
 
-#[test]
-fn recipients_who_wait_are_told(rt: HostRuntime) -> Result<(), Fail> {
-    assert!(rt; tells_again(rt.alloc(), &QUEUE, TWO_WAIT)?);
-    Ok(())
+/// What is tried of a store's queue.
+#[derive(Clone, Copy)]
+pub enum Trial {
+    Tells(&'static [u8]),
+    GoesOnce,
+    GoInTurn,
+    Stays,
+    Follows,
+    IsLeftOut,
 }
 
-#[test]
-fn a_queue_may_be_empty(rt: HostRuntime) -> Result<(), Fail> {
-    assert!(rt; tells_again(rt.alloc(), b"", b"")?);
-    Ok(())
+/// Whether the trial goes well.
+pub fn goes_well(store: &mut Store, keeper: &mut MemKeeper, alloc: Global, trial: Trial) -> bool {
+    match trial {
+        Trial::Tells(told) => observed(store, alloc, told),
+        Trial::GoesOnce => goes_once(store, keeper, alloc),
+        Trial::GoInTurn => go_in_turn(store, keeper, alloc),
+        Trial::Stays => stays(store, keeper, alloc),
+        Trial::Follows => follows(store, keeper, alloc),
+        Trial::IsLeftOut => is_left_out(store, keeper, alloc),
+    }
 }
 
-#[test]
-fn a_recipient_goes_once(rt: HostRuntime) -> Result<(), Fail> {
-    assert!(rt; goes_once(rt.alloc())?);
-    Ok(())
-}
+const ROWS: [(&str, &[Row]); 7] = [
+    (
+        "recipients who wait are told",
+        &[Row {
+            parts: &[&QUEUE],
+            call: NEVER,
+            trial: StoreTrial::Queue(Trial::Tells(TWO_WAIT)),
+        }],
+    ),
+    (
+        "a queue may be empty",
+        &[Row {
+            parts: &[b""],
+            call: NEVER,
+            trial: StoreTrial::Queue(Trial::Tells(b"")),
+        }],
+    ),
+    (
+        "a recipient goes once",
+        &[Row {
+            parts: &[&QUEUE],
+            call: NEVER,
+            trial: StoreTrial::Queue(Trial::GoesOnce),
+        }],
+    ),
+    (
+        "recipients go in any order",
+        &[Row {
+            parts: &[&THREE],
+            call: NEVER,
+            trial: StoreTrial::Queue(Trial::GoInTurn),
+        }],
+    ),
+    (
+        "a recipient stays where the keeper fails",
+        &[Row {
+            parts: &[&QUEUE],
+            call: 12,
+            trial: StoreTrial::Queue(Trial::Stays),
+        }],
+    ),
+    (
+        "a delivered message waits",
+        &[Row {
+            parts: &[&QUEUE],
+            call: NEVER,
+            trial: StoreTrial::Queue(Trial::Follows),
+        }],
+    ),
+    (
+        "a message that wasn't delivered doesn't wait",
+        &[Row {
+            parts: &[&QUEUE],
+            call: 12,
+            trial: StoreTrial::Queue(Trial::IsLeftOut),
+        }],
+    ),
+];
 
 #[test]
-fn recipients_go_in_any_order(rt: HostRuntime) -> Result<(), Fail> {
-    assert!(rt; go_in_turn(rt.alloc())?);
-    Ok(())
-}
-
-#[test]
-fn a_recipient_stays_where_the_keeper_fails(rt: HostRuntime) -> Result<(), Fail> {
-    assert!(rt; stays(rt.alloc(), 12)?);
-    Ok(())
-}
-
-#[test]
-fn a_delivered_message_waits(rt: HostRuntime) -> Result<(), Fail> {
-    assert!(rt; follows(rt.alloc())?);
-    Ok(())
-}
-
-#[test]
-fn a_message_that_was_not_delivered_does_not_wait(rt: HostRuntime) -> Result<(), Fail> {
-    assert!(rt; is_left_out(rt.alloc(), 12)?);
-    Ok(())
+fn the_queue_is_told(rt: HostRuntime) -> Result<(), Fail> {
+    all_hold(rt.alloc(), &ROWS)
 }

@@ -1,5 +1,0 @@
-use Rattle.encoded_words.proofs.WritableUnits.{HasUnits-writable}
-use Rattle.base_tests.proofs.test_encoded_words.words.units_are_written.Goals as goal
-
-pub write_units-requires : goal.write_units-requires
-write_units-requires g c = rw (c.deref.ensures.value) (HasUnits-writable _ _ c.as_bytes.ensures.utf8 c.in-Ok.ensures)
