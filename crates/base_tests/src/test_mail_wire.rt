@@ -1,12 +1,11 @@
 //! Texts, words, wires and keepers, each public call once with ample memory.
 use mail_wire::{
-    CLOCK_END, Clock, Dial, Entry, Failed, Failure, Fault, FileKeeper, FixedClock, Items, Keeper,
-    MemDial, MemKeeper, MemServer, MemWire, Memory, Octets, StdWire, SystemClock, TableWord,
-    WireFailure, Words, date_text, find_crlf, find_word, first_faulty, give_all, internal_date,
-    is_message, lines, take_piece, unfold,
+    CLOCK_END, Clock, Dial, Entry, Failed, Failure, Fault, FixedClock, Items, Keeper, MemDial,
+    MemKeeper, MemServer, MemWire, Memory, Octets, StdWire, SystemClock, TableWord, WireFailure,
+    Words, date_text, find_crlf, find_word, first_faulty, give_all, internal_date, is_message,
+    lines, take_piece, unfold,
 };
 use std::alloc::Global;
-use std::fs::OpenOptions;
 use std::io::{self, ErrorKind, Read, Write};
 use std::test::Fail;
 
@@ -124,13 +123,13 @@ fn a_wire_in_memory_hands_out_pieces_and_fails(rt: HostRuntime) {
 }
 
 // A keeper's calls, through its bound.
-fn use_keeper<J: Keeper>(keeper: &mut J) -> Result<(), Failed> {
+pub fn use_keeper<J: Keeper>(keeper: &mut J) -> Result<(), Failed> {
     keeper.append(b"yz")?;
     Ok(())
 }
 
 // Several parts by one call of a keeper, through its bound.
-fn use_parts<J: Keeper>(keeper: &mut J) -> Result<(), Failed> {
+pub fn use_parts<J: Keeper>(keeper: &mut J) -> Result<(), Failed> {
     keeper.append_all(&[b"ab", b"", b"cde"])
 }
 
@@ -172,59 +171,6 @@ fn parts_go_well(alloc: Global) -> Result<bool, Memory> {
 #[test]
 fn a_keeper_puts_several_parts_by_one_call(rt: HostRuntime) {
     assert!(rt; parts_go_well(rt.alloc()) == Ok(true));
-    let mut keeper = FileKeeper::new(rt, "parts");
-    let mut buffer = [0; 7];
-    assert!(rt;
-        use_keeper(&mut keeper) == Ok(())
-            && use_parts(&mut keeper) == Ok(())
-            && keeper.read_at(0, &mut buffer) == Ok(())
-            && buffer == *b"yzabcde"
-            && keeper.len() == Ok(7)
-    );
-}
-
-#[test]
-fn a_keeper_over_a_file_keeps_and_counts(rt: HostRuntime) -> Result<(), Fail> {
-    let mut keeper = FileKeeper::new(rt, "journal");
-    assert_eq!(rt; keeper.len(), Ok(0));
-    assert_eq!(rt; use_keeper(&mut keeper), Ok(()));
-    assert_eq!(rt; keeper.append(b"abc"), Ok(()));
-    let mut buffer = [0; 3];
-    assert_eq!(rt; keeper.read_at(1, &mut buffer), Ok(()));
-    assert_eq!(rt; buffer, *b"zab");
-    assert_eq!(rt; keeper.cut(3), Ok(()));
-    assert!(rt; keeper.failure().is_none());
-    assert_eq!(rt; keeper.read_at(1, &mut buffer), Err(Failed::Outside));
-    let failure = keeper.failure().map(|error| error.kind());
-    assert_eq!(rt; failure, Some(ErrorKind::UnexpectedEof));
-    Ok(())
-}
-
-#[test]
-fn a_file_that_cannot_be_opened_is_told(rt: HostRuntime) -> Result<(), Fail> {
-    let mut keeper = FileKeeper::new(rt, "none/journal");
-    assert_eq!(rt; keeper.len(), Err(Failed::Outside));
-    let failure = keeper.failure().map(|error| error.kind());
-    assert_eq!(rt; failure, Some(ErrorKind::NotFound));
-    Ok(())
-}
-
-// Whether another open of the file has its lock.
-fn is_locked(rt: &HostRuntime) -> Result<bool, Fail> {
-    let file = OpenOptions::new().read(true).open(rt, "locked")?;
-    Ok(file.try_lock().is_err())
-}
-
-#[test]
-fn a_keeper_has_its_file_alone_until_it_is_released(rt: HostRuntime) -> Result<(), Fail> {
-    let mut keeper = FileKeeper::new(rt, "locked");
-    assert_eq!(rt; keeper.len(), Ok(0));
-    assert!(rt; is_locked(&rt)?);
-    keeper.release();
-    assert!(rt; !is_locked(&rt)?);
-    assert_eq!(rt; keeper.append(b"abc"), Ok(()));
-    assert!(rt; is_locked(&rt)?);
-    Ok(())
 }
 
 // A side that always fails.

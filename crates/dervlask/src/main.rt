@@ -6,8 +6,9 @@ mod telling;
 
 use crate::serve::serve;
 use crate::telling::{JOURNAL, tell_failure, tell_help, tell_left, tell_memory};
+use journal_file::FileKeeper;
 use mail_command::{KEEPER_FAULT, WANT_OF_MEMORY, WIRE_FAULT, run, serve_words};
-use mail_wire::{FileKeeper, Memory, StdWire, SystemClock, Words};
+use mail_wire::{Memory, StdWire, SystemClock, Words};
 use std::alloc::{Alloc, Global};
 use std::env::{self, Env};
 use std::fs::{File, Files, OpenOptions};

@@ -4,11 +4,12 @@ ghost use Rattle.session_core.specs.Desks.{WorksWithin};
 ghost use Rattle.session_core.specs.declared.desk.TheConstants.{LIMITS};
 
 use crate::telling::{JOURNAL, tell, tell_connection, tell_failure, tell_served};
+use journal_file::FileKeeper;
 use mail_command::{
     DONE, Desk, LIMITS, OpenFault, Role, Served, WIRE_FAULT, open_desk, serve_next, status_after,
     tell_unopened,
 };
-use mail_wire::{FileKeeper, StdWire, SystemClock};
+use mail_wire::{StdWire, SystemClock};
 use std::alloc::{Alloc, Global};
 use std::fs::{File, Files};
 use std::io::{self, Eprint, Input, Print};

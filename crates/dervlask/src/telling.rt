@@ -1,6 +1,7 @@
 //! Tells on standard error what failed, as the system puts it.
+use journal_file::FileKeeper;
 use mail_command::{KEEPER_FAULT, LEFT_QUEUED, Served, WANT_OF_MEMORY, WIRE_FAULT, WORDS_REFUSED};
-use mail_wire::{FileKeeper, StdWire, WireFailure};
+use mail_wire::{StdWire, WireFailure};
 use std::alloc::{Alloc, Global};
 use std::fs::{File, Files};
 use std::io::{self, Eprint, ErrorKind, Read, Write};

@@ -1,9 +1,7 @@
 //! The keeper over a file. It tells nothing of what it keeps, and counts its failures. One program at a time has the file.
 ghost use Rattle.std.specs.Prelude.{◌≡◌, None, false};
 
-use crate::faults::Faults;
-use crate::keeping::Keeper;
-use crate::outside::Failed;
+use mail_wire::{Failed, Faults, Keeper};
 use std::fs::{File, Files, OpenFile, OpenOptions};
 use std::io::{self, Read, Seek, SeekFrom, Write};
 
