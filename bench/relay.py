@@ -167,7 +167,7 @@ def measure(program, count=COUNT, counted_count=COUNTED_COUNT, all_settled=SETTL
         return []
     lines, missed = counted(program, counted_count)
     said = f"Wall clock over loopback, the best of three: {count:,} messages of {SIZE // 1000} kB in the queue, to smtp-sink. dervlask sends over one connection."
-    said += "\nPostfix sends over up to 20 at once, from the flush of its queue on. Neither syncs while it sends; Postfix synced each message when it took it."
+    said += "\nPostfix sends over up to 20 at once, from the flush of its queue on. dervlask syncs the record of each recipient that it is done with; Postfix synced each message when it took it."
     times = timed(program, count)
     openings = opened(program, all_settled)
     verdict = [f"Wanted: at most {RATIO_MOST} times the instructions at 2n.", *([f"Not met: {it}." for it in missed] or ["All met."])]

@@ -31,8 +31,7 @@ DATA of its own. *a message*: the instructions that the second n messages take b
 the message's octets. *peak*: the greatest resident set; *of the messages*: the same less that of a session without mail, by the octets
 of the messages, which the store keeps in memory too.
 
-A message is answered `250` once its record was written to the journal, and nothing is synced: what the system hasn't put onto the
-disk when it crashes is lost.
+A message is answered `250` once its record was written to the journal and synced to the disk.
 """.strip()
 
 
@@ -150,7 +149,7 @@ def measure(program, count=COUNT, counted_count=COUNTED_COUNT):
     """Prints the tables as they come, and returns their lines."""
     lines, missed = counted(program, counted_count)
     said = f"Wall clock over loopback, the best of three: {count:,} messages of {SIZE // 1000} kB over one connection, one command at a time."
-    said += "\nPostfix syncs each message to the disk before it answers, and dervlask doesn't. Postfix throws it away behind its queue, and smtp-sink at once."
+    said += "\nPostfix and dervlask sync each message to the disk before they answer. Postfix throws it away behind its queue, and smtp-sink at once."
     times = timed(program, count)
     verdict = [f"Wanted: at most {RATIO_MOST} times the instructions at 2n.", *([f"Not met: {it}." for it in missed] or ["All met."])]
     end = tell(["", *[f"{it}  " for it in verdict]])

@@ -5,7 +5,7 @@ mod serve;
 mod telling;
 
 use crate::serve::serve;
-use crate::telling::{JOURNAL, tell_failure, tell_help, tell_left, tell_memory};
+use crate::telling::{CUT, JOURNAL, tell_cut, tell_failure, tell_help, tell_left, tell_memory};
 use journal_file::FileKeeper;
 use mail_command::{KEEPER_FAULT, WANT_OF_MEMORY, WIRE_FAULT, run, serve_words};
 use mail_wire::{Memory, StdWire, SystemClock, Words};
@@ -62,7 +62,7 @@ where
         return WANT_OF_MEMORY;
     };
     let mut wire = StdWire::new(rt.reader(), output);
-    let mut keeper = FileKeeper::new(rt, JOURNAL);
+    let mut keeper = FileKeeper::new(rt, JOURNAL, CUT);
     let mut dial = TcpDial::new(rt.alloc(), rt);
     let mut clock = SystemClock::new(rt);
     let status = run(
@@ -74,6 +74,7 @@ where
         &mut clock,
     );
     let status = finished(status, &mut wire);
+    let _cut = tell_cut(rt, &mut keeper);
     let _told = tell_failure(rt, status, &wire, &keeper);
     let _help = tell_help(rt, status);
     let _left = tell_left(rt, status, &dial);

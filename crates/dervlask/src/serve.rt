@@ -3,7 +3,7 @@ ghost use Rattle.std.specs.Prelude.{IfOk, IfSome};
 ghost use Rattle.session_core.specs.Desks.{WorksWithin};
 ghost use Rattle.session_core.specs.declared.desk.TheConstants.{LIMITS};
 
-use crate::telling::{JOURNAL, tell, tell_connection, tell_failure, tell_served};
+use crate::telling::{CUT, JOURNAL, tell, tell_connection, tell_cut, tell_failure, tell_served};
 use journal_file::FileKeeper;
 use mail_command::{
     DONE, Desk, LIMITS, OpenFault, Role, Served, WIRE_FAULT, open_desk, serve_next, status_after,
@@ -88,6 +88,7 @@ where
     T: Files<File = File> + Clock + Eprint + Alloc<A = Global>,
 {
     let mut kept = Some(open_desk(rt.alloc(), keeper, LIMITS)?);
+    let _cut = tell_cut(rt, keeper);
     keeper.release();
     for number in 1..=connections {
         let stream = match listener.accept() {
@@ -98,6 +99,7 @@ where
             }
         };
         kept = serve_stream(rt, role, number, stream, kept, keeper)?;
+        let _cut = tell_cut(rt, keeper);
         keeper.release();
     }
     Ok(DONE)
@@ -123,9 +125,12 @@ where
         }
     };
     let _told = eprintln!(rt; "dervlask: {} on 127.0.0.1, port {port}", role.word());
-    let mut keeper = FileKeeper::new(rt, JOURNAL);
+    let mut keeper = FileKeeper::new(rt, JOURNAL, CUT);
     match serve_all(rt, role, connections, &listener, &mut keeper) {
         Ok(status) => status,
-        Err(fault) => status_unopened(rt, fault, &keeper),
+        Err(fault) => {
+            let _cut = tell_cut(rt, &mut keeper);
+            status_unopened(rt, fault, &keeper)
+        }
     }
 }

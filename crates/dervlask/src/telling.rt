@@ -1,5 +1,5 @@
 //! Tells on standard error what failed, as the system puts it.
-use journal_file::FileKeeper;
+use journal_file::{FileKeeper, JournalFailure};
 use mail_command::{KEEPER_FAULT, LEFT_QUEUED, Served, WANT_OF_MEMORY, WIRE_FAULT, WORDS_REFUSED};
 use mail_wire::{StdWire, WireFailure};
 use std::alloc::{Alloc, Global};
@@ -9,6 +9,9 @@ use tcp_wire::{TcpDial, TcpWire};
 
 /// The journal, in the current folder.
 pub const JOURNAL: &str = "mail.journal";
+
+/// What was cut of the journal, beside it.
+pub const CUT: &str = "mail.journal.cut";
 
 // The text of an error without the system's number for it.
 fn without_number(text: &str) -> &str {
@@ -34,6 +37,35 @@ pub fn tell_memory<T: Eprint>(rt: &T) -> io::Result<()> {
     eprintln!(rt; "dervlask: out of memory")
 }
 
+// Why a call of the keeper failed, and at which file.
+fn place_and_error(failure: JournalFailure) -> (&'static str, io::Error) {
+    match failure {
+        JournalFailure::Journal(error) => (JOURNAL, error),
+        JournalFailure::Cut(error) => (CUT, error),
+    }
+}
+
+/// Says how many octets were cut of the journal since this was said last, and where they are.
+pub fn tell_cut<T, F>(rt: &T, keeper: &mut FileKeeper<F>) -> io::Result<()>
+where
+    T: Eprint,
+    F: Files<File = File>,
+{
+    match keeper.take_cut_octets() {
+        0 => Ok(()),
+        1 => {
+            eprintln!(rt;
+                "dervlask: {JOURNAL}: cut 1 octet that was no whole record; it is in {CUT}"
+            )
+        }
+        count => {
+            eprintln!(rt;
+                "dervlask: {JOURNAL}: cut {count} octets that were no whole record; they are in {CUT}"
+            )
+        }
+    }
+}
+
 /// Says why a command ended with this status, where the outside failed or memory was wanting.
 pub fn tell_failure<T, R, W, F>(
     rt: &T,
@@ -54,7 +86,10 @@ where
             None => Ok(()),
         },
         KEEPER_FAULT => match keeper.failure() {
-            Some(error) => tell(rt, JOURNAL, error),
+            Some(failure) => {
+                let (place, error) = place_and_error(failure);
+                tell(rt, place, error)
+            }
             None => Ok(()),
         },
         WANT_OF_MEMORY => tell_memory(rt),
@@ -102,8 +137,9 @@ where
             None => Ok(()),
         },
         Served::KeeperFault => match keeper.failure() {
-            Some(error) => {
-                let place = format!(in rt.alloc(); "connection {number}: {JOURNAL}")?;
+            Some(failure) => {
+                let (file, error) = place_and_error(failure);
+                let place = format!(in rt.alloc(); "connection {number}: {file}")?;
                 tell(rt, place.as_str(), error)
             }
             None => Ok(()),

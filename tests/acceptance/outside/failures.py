@@ -29,6 +29,7 @@ WITH_JOURNAL = [*OF_SESSIONS, (RELAY, b""), (DOMAIN, b""), (ACCOUNT, b"")]
 WITH_INPUT = [[b"downgrade"], *(words for words, _ in OF_SESSIONS)]
 OUTPUT, INPUT, KEPT = b"standard output", b"standard input", JOURNAL.encode()
 NO_ROOM, IS_FOLDER, DENIED, BROKEN = b"No space left on device", b"Is a directory", b"Permission denied", b"Broken pipe"
+NOT_REGULAR = b"not a regular file"
 NOBODY = "nobody"
 # how a run ends whose words no command has
 WRONG = REFUSED, HINT, b"words refused\r\n"
@@ -120,17 +121,21 @@ def of_input(program, tally):
 
 
 def of_the_journal(program, tally):
-    """The journal is a folder, is on a full device, or is too large for the system."""
+    """The journal is no regular file, or is too large for the system."""
+    kinds = [
+        ("a folder", os.mkdir), ("a link to a device", lambda path: os.symlink("/dev/full", path)),
+        ("a link to nothing", lambda path: os.symlink("none", path)), ("a link to a file", lambda path: os.symlink("other", path)), ("a pipe", os.mkfifo),
+    ]
     for words, octets in WITH_JOURNAL:
-        with Place(program) as place:
-            os.mkdir(place.journal)
-            tally.note(name_of(words, "the journal is a folder"), ended(place.run(words, octets), 2, line(KEPT, IS_FOLDER), b""))
-        with Place(program) as place:
-            os.symlink("/dev/full", place.journal)
-            tally.note(name_of(words, "the journal is on a full device"), ended(place.run(words, octets), 2, line(KEPT, NO_ROOM), b""))
-        with Place(program) as place:
-            os.symlink("no-folder/x", place.journal)
-            tally.note(name_of(words, "the journal can't be made"), ended(place.run(words, octets), 2, line(KEPT, b"No such file or directory"), b""))
+        for what, make in kinds:
+            with Place(program) as place:
+                other = os.path.join(place.path, "other")
+                with open(other, "wb") as file:
+                    file.write(STORE)
+                make(place.journal)
+                faults = ended(place.run(words, octets), 2, line(KEPT, NOT_REGULAR), b"")
+                faults += differs("files", sorted(os.listdir(place.path)), [JOURNAL, "other"]) + differs("the other file", read_journal(other), STORE)
+                tally.note(name_of(words, f"the journal is {what}"), faults)
     for words, octets in [([b"smtp"], SENDS), (DOMAIN, b""), (ACCOUNT, b"")]:
         with Place(program, STORE) as place:
             found = place.run(words, octets, before=little_room(len(STORE) + 3))

@@ -35,7 +35,7 @@ def of_the_outside(program, tally, word=POP, greeting=READY):
         found = program.run_on([word], unreadable, cwd=folder)
         os.close(unreadable)
         tally.note(name_of("standard input can't be read"), differs("answer", found, (1, greeting)))
-    for what, place in (("a folder", os.mkdir), ("a full device", lambda path: os.symlink("/dev/full", path))):
+    for what, place in (("a folder", os.mkdir), ("a link", lambda path: os.symlink("/dev/full", path))):
         with tempfile.TemporaryDirectory(dir=program.folder.name) as folder:
             place(os.path.join(folder, JOURNAL))
             tally.note(name_of(f"the journal is {what}"), differs("answer", status_in(program, folder, word), (2, b"")))

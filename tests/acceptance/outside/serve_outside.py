@@ -21,6 +21,8 @@ from support.talk import JOURNAL, place_journal, read_journal
 
 STORE = journal(domain(b"x.org"), account(b"a@x.org", b"p"))
 BAD = FIRST_OCTETS + b"\0\0\0\x01\x09"
+# a record that was broken off
+BROKEN_OFF = b"\0\0\0\x20\x02\0\0"
 LOGS_IN = b"USER a@x.org\r\nPASS p\r\n"
 COUNTS = LOGS_IN + b"STAT\r\nQUIT\r\n"
 SENDS = b"EHLO x\r\nMAIL FROM:<>\r\nRCPT TO:<a@x.org>\r\nDATA\r\nSubject: a\r\n\r\nb\r\n.\r\n"
@@ -153,10 +155,16 @@ def of_bad_journals(program, tally, folder):
         place_journal(folder, FIRST_OCTETS)
         told = talk(service, LOGS_IN + b"QUIT\r\n")
     tally.note("serve: a shorter journal is opened anew", differs("refused", told.startswith(GREETING + b"+OK\r\n-ERR"), True) + service.faults())
-    place_journal(folder, STORE + b"\0\0\0\x20\x02\0\0")
+    place_journal(folder, STORE + BROKEN_OFF)
     with Service(program.path, folder) as service:
-        count, octets = counted(service), read_journal(path)
-    tally.note("serve: a record that is cut off", differs("messages", count, 0) + differs("journal", octets, STORE) + service.faults())
+        first, octets = counted(service), read_journal(path)
+        place_journal(folder, STORE + BROKEN_OFF[:1])
+        second = counted(service), read_journal(path)
+        service.wait_for(3)
+    faults = differs("first connection", (first, octets), (0, STORE)) + differs("second connection", second, (0, STORE))
+    faults += differs("what was cut", read_journal(path + ".cut"), BROKEN_OFF + BROKEN_OFF[:1])
+    told = ["cut 7 octets that were no whole record; they are", "cut 1 octet that was no whole record; it is"]
+    tally.note("serve: a record that is cut off", faults + service.faults(said=[f"dervlask: {JOURNAL}: {what} in {JOURNAL}.cut" for what in told]))
 
 
 def of_failures(program, tally, folder):
@@ -175,7 +183,7 @@ def of_failures(program, tally, folder):
     with Service(program.path, folder) as service:
         status = service.end()
     os.rmdir(path)
-    tally.note("serve: the journal is a folder", differs("status", status, 2) + service.faults(2, said=[f"dervlask: {JOURNAL}: Is a directory"]))
+    tally.note("serve: the journal is a folder", differs("status", status, 2) + service.faults(2, said=[f"dervlask: {JOURNAL}: not a regular file"]))
     place_journal(folder, STORE + journal(*[domain(b"d%d.org" % it) for it in range(400_000)])[len(FIRST_OCTETS) :])
     with Service(program.path, folder, preexec=little_memory) as service:
         status = service.end()

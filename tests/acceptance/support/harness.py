@@ -15,6 +15,8 @@ REFUSED, HINT = 4, b"dervlask: try 'dervlask help'\n"
 # the status of `relay` where something is left: it says what failed if the connection did
 LEFT = 8
 TOLD = re.compile(rb"dervlask: [!-~][ -~]*\n")
+# what is said besides, with any status, where a journal was cut
+CUT = re.compile(rb"dervlask: mail\.journal: cut (?:1 octet that was no whole record; it is|[0-9]+ octets that were no whole record; they are) in mail\.journal\.cut\n")
 
 
 def show(octets):
@@ -77,7 +79,8 @@ class Program:
 
 def error_faults(status, said, words):
     """What is wrong with what a run said on standard error: one line where something outside failed, the hint where no command has the
-    words, and else nothing."""
+    words, and else nothing, but for what was cut."""
+    said = CUT.sub(b"", said, count=1)
     is_told = TOLD.fullmatch(said)
     if status == REFUSED:
         is_right = said == HINT

@@ -6,7 +6,7 @@ import subprocess
 import tempfile
 import threading
 
-from support.harness import SECONDS, differs, show
+from support.harness import CUT, SECONDS, differs, show
 
 JOURNAL = "mail.journal"
 POP, SMTP, IMAP = b"pop", b"smtp", b"imap"
@@ -59,7 +59,7 @@ class Talk:
             return bytes(self.heard)
 
     def end(self):
-        """Ends the input. Status, what was heard, and the journal then."""
+        """Ends the input. Status, what was heard, but for what standard error says of a cut, and the journal then."""
         try:
             self.socket.shutdown(socket.SHUT_WR)
         except OSError:
@@ -74,7 +74,7 @@ class Talk:
         self.running.stdout.close()
         journal = read_journal(self.path)
         self.folder.cleanup()
-        return status, bytes(self.heard), journal
+        return status, CUT.sub(b"", bytes(self.heard)), journal
 
 
 def place_journal(folder, journal):
