@@ -1,10 +1,12 @@
-//! Wires, texts, the file of a journal, pools of blocks, connections, fields and encoded words, each module by the public calls of the crate that it is named by.
+//! Wires, texts, the file of a journal, lines of HTTP, pools of blocks, connections, fields and encoded words, each module by the public calls of the crate that it is named by.
 #![tactic(auto)]
 
 #[cfg(test)]
 mod test_block_pool;
 #[cfg(test)]
 mod test_encoded_words;
+#[cfg(test)]
+mod test_http_lines;
 #[cfg(test)]
 mod test_journal_file;
 #[cfg(test)]

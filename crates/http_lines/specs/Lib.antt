@@ -1,0 +1,2 @@
+-- HTTP: the lines that requests begin with.
+pub mod Requests
