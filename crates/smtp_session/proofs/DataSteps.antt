@@ -1,14 +1,11 @@
 -- What the data of a stream, as far as they are there, do.
-use Rattle.std.proofs.Common.{◌≡◌, ℕ, List, [], ◌∷◌, ◌++◌, length, drop, refl, ap, Bool, true, false, Some, None, Option, Ok, Err, subst, if◌then◌else◌, append-nil}
-use Rattle.std.specs.Prelude.{not, codes}
-use Rattle.std.specs.Option.{option_map, is_some}
+use Rattle.std.proofs.Common.{◌≡◌, ℕ, List, [], ◌∷◌, ◌++◌, length, drop, refl, ap, Some, None, Option, Ok, Err, subst, append-nil}
+use Rattle.std.specs.Option.{option_map}
 use Rattle.std.proofs.Math.Seq.{drop-length}
 use Rattle.std.proofs.lemmas.List.Elements.{All-nil, All-from_recursion}
 use Rattle.mail_wire.specs.Dots.{unstuffed}
 use Rattle.mail_wire.specs.Lines.{Cut}
 use Rattle.mail_wire.specs.declared.outside.Fault.{Fault}
-use Rattle.mail_store.specs.Changing.{delivery_refusal}
-use Rattle.kept_mail.specs.Deliveries.{has_large_octets}
 use Rattle.mail_store.specs.StoreState.{StoreState}
 use Rattle.session_core.specs.Around.{Around}
 use Rattle.session_core.specs.Doing.{Does}
@@ -26,10 +23,11 @@ use Rattle.smtp_session.specs.declared.states.Data.{Data}
 use Rattle.smtp_session.specs.declared.states.Greeted.{Greeted}
 use Rattle.smtp_session.specs.declared.states.Smtp.{Smtp}
 use Rattle.smtp_session.specs.declared.states.SmtpState.TheVariants as smtp
-use Rattle.smtp_session.specs.Machine.{Step, acts_in, delivery_of, end_data, greeted, says, too_large}
+use Rattle.smtp_session.specs.Machine.{Step, acts_in, end_data, greeted}
 use Rattle.smtp_session.specs.Session.{Machine, SmtpStands, after_step, data_turn, line_octets, machine_of, next_turn, smtp_protocol}
 use Rattle.smtp_session.specs.laws.SmtpLaws.{framed_by}
 use Rattle.smtp_session.specs.private.Steps.{IsFirst}
+use Rattle.smtp_session.proofs.IntakeLemmas.{data_forget}
 use Rattle.smtp_session.proofs.LineSteps.{store_after}
 
 -- a session that takes data
@@ -55,20 +53,10 @@ unfolding next_turn
 head_turn oracles session reader desk moments machine kept octets rest cut stands is =
     rw stands.machine_is (ap (option_map (data_turn oracles (machine_of (taking session reader) desk moments) session.state.client session.state.envelope)) is)
 
--- whatever becomes of data the client stands greeted
-greeted_by : (client : Client) (large message refused : Bool) (text : List ℕ) (stored : Step) → stored.state ≡ greeted client
-    → (if large then too_large (greeted client) else if not message then says text (greeted client) else if refused then too_large (greeted client) else stored).state ≡ greeted client
-greeted_by client true message refused text stored is = refl
-greeted_by client false false refused text stored is = refl
-greeted_by client false true true text stored is = refl
-greeted_by client false true false text stored is = is
-
--- after data the client stands greeted
+-- whatever becomes of data, the client stands greeted
 finished_greeted : (oracles : Oracles) (session : Smtp Data) (store : StoreState) (moment : Moment) (octets : List ℕ)
     → (finished oracles session store moment octets).state ≡ greeted session.state.client
-finished_greeted oracles session store moment octets =
-    let delivery = delivery_of store session.state.client session.state.envelope moment octets in
-    greeted_by session.state.client (has_large_octets store.message_max delivery) (oracles.has_tree octets) (is_some (delivery_refusal store delivery)) (codes "554 5.6.0 not a message") _ refl
+finished_greeted oracles session store moment octets = data_forget oracles store session.state.client session.state.envelope moment octets
 
 -- ---- steps
 

@@ -19,6 +19,7 @@ use Rattle.session_core.proofs.DoingLemmas.{Does-changes, Does-replies}
 use Rattle.smtp_grammar.specs.Reading.{DataSay}
 use Rattle.smtp_session.specs.declared.states.Client.{Client}
 use Rattle.smtp_session.specs.declared.states.Envelope.{Envelope}
+use Rattle.smtp_session.specs.Loops.{is_looping}
 use Rattle.smtp_session.specs.Machine.{Step, acts_in, collecting, delivery_of, end_by, end_data, greeted, envelope_recipient_count, too_large, trace}
 use Rattle.smtp_session.specs.Session.{KnowsState, line_octets, reply_octets}
 use Rattle.smtp_session.specs.Trace.{return_path}
@@ -85,7 +86,7 @@ Does-same a b met first taken is does = rw (← is) does
 -- what is delivered is what is due at the end of the data
 pub end_is : (oracles : Oracles) (limit : ℕ) (store : StoreState) (client : Client) (envelope : Envelope) (moment : Moment) (lines content octets : List ℕ) (delivery : Delivery)
     → DataSay limit lines (Some content) → octets ≡ content → delivery ≡ delivery_of store client envelope moment content
-    → end_by (oracles.has_tree octets) store client delivery ≡ end_data oracles store client envelope moment (unstuffed lines)
+    → end_by (oracles.has_tree octets) (is_looping octets) store client delivery ≡ end_data oracles store client envelope moment (unstuffed lines)
 end_is oracles limit store client envelope moment lines content octets delivery says same made = rw (← says.0, same, made) refl
 
 -- and may be delivered

@@ -24,6 +24,7 @@ use Rattle.mail_store.proofs.DeliveryLemmas.{after-copies}
 use Rattle.smtp_session.specs.declared.states.Client.{Client}
 use Rattle.smtp_session.specs.declared.states.Envelope.{Envelope}
 use Rattle.smtp_session.specs.Intake.{AreRecipients, HasOneMore, IsKeptOnce, acceptance, entries_for, kept_after, messages_in}
+use Rattle.smtp_session.specs.Loops.{is_looping}
 use Rattle.smtp_session.specs.Machine.{Step, delivery_of, end_by, end_data, greeted, is_same_remote}
 use Rattle.session_core.specs.Oracles.{Oracles}
 use Rattle.session_core.specs.Moments.{Moment}
@@ -263,30 +264,33 @@ no_acceptance reply five is =
     omega (arith, two)
 
 -- what is accepted is delivered
-accepted_is : (is_message : Bool) (store : StoreState) (client : Client) (delivery : Delivery) → (end_by is_message store client delivery).reply ≡ acceptance
-    → (end_by is_message store client delivery).changes ≡ delivered store.kept delivery ∷ []
-accepted_is is_message store client delivery =
+accepted_is : (is_message loops : Bool) (store : StoreState) (client : Client) (delivery : Delivery) → (end_by is_message loops store client delivery).reply ≡ acceptance
+    → (end_by is_message loops store client delivery).changes ≡ delivered store.kept delivery ∷ []
+accepted_is is_message loops store client delivery =
     let P : Step → Type 0 = λ taken. taken.reply ≡ acceptance → taken.changes ≡ delivered store.kept delivery ∷ [] in
     cond_both (has_large_octets store.message_max delivery) _ _ P (λ large is. absurd (no_acceptance _ refl is))
     (λ small. cond_both (not is_message) _ _ P (λ none is. absurd (no_acceptance _ refl is))
-    (λ message. cond_both (is_some (delivery_refusal store delivery)) _ _ P (λ refused is. absurd (no_acceptance _ refl is)) (λ room is. refl)))
+    (λ message. cond_both loops _ _ P (λ circle is. absurd (no_acceptance _ refl is))
+    (λ straight. cond_both (is_some (delivery_refusal store delivery)) _ _ P (λ refused is. absurd (no_acceptance _ refl is)) (λ room is. refl))))
 
 -- what isn't accepted changes nothing
-refused_is : (is_message : Bool) (store : StoreState) (client : Client) (delivery : Delivery) → (end_by is_message store client delivery).reply ≢ acceptance
-    → (end_by is_message store client delivery).changes ≡ []
-refused_is is_message store client delivery =
+refused_is : (is_message loops : Bool) (store : StoreState) (client : Client) (delivery : Delivery) → (end_by is_message loops store client delivery).reply ≢ acceptance
+    → (end_by is_message loops store client delivery).changes ≡ []
+refused_is is_message loops store client delivery =
     let P : Step → Type 0 = λ taken. taken.reply ≢ acceptance → taken.changes ≡ [] in
     cond_both (has_large_octets store.message_max delivery) _ _ P (λ large other. refl)
     (λ small. cond_both (not is_message) _ _ P (λ none other. refl)
-    (λ message. cond_both (is_some (delivery_refusal store delivery)) _ _ P (λ refused other. refl) (λ room other. absurd (other refl))))
+    (λ message. cond_both loops _ _ P (λ circle other. refl)
+    (λ straight. cond_both (is_some (delivery_refusal store delivery)) _ _ P (λ refused other. refl) (λ room other. absurd (other refl)))))
 
 -- the data leave the client alone
-left_is : (is_message : Bool) (store : StoreState) (client : Client) (delivery : Delivery) → (end_by is_message store client delivery).state ≡ greeted client
-left_is is_message store client delivery =
+left_is : (is_message loops : Bool) (store : StoreState) (client : Client) (delivery : Delivery) → (end_by is_message loops store client delivery).state ≡ greeted client
+left_is is_message loops store client delivery =
     let P : Step → Type 0 = λ taken. taken.state ≡ greeted client in
     cond_both (has_large_octets store.message_max delivery) _ _ P (λ large. refl)
     (λ small. cond_both (not is_message) _ _ P (λ none. refl)
-    (λ message. cond_both (is_some (delivery_refusal store delivery)) _ _ P (λ refused. refl) (λ room. refl)))
+    (λ message. cond_both loops _ _ P (λ circle. refl)
+    (λ straight. cond_both (is_some (delivery_refusal store delivery)) _ _ P (λ refused. refl) (λ room. refl))))
 
 -- the accounts among the recipients have INBOXes
 recipients_have : (kept : Kept) (envelope : Envelope) → HaveInboxes kept → AreRecipients kept envelope → All (λ account. IsSome (inbox_of kept account)) envelope.local
@@ -306,13 +310,13 @@ pub accepted_kept_once : (oracles : Oracles) (store : StoreState) (client : Clie
     → IsKeptOnce store.kept (kept_after store (end_data oracles store client envelope moment octets)) (delivery_of store client envelope moment octets)
 accepted_kept_once oracles store client envelope moment octets fold are accepted =
     let delivery = delivery_of store client envelope moment octets in
-    let made = accepted_is (oracles.has_tree octets) store client delivery accepted in
+    let made = accepted_is (oracles.has_tree octets) (is_looping octets) store client delivery accepted in
     rw made (rw (append-nil (delivered store.kept delivery)) (delivered_once store.kept delivery envelope refl refl (have_inboxes store.kept fold) are))
 
 pub refused_kept_none : (oracles : Oracles) (store : StoreState) (client : Client) (envelope : Envelope) (moment : Moment) (octets : List ℕ)
     → (end_data oracles store client envelope moment octets).reply ≢ acceptance → (end_data oracles store client envelope moment octets).changes ≡ []
-refused_kept_none oracles store client envelope moment octets = refused_is (oracles.has_tree octets) store client (delivery_of store client envelope moment octets)
+refused_kept_none oracles store client envelope moment octets = refused_is (oracles.has_tree octets) (is_looping octets) store client (delivery_of store client envelope moment octets)
 
 pub data_forget : (oracles : Oracles) (store : StoreState) (client : Client) (envelope : Envelope) (moment : Moment) (octets : List ℕ)
     → (end_data oracles store client envelope moment octets).state ≡ greeted client
-data_forget oracles store client envelope moment octets = left_is (oracles.has_tree octets) store client (delivery_of store client envelope moment octets)
+data_forget oracles store client envelope moment octets = left_is (oracles.has_tree octets) (is_looping octets) store client (delivery_of store client envelope moment octets)

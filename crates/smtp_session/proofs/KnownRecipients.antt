@@ -1,5 +1,5 @@
 -- The recipients that a state names, through each command.
-use Rattle.std.proofs.Common.{◌≡◌, ℕ, suc, ◌+◌, ◌<◌, ◌==◌, Bool, false, List, [], ◌∷◌, ◌++◌, length, if◌then◌else◌, Option, Some, None, IfSome, subst, arith, inl, inr, codes}
+use Rattle.std.proofs.Common.{◌≡◌, ℕ, suc, ◌+◌, ◌<◌, ◌==◌, ◌&&◌, Bool, false, List, [], ◌∷◌, ◌++◌, length, if◌then◌else◌, Option, Some, None, IfSome, subst, arith, inl, inr, codes}
 use Rattle.std.specs.Prelude.{nat_lt, sum_by}
 use Rattle.std.specs.List.{AllByRecursion, IsDistinct, list_any}
 use Rattle.std.proofs.lemmas.Bool.{cases_Bool, cond_both, or_parts}
@@ -11,12 +11,13 @@ use Rattle.kept_mail.specs.Kept.{Kept, find_account, first_account, is_account_o
 use Rattle.mail_store.specs.StoreState.{StoreState}
 use Rattle.smtp_grammar.specs.declared.command.Verb.{Verb}
 use Rattle.smtp_grammar.specs.declared.command.Verb.TheVariants as verb
-use Rattle.smtp_grammar.specs.Commands.{announced, are_malformed, is_client, is_smtputf8, is_unknown, parameter_of, path_after}
+use Rattle.smtp_grammar.specs.Commands.{command_of, announced, are_malformed, is_client, is_smtputf8, is_unknown, parameter_of, path_after}
 use Rattle.smtp_session.specs.declared.states.Client.{Client}
 use Rattle.smtp_session.specs.declared.states.Envelope.{Envelope}
 use Rattle.smtp_session.specs.Intake.{AreRecipients, KnowsRecipients}
-use Rattle.smtp_session.specs.Machine.{State, Step, alone, collecting, data_step, ended, envelope_of, fresh, greeted, is_same_remote, lacks_smtputf8, mail, mail_by, mail_step, mail_to, path_read, rcpt_local, rcpt_remote, rcpt_step, rcpt_to, envelope_recipient_count, reset, step, with_room, words_after}
+use Rattle.smtp_session.specs.Machine.{State, Step, alone, collecting, data_step, ended, envelope_of, fresh, greeted, is_same_remote, lacks_smtputf8, mail, mail_by, mail_step, mail_to, path_read, rcpt_local, rcpt_remote, rcpt_step, rcpt_to, envelope_recipient_count, reset, awaits_first, past_first, line_step, step, with_room, words_after}
 use Rattle.session_core.specs.Oracles.{Oracles}
+use Rattle.http_lines.specs.Requests.{is_http_request}
 
 -- ---- one more recipient
 
@@ -88,7 +89,7 @@ rcpt_to-known oracles client envelope store (Some (Some address)) known =
 
 rcpt-known : (oracles : Oracles) (state : State) (store : StoreState) (argument : List ℕ) → KnowsRecipients store.kept state → KnowsRecipients store.kept (rcpt_step oracles state store argument).state
 rcpt-known oracles (mail client envelope) store argument known = rcpt_to-known oracles client envelope store (path_read oracles (alone (path_after (codes "TO:") argument))) known
-rcpt-known oracles fresh store argument known = tt
+rcpt-known oracles (fresh first) store argument known = tt
 rcpt-known oracles (greeted client) store argument known = tt
 rcpt-known oracles (collecting client envelope) store argument known = known
 rcpt-known oracles ended store argument known = tt
@@ -116,7 +117,7 @@ mail-known : (oracles : Oracles) (state : State) (store : StoreState) (argument 
 mail-known oracles (greeted client) store argument known =
     let given = path_after (codes "FROM:") argument in
     mail_by-known store.kept client store (path_read oracles given) (words_after given)
-mail-known oracles fresh store argument known = tt
+mail-known oracles (fresh first) store argument known = tt
 mail-known oracles (mail client envelope) store argument known = known
 mail-known oracles (collecting client envelope) store argument known = known
 mail-known oracles ended store argument known = tt
@@ -127,14 +128,14 @@ data-known : (kept : Kept) (state : State) → KnowsRecipients kept state → Kn
 data-known kept (mail client envelope) known =
     let P : Step → Type 0 = λ taken. KnowsRecipients kept taken.state in
     cond_both (envelope_recipient_count envelope == 0) _ _ P (λ none. known) (λ some. known)
-data-known kept fresh known = tt
+data-known kept (fresh first) known = tt
 data-known kept (greeted client) known = tt
 data-known kept (collecting client envelope) known = known
 data-known kept ended known = tt
 
 reset-known : (kept : Kept) (state : State) → KnowsRecipients kept state → KnowsRecipients kept (reset state)
 reset-known kept (mail client envelope) known = tt
-reset-known kept fresh known = tt
+reset-known kept (fresh first) known = tt
 reset-known kept (greeted client) known = tt
 reset-known kept (collecting client envelope) known = known
 reset-known kept ended known = tt
@@ -157,3 +158,18 @@ step-recipients oracles state store verb.Noop argument known = known
 step-recipients oracles state store verb.Vrfy argument known = known
 step-recipients oracles state store verb.Quit argument known = tt
 step-recipients oracles state store verb.Other argument known = known
+
+-- and so does a whole line
+past_first-known : (kept : Kept) (state : State) → KnowsRecipients kept state → KnowsRecipients kept (past_first state)
+past_first-known kept (fresh first) known = tt
+past_first-known kept (greeted client) known = tt
+past_first-known kept (mail client envelope) known = known
+past_first-known kept (collecting client envelope) known = known
+past_first-known kept ended known = tt
+
+pub line-recipients : (oracles : Oracles) (state : State) (store : StoreState) (line : List ℕ) → KnowsRecipients store.kept state
+    → KnowsRecipients store.kept (line_step oracles state store line).state
+unfolding line_step
+line-recipients oracles state store line known =
+    greeting-known store.kept (awaits_first state && is_http_request line) _ _ tt
+    (step-recipients oracles (past_first state) store (command_of line).verb (command_of line).argument (past_first-known store.kept state known))

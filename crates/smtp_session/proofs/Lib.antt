@@ -2,6 +2,7 @@ pub mod ReplyLemmas
 pub mod RecipientLemmas
 pub mod RowLemmas
 pub mod WrittenPaths
+pub mod LoopLemmas
 pub mod LineSteps
 pub mod DataSteps
 pub mod KeptLemmas

@@ -20,14 +20,13 @@ use Rattle.session_core.proofs.DoingLemmas.{Does-replies, DoesFirst-none}
 use Rattle.session_core.proofs.DoneLemmas.{changes_in-acts}
 use Rattle.session_core.proofs.FramedSteps.{none_kept}
 use Rattle.session_core.proofs.StepLemmas.{StepsBy-turn, StepsBy-fails, StepsBy-waits}
-use Rattle.smtp_grammar.specs.Commands.{command_of}
 use Rattle.smtp_grammar.specs.Reading.{HasRead}
 use Rattle.smtp_session.specs.declared.session.SmtpMachine.{SmtpMachine}
 use Rattle.smtp_session.specs.declared.states.SmtpState.{SmtpState}
 use Rattle.smtp_session.specs.declared.states.SmtpState.TheVariants as smtp
 use Rattle.smtp_session.specs.Machine.{Step, acts_in, ended}
 use Rattle.smtp_session.specs.Session.{HasRest, IsUnfinished, KnowsState, Machine, SmtpStands, after_step, greeting, line_octets, line_too_long, line_turn, machine_of, next_turn, reply_octets, smtp_protocol, state_of, state_or_ended}
-use Rattle.smtp_session.specs.laws.SmtpLaws.{framed_by, step-changes}
+use Rattle.smtp_session.specs.laws.SmtpLaws.{framed_by, line_step-changes}
 use Rattle.smtp_session.specs.private.Steps.{IsFirst, IsFirstNext, ReadsLines, state_after, stepped}
 
 -- ---- states that read lines
@@ -113,8 +112,7 @@ does_by a b met taken octets none is replies = rw none (Does-replies line_octets
 pub Does-line : (a b : Around) (met : Option Fault) (state : SmtpState) (line octets : List ℕ) → WithOracles (λ oracles. octets ≡ reply_octets (stepped oracles state a.desk.store line).reply)
     → Replies a b met octets → WithOracles (λ oracles. Does line_octets a b met (acts_in (stepped oracles state a.desk.store line)))
 Does-line a b met state line octets reply replies = λ oracles are.
-    let command = command_of line in
-    does_by a b met (stepped oracles state a.desk.store line) octets (step-changes oracles (state_of state) a.desk.store command.verb command.argument) (reply oracles are) replies
+    does_by a b met (stepped oracles state a.desk.store line) octets (line_step-changes oracles (state_of state) a.desk.store line) (reply oracles are) replies
 
 -- nothing of it was done
 pub DoesFirst-no_line : (a : Around) (met : Fault) (state : SmtpState) (line : List ℕ) → (met ≡ fault.Keeper → ⊥)

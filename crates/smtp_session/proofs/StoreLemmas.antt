@@ -8,14 +8,13 @@ use Rattle.mail_store.specs.StoreState.{StoreState, with_records}
 use Rattle.mail_wire.specs.Dots.{unstuffed}
 use Rattle.mail_wire.specs.Framing.{Framed, waiting, whole, too_long, next_line}
 use Rattle.mail_wire.specs.Lines.{Cut}
-use Rattle.smtp_grammar.specs.Commands.{command_of}
 use Rattle.smtp_grammar.specs.Data.{data_cut}
 use Rattle.session_core.specs.Acts.{Act, acts_of, changes_in}
 use Rattle.session_core.specs.Oracles.{Oracles}
 use Rattle.session_core.specs.Turns.{Turn}
 use Rattle.session_core.proofs.DoneLemmas.{changes_in-acts}
 use Rattle.session_core.proofs.StoreTurns.{Tracks, all_track}
-use Rattle.smtp_session.specs.Machine.{State, collecting, end_data, ended, fresh, greeted, mail, step}
+use Rattle.smtp_session.specs.Machine.{State, collecting, end_data, ended, fresh, greeted, line_step, mail}
 use Rattle.smtp_session.specs.Session.{Machine, data_turn, line_too_long, line_turn, next_moment, next_turn, turn_from, turns_of}
 use Rattle.smtp_session.specs.declared.states.Client.{Client}
 use Rattle.smtp_session.specs.declared.states.Envelope.{Envelope}
@@ -30,7 +29,7 @@ TracksStore machine turn = Tracks (λ (m : Machine). m.store) machine turn
 line_tracks : (oracles : Oracles) (machine : Machine) (framed : Framed) (turn : Turn Machine (Act (List ℕ))) → line_turn oracles machine framed ≡ Some turn → TracksStore machine turn
 line_tracks oracles machine waiting turn is = cc
 line_tracks oracles machine (whole text rest) turn is =
-    let taken = step oracles machine.state machine.store (command_of text).verb (command_of text).argument in
+    let taken = line_step oracles machine.state machine.store text in
     subst (TracksStore machine) (same_Some _ _ is) (with_changes machine.store taken.changes taken.reply)
 line_tracks oracles machine (too_long rest) turn is = subst (TracksStore machine) (same_Some _ _ is) (with_changes machine.store [] line_too_long)
 
@@ -42,7 +41,7 @@ data_tracks oracles machine client envelope (Some cut) turn is =
     subst (TracksStore machine) (same_Some _ _ is) (with_changes machine.store taken.changes taken.reply)
 
 turn_tracks : (oracles : Oracles) (state : State) (machine : Machine) (octets : List ℕ) (turn : Turn Machine (Act (List ℕ))) → turn_from oracles state machine octets ≡ Some turn → TracksStore machine turn
-turn_tracks oracles fresh machine octets turn is = line_tracks oracles machine (next_line octets) turn is
+turn_tracks oracles (fresh first) machine octets turn is = line_tracks oracles machine (next_line octets) turn is
 turn_tracks oracles (greeted client) machine octets turn is = line_tracks oracles machine (next_line octets) turn is
 turn_tracks oracles (mail client envelope) machine octets turn is = line_tracks oracles machine (next_line octets) turn is
 turn_tracks oracles (collecting client envelope) machine octets turn is = data_tracks oracles machine client envelope (data_cut octets) turn is

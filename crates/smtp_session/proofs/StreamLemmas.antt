@@ -20,21 +20,20 @@ use Rattle.mail_store.specs.Changing.{delivery_refusal}
 use Rattle.kept_mail.specs.Deliveries.{delivered, has_large_octets}
 use Rattle.kept_mail.specs.Kept.{name_of}
 use Rattle.mail_store.specs.StoreState.{StoreState, with_records}
-use Rattle.smtp_grammar.specs.declared.command.Verb.{Verb}
-use Rattle.smtp_grammar.specs.Commands.{command_of}
 use Rattle.smtp_grammar.specs.Data.{data_cut}
 use Rattle.smtp_session.specs.declared.states.Client.{Client}
 use Rattle.smtp_session.specs.declared.states.Envelope.{Envelope}
 use Rattle.smtp_session.specs.Intake.{AreRecipients, IsKeptOnce, KeepsAccepted, KnowsRecipients, Keeps, NoMore, Says, acceptance, stored_line}
-use Rattle.smtp_session.specs.Machine.{State, fresh, greeted, mail, collecting, ended, Step, acts_in, delivery_of, end_by, end_data, step}
+use Rattle.smtp_session.specs.Machine.{State, fresh, greeted, mail, collecting, ended, Step, acts_in, delivery_of, end_by, end_data, line_step}
+use Rattle.smtp_session.specs.Loops.{is_looping}
 use Rattle.session_core.specs.Oracles.{Oracles}
 use Rattle.smtp_session.specs.Session.{Machine, after_step, data_turn, later_moments, line_too_long, line_turn, next_moment, next_turn, start_of, turn_from, turns_of}
 use Rattle.session_core.specs.Desks.{IsStoreName}
 use Rattle.session_core.specs.Moments.{Moment}
 use Rattle.smtp_session.proofs.IntakeLemmas.{HaveInboxes, delivered_once, have_inboxes, inboxes_after_all}
-use Rattle.smtp_session.proofs.KnownRecipients.{step-recipients}
-use Rattle.smtp_session.specs.laws.SaidLines.{SaidLines, step_said}
-use Rattle.smtp_session.specs.laws.SmtpLaws.{framed_by, named_after, step-changes}
+use Rattle.smtp_session.proofs.KnownRecipients.{line-recipients}
+use Rattle.smtp_session.specs.laws.SaidLines.{SaidLines, line_said}
+use Rattle.smtp_session.specs.laws.SmtpLaws.{framed_by, named_after, line_step-changes}
 
 -- ---- no other line tells that a message is stored
 
@@ -69,6 +68,7 @@ other_lines store named = record {
   goodbye = differs_at 1 _ refl;
   full = differs_at 0 _ refl;
   unknown = differs_at 0 _ refl;
+  request = differs_at 0 _ refl;
   bad = differs_at 0 _ refl;
   disordered = differs_at 0 _ refl;
   nobody = differs_at 0 _ refl;
@@ -95,19 +95,19 @@ record IsTurn (store : StoreState) (turn : Turn Machine (Act (List ℕ))) : Type
   brings : Brings store turn
   stays : Stays turn.after
 
--- a command
-command_turn : (oracles : Oracles) (machine : Machine) (word : Verb) (argument rest : List ℕ) → Stays machine
-    → let taken = step oracles machine.state machine.store word argument in
+-- what a line does
+command_turn : (oracles : Oracles) (machine : Machine) (line rest : List ℕ) → Stays machine
+    → let taken = line_step oracles machine.state machine.store line in
     IsTurn machine.store (record { parts = acts_in taken; after = after_step machine.store machine.moments taken; rest = rest })
-command_turn oracles machine word argument rest stays =
-    let taken = step oracles machine.state machine.store word argument in
-    let none = step-changes oracles machine.state machine.store word argument in
+command_turn oracles machine line rest stays =
+    let taken = line_step oracles machine.state machine.store line in
+    let none = line_step-changes oracles machine.state machine.store line in
     rw none
     (record {
-      brings = Answers taken.reply (step_said IsOther oracles machine.state machine.store word argument (other_lines machine.store stays.named)) refl refl;
+      brings = Answers taken.reply (line_said IsOther oracles machine.state machine.store line (other_lines machine.store stays.named)) refl refl;
       stays = record {
         inboxes = stays.inboxes;
-        recipients = step-recipients oracles machine.state machine.store word argument stays.recipients;
+        recipients = line-recipients oracles machine.state machine.store line stays.recipients;
         named = stays.named;
       };
     })
@@ -117,7 +117,7 @@ line_brings : (oracles : Oracles) (machine : Machine) (framed : Framed) (turn : 
     → IsTurn machine.store turn
 line_brings oracles machine waiting turn stays is = absurd (none-some _ is)
 line_brings oracles machine (whole text rest) turn stays is =
-    subst (IsTurn machine.store) (same_Some _ _ is) (command_turn oracles machine (command_of text).verb (command_of text).argument rest stays)
+    subst (IsTurn machine.store) (same_Some _ _ is) (command_turn oracles machine text rest stays)
 line_brings oracles machine (too_long rest) turn stays is =
     subst (IsTurn machine.store) (same_Some _ _ is)
     (record {
@@ -130,12 +130,13 @@ data Ends (store : StoreState) (client : Client) (delivery : Delivery) (taken : 
   Stored : taken ≡ (let kept : Step = record { changes = delivered store.kept delivery ∷ []; reply = acceptance; state = greeted client } in kept) → Ends store client delivery taken
   Refused : (line : List ℕ) → IsOther line → taken ≡ (let told : Step = record { changes = []; reply = line ∷ []; state = greeted client } in told) → Ends store client delivery taken
 
-ends_by : (is_message : Bool) (store : StoreState) (client : Client) (delivery : Delivery) → Ends store client delivery (end_by is_message store client delivery)
-ends_by is_message store client delivery =
+ends_by : (is_message loops : Bool) (store : StoreState) (client : Client) (delivery : Delivery) → Ends store client delivery (end_by is_message loops store client delivery)
+ends_by is_message loops store client delivery =
     let P : Step → Type 0 = Ends store client delivery in
     cond_both (has_large_octets store.message_max delivery) _ _ P (λ large. Refused _ (differs_at 0 _ refl) refl)
     (λ small. cond_both (not is_message) _ _ P (λ none. Refused _ (differs_at 0 _ refl) refl)
-    (λ message. cond_both (is_some (delivery_refusal store delivery)) _ _ P (λ refused. Refused _ (differs_at 0 _ refl) refl) (λ room. Stored refl)))
+    (λ message. cond_both loops _ _ P (λ circle. Refused _ (differs_at 0 _ refl) refl)
+    (λ straight. cond_both (is_some (delivery_refusal store delivery)) _ _ P (λ refused. Refused _ (differs_at 0 _ refl) refl) (λ room. Stored refl))))
 
 -- the end of data
 end_turn : (store : StoreState) (client : Client) (delivery : Delivery) (envelope : Envelope) (moments : List Moment) (rest : List ℕ) (taken : Step)
@@ -168,11 +169,11 @@ data_brings oracles machine client envelope (Some cut) turn stays are is =
     let delivery = delivery_of machine.store client envelope moment (unstuffed cut.line) in
     subst (IsTurn machine.store) (same_Some _ _ is)
     (end_turn machine.store client delivery envelope (later_moments machine.moments) cut.rest (end_data oracles machine.store client envelope moment (unstuffed cut.line)) refl refl
-    stays.inboxes are stays.named (ends_by (oracles.has_tree (unstuffed cut.line)) machine.store client delivery))
+    stays.inboxes are stays.named (ends_by (oracles.has_tree (unstuffed cut.line)) (is_looping (unstuffed cut.line)) machine.store client delivery))
 
 turn_brings : (oracles : Oracles) (state : State) (machine : Machine) (octets : List ℕ) (turn : Turn Machine (Act (List ℕ))) → Stays machine
     → KnowsRecipients machine.store.kept state → turn_from oracles state machine octets ≡ Some turn → IsTurn machine.store turn
-turn_brings oracles fresh machine octets turn stays known is = line_brings oracles machine (next_line octets) turn stays is
+turn_brings oracles (fresh first) machine octets turn stays known is = line_brings oracles machine (next_line octets) turn stays is
 turn_brings oracles (greeted client) machine octets turn stays known is = line_brings oracles machine (next_line octets) turn stays is
 turn_brings oracles (mail client envelope) machine octets turn stays known is = line_brings oracles machine (next_line octets) turn stays is
 turn_brings oracles (collecting client envelope) machine octets turn stays known is = data_brings oracles machine client envelope (data_cut octets) turn stays known is

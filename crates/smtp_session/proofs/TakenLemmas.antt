@@ -26,6 +26,7 @@ use Rattle.mail_wire.proofs.DotLemmas.{unstuffed_back}
 use Rattle.smtp_session.specs.declared.states.Client.{Client}
 use Rattle.smtp_session.specs.declared.states.Envelope.{Envelope}
 use Rattle.smtp_session.specs.Intake.{acceptance, stored_line}
+use Rattle.smtp_session.specs.Loops.{is_looping}
 use Rattle.smtp_session.specs.Machine.{Step, acts_in, collecting, delivery_of, end_by, end_data, greeted, mail, envelope_recipient_count, says, step}
 use Rattle.session_core.specs.Oracles.{Oracles, TellsTrees}
 use Rattle.smtp_session.specs.Room.{IsWithinLimits}
@@ -78,33 +79,33 @@ not_refused large many first second = rw (first, second) refl
 tells_true : (has_tree : List ℕ → Bool) (octets : List ℕ) → TellsTrees has_tree → IsStored octets → has_tree octets ≡ true
 tells_true has_tree octets observed stored = let t = (observed octets).1 stored in search rules
 
--- the last of four steps by three tests
-last_of : (large is_message : Bool) (refusal : Option StoreFault) (a b c d : Step) → large ≡ false → is_message ≡ true → refusal ≡ None
-    → cond large a (cond (not is_message) b (cond (is_some refusal) c d)) ≡ d
-last_of large is_message refusal a b c d p q r = rw (p, q, r) refl
+-- the last of five steps by four tests
+last_of : (large is_message loops : Bool) (refusal : Option StoreFault) (a b c d e : Step) → large ≡ false → is_message ≡ true → loops ≡ false → refusal ≡ None
+    → cond large a (cond (not is_message) b (cond loops c (cond (is_some refusal) d e))) ≡ e
+last_of large is_message loops refusal a b c d e p q r s = rw (p, q, r, s) refl
 
 -- the step that keeps a delivery
 abbrev keeping : StoreState → Client → Delivery → Step
 keeping store client delivery = record { changes = delivered store.kept delivery ∷ []; reply = acceptance; state = greeted client }
 
-kept_by : (is_message : Bool) (store : StoreState) (client : Client) (delivery : Delivery) → is_message ≡ true → IsWithinLimits store delivery
-    → end_by is_message store client delivery ≡ keeping store client delivery
-kept_by is_message store client delivery is within =
+kept_by : (is_message loops : Bool) (store : StoreState) (client : Client) (delivery : Delivery) → is_message ≡ true → loops ≡ false → IsWithinLimits store delivery
+    → end_by is_message loops store client delivery ≡ keeping store client delivery
+kept_by is_message loops store client delivery is straight within =
     let large = not_large store delivery within in
-    last_of (has_large_octets store.message_max delivery) is_message (delivery_refusal store delivery) _ _ _ (keeping store client delivery) large is
+    last_of (has_large_octets store.message_max delivery) is_message loops (delivery_refusal store delivery) _ _ _ _ (keeping store client delivery) large is straight
     (not_refused (has_large_octets store.message_max delivery) (has_many_things store.kept delivery) large (not_many store delivery within))
 
 data_kept : (oracles : Oracles) (store : StoreState) (client : Client) (envelope : Envelope) (moment : Moment) (octets : List ℕ)
-    → TellsTrees oracles.has_tree → IsStored octets → IsWithinLimits store (delivery_of store client envelope moment octets)
+    → TellsTrees oracles.has_tree → IsStored octets → is_looping octets ≡ false → IsWithinLimits store (delivery_of store client envelope moment octets)
     → end_data oracles store client envelope moment octets ≡ keeping store client (delivery_of store client envelope moment octets)
-data_kept oracles store client envelope moment octets observed tree within =
-    kept_by (oracles.has_tree octets) store client (delivery_of store client envelope moment octets) (tells_true oracles.has_tree octets observed tree) within
+data_kept oracles store client envelope moment octets observed tree straight within =
+    kept_by (oracles.has_tree octets) (is_looping octets) store client (delivery_of store client envelope moment octets) (tells_true oracles.has_tree octets observed tree) straight within
 
 pub data_accepted : (oracles : Oracles) (store : StoreState) (client : Client) (envelope : Envelope) (moment : Moment) (octets : List ℕ)
-    → TellsTrees oracles.has_tree → IsStored octets → IsWithinLimits store (delivery_of store client envelope moment octets)
+    → TellsTrees oracles.has_tree → IsStored octets → is_looping octets ≡ false → IsWithinLimits store (delivery_of store client envelope moment octets)
     → (end_data oracles store client envelope moment octets).reply ≡ acceptance
-data_accepted oracles store client envelope moment octets observed tree within =
-    ap (λ (taken : Step). taken.reply) (data_kept oracles store client envelope moment octets observed tree within)
+data_accepted oracles store client envelope moment octets observed tree straight within =
+    ap (λ (taken : Step). taken.reply) (data_kept oracles store client envelope moment octets observed tree straight within)
 
 -- ---- the stream
 
@@ -130,11 +131,11 @@ abbrev brings : Oracles → StoreState → List Moment → List ℕ → Step →
 brings oracles store moments rest taken = following (acts_in taken) (turns_of oracles (after_step store (later_moments moments) taken) rest)
 
 pub sent_kept : (oracles : Oracles) (store : StoreState) (client : Client) (envelope : Envelope) (moments : List Moment) (octets rest : List ℕ) → TellsTrees oracles.has_tree
-    → IsEnded octets → IsStored octets → let delivery = delivery_of store client envelope (next_moment moments) octets in IsWithinLimits store delivery
+    → IsEnded octets → IsStored octets → is_looping octets ≡ false → let delivery = delivery_of store client envelope (next_moment moments) octets in IsWithinLimits store delivery
     → turns_of oracles (record { state = collecting client envelope; store = store; moments = moments }) (sent octets rest)
     ≡ following (changes (delivered store.kept delivery) ∷ gives stored_line ∷ [])
     (turns_of oracles (record { state = greeted client; store = with_records store (delivered store.kept delivery); moments = later_moments moments }) rest)
-sent_kept oracles store client envelope moments octets rest observed ended tree within =
+sent_kept oracles store client envelope moments octets rest observed ended tree straight within =
     let machine : Machine = record { state = collecting client envelope; store = store; moments = moments } in
     let moment = next_moment moments in
     let delivery = delivery_of store client envelope moment octets in
@@ -145,5 +146,5 @@ sent_kept oracles store client envelope moments octets rest observed ended tree 
     all_turns-go (next_turn oracles) (framed_by oracles) machine (sent octets rest) (data_turn oracles machine client envelope whole)
     (first_turn oracles store client envelope moments (sent octets rest) whole (sent_found octets ended rest))
     ∙ ap (λ said. brings oracles store moments rest (end_data oracles store client envelope moment said)) (unstuffed_back octets)
-    ∙ ap (brings oracles store moments rest) (data_kept oracles store client envelope moment octets observed tree within)
+    ∙ ap (brings oracles store moments rest) (data_kept oracles store client envelope moment octets observed tree straight within)
     ∙ ap next (append-nil records)

@@ -126,7 +126,7 @@ rcpt-taken oracles (mail client envelope) store argument ok =
       smtputf8 = takes.takes.smtputf8;
       taken = takes.takes.taken;
     }
-rcpt-taken oracles fresh store argument ok = absurd (other_reply _ recipient_ok 53 50 refl refl (omega arith) ok)
+rcpt-taken oracles (fresh first) store argument ok = absurd (other_reply _ recipient_ok 53 50 refl refl (omega arith) ok)
 rcpt-taken oracles (greeted client) store argument ok = absurd (other_reply _ recipient_ok 53 50 refl refl (omega arith) ok)
 rcpt-taken oracles (collecting client envelope) store argument ok = absurd (other_reply _ recipient_ok 53 50 refl refl (omega arith) ok)
 rcpt-taken oracles ended store argument ok = absurd (other_reply _ recipient_ok 53 50 refl refl (omega arith) ok)
@@ -161,7 +161,7 @@ mail-taken oracles (greeted client) store argument ok =
     let given = path_after (codes "FROM:") argument in
     let left = mail_by-begins client store (path_read oracles given) (words_after given) ok in
     record { client = client; new = left.0; before_is = refl; after_is = left.1; says = left.2; local = left.3; remote = left.4 }
-mail-taken oracles fresh store argument ok = absurd (other_reply _ sender_ok 53 50 refl refl (omega arith) ok)
+mail-taken oracles (fresh first) store argument ok = absurd (other_reply _ sender_ok 53 50 refl refl (omega arith) ok)
 mail-taken oracles (mail client envelope) store argument ok = absurd (other_reply _ sender_ok 53 50 refl refl (omega arith) ok)
 mail-taken oracles (collecting client envelope) store argument ok = absurd (other_reply _ sender_ok 53 50 refl refl (omega arith) ok)
 mail-taken oracles ended store argument ok = absurd (other_reply _ sender_ok 53 50 refl refl (omega arith) ok)
@@ -178,7 +178,7 @@ data-taken (mail client envelope) =
     cond_both (envelope_recipient_count envelope == 0) _ _ (λ (taken : Step). taken.reply ≡ go_ahead → TakesData (mail client envelope) taken.state)
     (λ none ok. absurd (other_reply _ go_ahead 53 51 refl refl (omega arith) ok))
     (λ some ok. record { client = client; envelope = envelope; before_is = refl; after_is = refl })
-data-taken fresh = λ ok. absurd (other_reply _ go_ahead 53 51 refl refl (omega arith) ok)
+data-taken (fresh first) = λ ok. absurd (other_reply _ go_ahead 53 51 refl refl (omega arith) ok)
 data-taken (greeted client) = λ ok. absurd (other_reply _ go_ahead 53 51 refl refl (omega arith) ok)
 data-taken (collecting client envelope) = λ ok. absurd (other_reply _ go_ahead 53 51 refl refl (omega arith) ok)
 data-taken ended = λ ok. absurd (other_reply _ go_ahead 53 51 refl refl (omega arith) ok)

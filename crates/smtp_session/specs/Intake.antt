@@ -26,7 +26,7 @@ pub record AreRecipients (kept : Kept) (envelope : Envelope) : Type 0 where
 
 -- the recipients that a state names are such
 abbrev pub KnowsRecipients : Kept → State → Type 0
-KnowsRecipients kept fresh = Unit {0}
+KnowsRecipients kept (fresh first) = Unit {0}
 KnowsRecipients kept (greeted client) = Unit {0}
 KnowsRecipients kept (mail client envelope) = AreRecipients kept envelope
 KnowsRecipients kept (collecting client envelope) = AreRecipients kept envelope

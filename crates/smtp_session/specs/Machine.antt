@@ -15,20 +15,22 @@ use Rattle.kept_mail.specs.declared.limits.TheConstants.{RECIPIENTS_MAX}
 use Rattle.journal_records.specs.declared.records.Record.{Record}
 use Rattle.smtp_grammar.specs.declared.command.Verb.{Verb}
 use Rattle.smtp_grammar.specs.declared.command.Verb.TheVariants as verb
-use Rattle.smtp_grammar.specs.Commands.{PathAndRest, is_client, path_after, white_words, parameter_of, are_malformed, is_unknown, is_smtputf8, announced}
+use Rattle.smtp_grammar.specs.Commands.{PathAndRest, command_of, is_client, path_after, white_words, parameter_of, are_malformed, is_unknown, is_smtputf8, announced}
 use Rattle.smtp_session.specs.declared.states.Client.{Client}
 use Rattle.smtp_session.specs.declared.states.Envelope.{Envelope}
 use Rattle.session_core.specs.Acts.{Act, acts_of}
 use Rattle.session_core.specs.Oracles.{Oracles}
 use Rattle.session_core.specs.Moments.{Moment}
+use Rattle.http_lines.specs.Requests.{is_http_request}
+use Rattle.smtp_session.specs.Loops.{is_looping}
 use Rattle.smtp_session.specs.Trace.{protocol, return_path, received}
 
 -- ---- states and steps
 
 -- The states of a session (RFC 5321, 4.1.4).
 pub data State : Type 0 where
-  -- nobody has greeted
-  fresh : State
+  -- nobody has greeted; the next line is the first of the session, or it isn't
+  fresh : (first : Bool) → State
   -- EHLO or HELO was accepted
   greeted : (client : Client) → State
   -- MAIL was accepted, and these recipients
@@ -221,6 +223,28 @@ step oracles state store verb.Vrfy argument = says (codes "252 2.5.0 send and se
 step oracles state store verb.Quit argument = says (codes "221 2.0.0 bye") ended
 step oracles state store verb.Other argument = says (codes "500 5.5.2 unknown command") state
 
+-- ---- lines
+
+-- the next line is the first of the session
+abbrev pub awaits_first : State → Bool
+awaits_first (fresh first) = first
+awaits_first state = false
+
+-- a line was taken
+abbrev pub past_first : State → State
+past_first (fresh first) = fresh false
+past_first state = state
+
+-- An HTTP request is no mail: a client that begins with one is answered 500, and nothing that it sends after it is read.
+abbrev pub request_refused : Step
+request_refused = says (codes "500 5.5.2 syntax error") ended
+
+-- A whole line, with its CRLF: its command, but where the session begins with an HTTP request.
+unfoldable pub line_step : Oracles → State → StoreState → List ℕ → Step
+line_step oracles state store line =
+    if awaits_first state && is_http_request line then request_refused
+    else step oracles (past_first state) store (command_of line).verb (command_of line).argument
+
 -- ---- the end of the data
 
 -- the field that tells where the message came from
@@ -238,15 +262,16 @@ delivery_of store client envelope moment octets = record {
   date = moment.internal;
 }
 
--- Data that would be kept too large are refused before those that are no message. A store that would pass another limit has
--- the reply of the first.
-abbrev pub end_by : Bool → StoreState → Client → Delivery → Step
-end_by is_message store client delivery =
+-- Data that would be kept too large are refused before those that are no message, and these before a message that goes in a circle
+-- (RFC 5321, 6.3). A store that would pass another limit has the reply of the first.
+abbrev pub end_by : Bool → Bool → StoreState → Client → Delivery → Step
+end_by is_message loops store client delivery =
     if has_large_octets store.message_max delivery then too_large (greeted client)
     else if not is_message then says (codes "554 5.6.0 not a message") (greeted client)
+    else if loops then says (codes "554 5.4.6 routing loop") (greeted client)
     else if is_some (delivery_refusal store delivery) then too_large (greeted client)
     else record { changes = delivered store.kept delivery ∷ []; reply = codes "250 2.0.0 stored" ∷ []; state = greeted client }
 
 -- The end of the data: the message is stored and queued, or it is refused (RFC 5321, 4.1.1.4).
 abbrev pub end_data : Oracles → StoreState → Client → Envelope → Moment → List ℕ → Step
-end_data oracles store client envelope moment octets = end_by (oracles.has_tree octets) store client (delivery_of store client envelope moment octets)
+end_data oracles store client envelope moment octets = end_by (oracles.has_tree octets) (is_looping octets) store client (delivery_of store client envelope moment octets)

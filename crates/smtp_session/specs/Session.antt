@@ -11,7 +11,7 @@ use Rattle.mail_store.specs.Following.{records_of}
 use Rattle.kept_mail.specs.Kept.{name_of}
 use Rattle.mail_store.specs.StoreState.{StoreState, with_records}
 use Rattle.kept_mail.specs.declared.limits.TheConstants.{RECIPIENTS_MAX}
-use Rattle.smtp_grammar.specs.Commands.{command_of, is_client}
+use Rattle.smtp_grammar.specs.Commands.{is_client}
 use Rattle.smtp_grammar.specs.Data.{data_cut}
 use Rattle.smtp_grammar.specs.Reading.{HasRead}
 use Rattle.session_core.specs.Acts.{Act, acts_of}
@@ -21,7 +21,7 @@ use Rattle.session_core.specs.Moments.{Moment}
 use Rattle.session_core.specs.Protocol.{Protocol}
 use Rattle.session_core.specs.Turns.{Turn, all_turns}
 use Rattle.session_core.specs.declared.desk.Desk.{Desk}
-use Rattle.smtp_session.specs.Machine.{State, Step, acts_in, collecting, end_data, ended, fresh, greeted, mail, envelope_recipient_count, step}
+use Rattle.smtp_session.specs.Machine.{State, Step, acts_in, collecting, end_data, ended, fresh, greeted, mail, envelope_recipient_count, line_step}
 use Rattle.smtp_session.specs.declared.session.SmtpMachine.{SmtpMachine}
 use Rattle.smtp_session.specs.declared.states.Client.{Client}
 use Rattle.smtp_session.specs.declared.states.Envelope.{Envelope}
@@ -72,7 +72,7 @@ after_step store moments taken = record { state = taken.state; store = with_reco
 abbrev pub line_turn : Oracles → Machine → Framed → Option (Turn Machine (Act (List ℕ)))
 line_turn oracles machine waiting = None
 line_turn oracles machine (whole text rest) =
-    let taken = step oracles machine.state machine.store (command_of text).verb (command_of text).argument in
+    let taken = line_step oracles machine.state machine.store text in
     Some (record { parts = acts_in taken; after = after_step machine.store machine.moments taken; rest = rest })
 line_turn oracles machine (too_long rest) = Some (record { parts = acts_of [] line_too_long; after = record machine { state = ended }; rest = rest })
 
@@ -84,7 +84,7 @@ data_turn oracles machine client envelope cut =
 
 -- after the end no command is read
 abbrev pub turn_from : Oracles → State → Machine → List ℕ → Option (Turn Machine (Act (List ℕ)))
-turn_from oracles fresh machine octets = line_turn oracles machine (next_line octets)
+turn_from oracles (fresh first) machine octets = line_turn oracles machine (next_line octets)
 turn_from oracles (greeted client) machine octets = line_turn oracles machine (next_line octets)
 turn_from oracles (mail client envelope) machine octets = line_turn oracles machine (next_line octets)
 turn_from oracles (collecting client envelope) machine octets = option_map (data_turn oracles machine client envelope) (data_cut octets)
@@ -104,7 +104,7 @@ greeting name = (codes "220 " ++ (name ++ codes " ESMTP")) ∷ []
 
 -- A session begins before a client has greeted (RFC 5321, 3.1).
 abbrev pub start_of : StoreState → List Moment → Machine
-start_of store moments = record { state = fresh; store = store; moments = moments }
+start_of store moments = record { state = fresh true; store = store; moments = moments }
 
 -- its lines are ASCII, since the name of a store is
 abbrev pub smtp_protocol : Protocol
@@ -124,7 +124,7 @@ smtp_protocol = record {
 
 -- the machine's state
 abbrev pub state_of : SmtpState → State
-state_of (smtp.Fresh session) = fresh
+state_of (smtp.Fresh session) = fresh session.state.is_first
 state_of (smtp.Greeted session) = greeted session.state.client
 state_of (smtp.Mail session) = mail session.state.client session.state.envelope
 state_of (smtp.Data session) = collecting session.state.client session.state.envelope
@@ -157,7 +157,7 @@ pub record Knows (store : StoreState) (envelope : Envelope) : Type 0 where
 
 -- The client's name is one, and the store has what the state names; and data are taken for a recipient at least.
 abbrev pub KnowsState : StoreState → State → Type 0
-KnowsState store fresh = Unit {0}
+KnowsState store (fresh first) = Unit {0}
 KnowsState store (greeted client) = is_client client.name ≡ true
 KnowsState store (mail client envelope) = (is_client client.name ≡ true) × Knows store envelope
 KnowsState store (collecting client envelope) = (is_client client.name ≡ true) × Knows store envelope × (0 < envelope_recipient_count envelope)

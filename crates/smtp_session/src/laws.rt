@@ -1,5 +1,5 @@
 //! Laws of which data are taken, of written paths, of transactions, of what is kept, and of the store after a stream.
-ghost use Rattle.std.specs.Prelude.{◌≡◌, ◌≢◌, ◌<◌, ◌++◌, ◌∷◌, ℕ, List, [], Option, Some, IfSome, true, codes};
+ghost use Rattle.std.specs.Prelude.{◌≡◌, ◌≢◌, ◌<◌, ◌++◌, ◌∷◌, ℕ, List, [], Bool, Option, Some, IfSome, true, false, codes};
 ghost use Rattle.mail_wire.specs.Message.{IsEnded};
 ghost use Rattle.session_core.specs.Turns.{following};
 ghost use Rattle.address_grammar.specs.declared.Address.{Address};
@@ -19,6 +19,7 @@ ghost use Rattle.smtp_grammar.specs.declared.command.Verb.TheVariants as verb;
 ghost use Rattle.smtp_session.specs.Intake.{AreRecipients, IsKeptOnce, KeepsAccepted, KnowsRecipients, acceptance, kept_after, stored_line};
 ghost use Rattle.smtp_session.specs.Machine.{State, collecting, fresh, greeted, mail, envelope_recipient_count, says, step, delivery_of, end_data};
 ghost use Rattle.session_core.specs.Oracles.{Oracles, TellsTrees};
+ghost use Rattle.smtp_session.specs.Loops.{is_looping};
 ghost use Rattle.smtp_session.specs.Room.{IsWithinLimits};
 ghost use Rattle.smtp_session.specs.Session.{Machine, later_moments, next_moment, start_of, turns_of};
 ghost use Rattle.session_core.specs.Desks.{IsStoreName};
@@ -27,16 +28,16 @@ ghost use Rattle.smtp_session.specs.Transaction.{TransactionGoesOn, IsTransactio
 ghost use Rattle.smtp_session.specs.declared.states.Client.{Client};
 ghost use Rattle.smtp_session.specs.declared.states.Envelope.{Envelope};
 
-/// With a recipient DATA is accepted. Data that a client sends of any lines that have a tree and are within the limits are
-/// accepted: over a stream they are kept and told to be stored, and what follows them is read on.
+/// With a recipient DATA is accepted. Data that a client sends of any lines that have a tree, don't go in a circle and are within the
+/// limits are accepted: over a stream they are kept and told to be stored, and what follows them is read on.
 pub fn whole_data_are_taken()
     ensures begun { (oracles : Oracles) (client : Client) (envelope : Envelope) (store : StoreState) (argument : List ℕ) → 0 < envelope_recipient_count envelope
         → step oracles (mail client envelope) store verb.Data argument ≡ says (codes "354 go ahead") (collecting client envelope) }
     ensures accepted { (oracles : Oracles) (store : StoreState) (client : Client) (envelope : Envelope) (moment : Moment) (octets : List ℕ)
-        → TellsTrees oracles.has_tree → IsStored octets → IsWithinLimits store (delivery_of store client envelope moment octets)
+        → TellsTrees oracles.has_tree → IsStored octets → is_looping octets ≡ false → IsWithinLimits store (delivery_of store client envelope moment octets)
         → (end_data oracles store client envelope moment octets).reply ≡ acceptance }
     ensures stream { (oracles : Oracles) (store : StoreState) (client : Client) (envelope : Envelope) (moments : List Moment) (octets rest : List ℕ)
-        → TellsTrees oracles.has_tree → IsEnded octets → IsStored octets
+        → TellsTrees oracles.has_tree → IsEnded octets → IsStored octets → is_looping octets ≡ false
         → let delivery = delivery_of store client envelope (next_moment moments) octets in IsWithinLimits store delivery
         → turns_of oracles (record { state = collecting client envelope; store = store; moments = moments }) (sent octets rest)
         ≡ following (changes (delivered store.kept delivery) ∷ gives stored_line ∷ [])
@@ -83,7 +84,7 @@ pub fn accepted_mail_is_kept_once()
         → let taken = end_data oracles store client envelope moment octets in taken.reply ≢ acceptance → taken.changes ≡ [] }
     ensures commands { (oracles : Oracles) (state : State) (store : StoreState) (verb : Verb) (argument : List ℕ)
         → (step oracles state store verb argument).changes ≡ [] }
-    ensures fresh { (kept : Kept) → KnowsRecipients kept fresh }
+    ensures fresh { (kept : Kept) (first : Bool) → KnowsRecipients kept (fresh first) }
     ensures recipients { (oracles : Oracles) (state : State) (store : StoreState) (verb : Verb) (argument : List ℕ)
         → KnowsRecipients store.kept state → KnowsRecipients store.kept (step oracles state store verb argument).state }
     ensures forgotten { (oracles : Oracles) (store : StoreState) (client : Client) (envelope : Envelope) (moment : Moment) (octets : List ℕ)

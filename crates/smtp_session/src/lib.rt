@@ -2,6 +2,7 @@
 #![tactic(auto)]
 
 pub mod laws;
+mod loops;
 mod rows;
 mod session;
 mod states;

@@ -6,8 +6,8 @@ ghost use Rattle.address_grammar.specs.Paths.{ComesInPath};
 ghost use Rattle.journal_records.specs.Addresses.{WithPaths, IsSendable};
 ghost use Rattle.kept_mail.specs.Kept.{find_account, name_of};
 ghost use Rattle.mail_store.specs.StoreState.{StoreState};
-ghost use Rattle.smtp_grammar.specs.Commands.{command_of, is_client as is_client_of, white_words, path_after as path_after_of};
-ghost use Rattle.smtp_session.specs.Machine.{greeted as greeted_of, mail as mail_of, step, offers as offers_of, client_of, ehlo_step, helo_step, within_limit, lacks_smtputf8 as lacks_smtputf8_of, mail_by, mail_step, is_same_remote as is_same_remote_of, envelope_recipient_count as recipient_count_of, rcpt_local, rcpt_remote, rcpt_to, alone, rcpt_step, data_step, ok as ok_of, reset as reset_of};
+ghost use Rattle.smtp_grammar.specs.Commands.{is_client as is_client_of, white_words, path_after as path_after_of};
+ghost use Rattle.smtp_session.specs.Machine.{greeted as greeted_of, mail as mail_of, step, line_step, offers as offers_of, client_of, ehlo_step, helo_step, within_limit, lacks_smtputf8 as lacks_smtputf8_of, mail_by, mail_step, is_same_remote as is_same_remote_of, envelope_recipient_count as recipient_count_of, rcpt_local, rcpt_remote, rcpt_to, alone, rcpt_step, data_step, ok as ok_of, reset as reset_of};
 ghost use Rattle.smtp_session.specs.Session.{Knows, KnowsState, reply_octets, state_of, state_or_ended};
 ghost use Rattle.session_core.specs.Oracles.{WithOracles};
 
@@ -42,9 +42,13 @@ const OK: &[u8] = b"250 2.0.0 ok\r\n";
 
 const RECIPIENT_OK: &[u8] = b"250 2.1.5 ok\r\n";
 
+const BYE: &[u8] = b"221 2.0.0 bye\r\n";
+
 const UNVERIFIED: &[u8] = b"252 2.5.0 send and see\r\n";
 
 const UNKNOWN: &[u8] = b"500 5.5.2 unknown command\r\n";
+
+const HTTP_REQUEST: &[u8] = b"500 5.5.2 syntax error\r\n";
 
 const BAD_ARGUMENT: &[u8] = b"501 5.5.4 bad argument\r\n";
 
@@ -524,13 +528,13 @@ fn answer_rset(alloc: Global, state: SmtpState, store: &Store) -> Result<Reply, 
     says(alloc, OK, reset(state))
 }
 
-// QUIT, in any state: none is left.
-fn quit(alloc: Global) -> Result<Reply, Memory>
-    ensures reply { IfOk result (λ reply. reply.octets ≡ reply_octets (codes "221 2.0.0 bye" ∷ [])) }
+// The last reply: no session is left.
+fn says_last(alloc: Global, text: &[u8]) -> Result<Reply, Memory>
+    ensures reply { IfOk result (λ reply. reply.octets ≡ text.now) }
     ensures next { IfOk result (λ reply. reply.next ≡ None) }
 {
     Ok(Reply {
-        octets: Octets::from_slice(alloc, b"221 2.0.0 bye\r\n")?,
+        octets: Octets::from_slice(alloc, text)?,
         next: None,
     })
 }
@@ -562,22 +566,28 @@ fn answer_command(
         Verb::Vrfy => says(alloc, UNVERIFIED, state),
         Verb::Quit => {
             drop(state);
-            quit(alloc)
+            says_last(alloc, BYE)
         }
         Verb::Other => says(alloc, UNKNOWN, state),
     }
 }
 
-/// A command. Its line has its CRLF.
+/// A line, which has its CRLF: a command, or an HTTP request in place of the first one.
+#[tactic(auto, unfolding(crate::specs::Machine::line_step))]
 pub fn answer(alloc: Global, state: SmtpState, line: &[u8], store: &Store) -> Result<Reply, Memory>
     requires line { 2 ≤ length line.now }
     requires known { KnowsState store.now (state_of state) }
     ensures reply { IfOk result (λ reply. WithOracles (λ oracles. reply.octets
-        ≡ reply_octets (step oracles (state_of state) store.now (command_of line.now).verb (command_of line.now).argument).reply)) }
+        ≡ reply_octets (line_step oracles (state_of state) store.now line.now).reply)) }
     ensures next { IfOk result (λ reply. WithOracles (λ oracles. state_or_ended reply.next
-        ≡ (step oracles (state_of state) store.now (command_of line.now).verb (command_of line.now).argument).state)) }
+        ≡ (line_step oracles (state_of state) store.now line.now).state)) }
     ensures known { IfOk result (λ reply. KnowsState store.now (state_or_ended reply.next)) }
 {
+    if state.begins_with_request(line) {
+        drop(state);
+        return says_last(alloc, HTTP_REQUEST);
+    }
     let command = read_command(line);
+    let state = state.past_first();
     answer_command(alloc, state, command.verb, command.argument, store)
 }

@@ -16,12 +16,14 @@ ghost use Rattle.session_core.specs.Serving.{ServesBy};
 ghost use Rattle.session_core.specs.Steps.{IsReadyAfter, Steps};
 ghost use Rattle.session_core.specs.declared.desk.Desk.{Desk};
 ghost use Rattle.smtp_grammar.specs.Reading.{DataHaveEnded};
-ghost use Rattle.smtp_session.specs.Machine.{acts_in, delivery_of, end_by, end_data as end_of};
+ghost use Rattle.smtp_session.specs.Machine.{acts_in, delivery_of, end_data as end_of};
+ghost use Rattle.smtp_session.specs.Loops.{is_looping as is_looping_of};
 ghost use Rattle.smtp_session.specs.Session.{SmtpReady, KnowsState, SmtpStands, greeting, line_octets, reply_octets, smtp_protocol, state_of, state_or_ended};
 ghost use Rattle.smtp_session.specs.Trace.{protocol as protocol_of, received, return_path};
 ghost use Rattle.smtp_session.specs.laws.SmtpLaws.{begins_fit_by, fits_by, framed_by, goes_on_by, quiet_by, waits_by};
-ghost use Rattle.smtp_session.specs.private.Steps.{DoesBy, IsFirst, IsFirstNext, ReadsLines, accepted_content, state_after, stepped};
+ghost use Rattle.smtp_session.specs.private.Steps.{DoesBy, IsFirst, IsFirstNext, ReadsLines, accepted_content, due_by, state_after, stepped};
 
+use crate::loops::is_looping;
 use crate::rows::{Reply, TOO_LARGE, answer};
 use crate::states::{Client, Data, Envelope, Fresh, Greeted, Smtp, SmtpState};
 use crate::trace::{received_field, return_path_field};
@@ -36,6 +38,8 @@ use std::alloc::Global;
 const TOO_LONG: &[u8] = b"500 5.5.2 line too long\r\n";
 
 const NOT_A_MESSAGE: &[u8] = b"554 5.6.0 not a message\r\n";
+
+const ROUTING_LOOP: &[u8] = b"554 5.4.6 routing loop\r\n";
 
 const STORED: &[u8] = b"250 2.0.0 stored\r\n";
 
@@ -162,14 +166,27 @@ fn accept_data(
     })
 }
 
-// Whether octets have a tree of entities.
-fn is_message(alloc: Global, octets: &[u8]) -> Result<bool, Memory>
-    ensures { IfOk result (λ is. IsTrue is ↔ IsStored octets.now) }
+// Whether octets have a tree of entities, and whether they are then a message that goes in a circle.
+#[derive(Clone, Copy)]
+struct Judged {
+    is_message: bool,
+    loops: bool,
+}
+
+fn judge(alloc: Global, octets: &[u8]) -> Result<Judged, Memory>
+    ensures message { IfOk result (λ judged. IsTrue judged.is_message ↔ IsStored octets.now) }
+    ensures loops { IfOk result (λ judged. IsTrue judged.is_message → judged.loops ≡ is_looping_of octets.now) }
 {
     match read_tree(alloc, octets) {
-        Ok(_tree) => Ok(true),
+        Ok(tree) => Ok(Judged {
+            is_message: true,
+            loops: is_looping(octets, &tree),
+        }),
         Err(TreeFault::Memory) => Err(Memory),
-        Err(_) => Ok(false),
+        Err(_) => Ok(Judged {
+            is_message: false,
+            loops: false,
+        }),
     }
 }
 
@@ -182,9 +199,9 @@ fn deliver<W: Wire, J: Keeper, C: Clock>(
     requires within { accepted.now.trace_len ≤ length accepted.now.delivery.remote_octets }
     requires deliverable { IsStored (accepted_content accepted.now) → IsDeliverable outside.old.desk.store accepted.now.delivery }
     ensures reply { IfOk result (λ reply. (has_tree : List ℕ → Bool) → TellsTrees has_tree → (client : Client)
-        → reply.now ≡ reply_octets (end_by (has_tree (accepted_content accepted.now)) outside.old.desk.store client accepted.now.delivery).reply) }
+        → reply.now ≡ reply_octets (due_by has_tree outside.old.desk.store client accepted.now).reply) }
     ensures makes { (has_tree : List ℕ → Bool) → TellsTrees has_tree → (client : Client) → Makes outside.old outside.new (fault_of result)
-        (end_by (has_tree (accepted_content accepted.now)) outside.old.desk.store client accepted.now.delivery).changes }
+        (due_by has_tree outside.old.desk.store client accepted.now).changes }
     ensures keeps { Keeps outside.old outside.new (fault_of result) }
 {
     let delivery = &accepted.delivery;
@@ -195,8 +212,12 @@ fn deliver<W: Wire, J: Keeper, C: Clock>(
         .remote_octets
         .as_slice()
         .split_at(accepted.trace_len);
-    if !is_message(outside.alloc(), content)? {
+    let judged = judge(outside.alloc(), content)?;
+    if !judged.is_message {
         return Ok(NOT_A_MESSAGE);
+    }
+    if judged.loops {
+        return Ok(ROUTING_LOOP);
     }
     match outside.deliver(delivery)? {
         Delivered::Stored => Ok(STORED),
@@ -227,7 +248,7 @@ fn finish_data<W: Wire, J: Keeper, C: Clock>(
     requires opens { IsOpen outside.old.desk }
     requires within { accepted.trace_len ≤ length accepted.delivery.remote_octets }
     requires deliverable { IsStored (accepted_content accepted) → IsDeliverable outside.old.desk.store accepted.delivery }
-    ensures does { DoesBy outside.old outside.new (fault_of result) (λ has_tree. end_by (has_tree (accepted_content accepted)) outside.old.desk.store client accepted.delivery) }
+    ensures does { DoesBy outside.old outside.new (fault_of result) (λ has_tree. due_by has_tree outside.old.desk.store client accepted) }
     ensures client { IfOk result (λ next. next.state.client ≡ client) }
     ensures keeps { Keeps outside.old outside.new (fault_of result) }
 {
@@ -462,7 +483,13 @@ impl Machine for SmtpMachine {
         let text = greeting_text(alloc, outside.store().name())?;
         outside.give(text.as_bytes())?;
         let max = outside.store().message_max();
-        Ok(begun(alloc, max, SmtpState::Fresh(Smtp { state: Fresh })))
+        Ok(begun(
+            alloc,
+            max,
+            SmtpState::Fresh(Smtp {
+                state: Fresh { is_first: true },
+            }),
+        ))
     }
 
     fn take_next<W: Wire, J: Keeper, C: Clock>(

@@ -1,7 +1,12 @@
 //! The states of a session (RFC 5321, 4.1.4), each a type of its own.
-ghost use Rattle.std.specs.Prelude.{◌≡◌, ◌++◌, ◌∷◌, [], IfOk};
+ghost use Rattle.std.specs.Prelude.{◌≡◌, ◌&&◌, ◌++◌, ◌∷◌, [], IfOk};
+ghost use Rattle.http_lines.specs.Requests.{is_http_request as is_http_request_of};
+ghost use Rattle.mail_store.specs.StoreState.{StoreState};
+ghost use Rattle.smtp_session.specs.Machine.{awaits_first as awaits_first_of, past_first as past_first_of};
+ghost use Rattle.smtp_session.specs.Session.{KnowsState, state_of};
 
 use address_grammar::Address;
+use http_lines::is_http_request;
 use kept_mail::{Addresses, Numbers};
 use mail_wire::{Memory, Octets};
 use std::alloc::Global;
@@ -22,9 +27,11 @@ pub struct Envelope {
     pub remote: Addresses,
 }
 
-/// Before the first accepted greeting.
+/// Before the first accepted greeting. The next line is the first of the session, or it isn't.
 #[derive(Debug, Drop)]
-pub struct Fresh;
+pub struct Fresh {
+    pub is_first: bool,
+}
 
 /// A client has greeted.
 #[derive(Debug, Drop)]
@@ -63,6 +70,38 @@ pub enum SmtpState {
     Greeted(Smtp<Greeted>),
     Mail(Smtp<Mail>),
     Data(Smtp<Data>),
+}
+
+impl SmtpState {
+    // Whether the next line is the first of the session.
+    fn awaits_first(&self) -> bool
+        ensures { result ≡ awaits_first_of (state_of self.now) }
+    {
+        match self {
+            SmtpState::Fresh(session) => session.state.is_first,
+            _ => false,
+        }
+    }
+
+    /// Whether the line is an HTTP request with which the session would begin.
+    pub fn begins_with_request(&self, line: &[u8]) -> bool
+        ensures { result ≡ (awaits_first_of (state_of self.now) && is_http_request_of line.now) }
+    {
+        self.awaits_first() && is_http_request(line)
+    }
+
+    /// A line was taken.
+    pub fn past_first(self) -> Self
+        ensures state { state_of result ≡ past_first_of (state_of self) }
+        ensures known { (store : StoreState) → KnowsState store (state_of self) → KnowsState store (state_of result) }
+    {
+        match self {
+            SmtpState::Fresh(_session) => SmtpState::Fresh(Smtp {
+                state: Fresh { is_first: false },
+            }),
+            state => state,
+        }
+    }
 }
 
 impl Smtp<Greeted> {

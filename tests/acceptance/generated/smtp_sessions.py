@@ -20,7 +20,7 @@ PARAMETERS = [
     b"SMTPUTF8", b"smtputf8", b"SIZE=1", b"size=0033554432", b"SIZE=33554433", b"SIZE=", b"SIZE=x", b"BODY=8BITMIME", b"body=7bit", b"BODY=x",
     b"SMTPUTF8=", b"X", b"X=y", b"=",
 ]
-OTHERS = [b"RSET", b"NOOP", b"noop x", b"VRFY", b"VRFY x", b"", b" ", b"FOO", b"EXPN", b"DATA", b"data x", b"STARTTLS", b"MAIL", b"RCPT", b"RCPTTO:<a@b>"]
+OTHERS = [b"RSET", b"NOOP", b"noop x", b"VRFY", b"VRFY x", b"", b" ", b"FOO", b"EXPN", b"DATA", b"data x", b"STARTTLS", b"MAIL", b"RCPT", b"RCPTTO:<a@b>", b"GET / HTTP/1.1"]
 ENDS = [b"QUIT\r\n", b"quit x\r\nNOOP\r\n", b"", b"QUI", b"NOOP\r", b"\tQUIT \r\n"]
 
 
@@ -77,7 +77,8 @@ def some_greeting(rng):
 
 
 def some_input(rng, accounts):
-    parts = [some_greeting(rng) for _ in range(rng.choice([0, 1, 1, 1, 1, 2]))]
+    parts = [rng.choice(OTHERS) + b"\r\n" for _ in range(rng.choice([0, 0, 0, 1]))]
+    parts += [some_greeting(rng) for _ in range(rng.choice([0, 1, 1, 1, 1, 2]))]
     for _ in range(rng.choice([0, 1, 1, 2, 3])):
         parts.append(some_transaction(rng, accounts))
         if rng.random() < 0.3:

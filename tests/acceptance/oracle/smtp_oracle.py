@@ -2,7 +2,8 @@
 
 The journal is read as pop_store.py says. Lines end with CRLF; one is too long as soon as its octet 65,537 is there. White is
 space and tab; white at a line's ends is passed over. The first word is the verb. Data end with the line `.`, and a dot that
-begins another line is taken away. What is kept is a Return-Path (for accounts alone), a Received and the data."""
+begins another line is taken away. What is kept is a Return-Path (for accounts alone), a Received and the data. Data whose own header
+has 100 fields Received are refused. A first line that begins an HTTP request ends the session."""
 
 import re
 import time
@@ -18,6 +19,9 @@ LINE_MAX = 65_536
 RECIPIENTS_MAX = 100
 CLIENT = re.compile(rb"[A-Za-z0-9._:\[\]-]{1,255}")
 DIGITS = re.compile(rb"[0-9]+")
+HTTP_REQUEST = re.compile(rb"(?:CONNECT|GET|HEAD|OPTIONS|POST|PUT) ")
+RECEIVED = re.compile(rb"(?im)^received[ \t]*:")
+RECEIVED_MAX = 99
 
 OK = b"250 2.0.0 ok"
 BAD_ARGUMENT = b"501 5.5.4 bad argument"
@@ -37,6 +41,7 @@ class Session:
         self.client, self.is_extended = None, False
         self.envelope = None
         self.has_ended = self.takes_data = False
+        self.is_first = True
         self.records = []
         self.due = [(0, b"220 " + self.name + b" ESMTP\r\n")]
 
@@ -52,6 +57,11 @@ class Session:
             if len(octets) - at > LINE_MAX:
                 self.has_ended = True
                 self.reply(at + LINE_MAX + 1, b"500 5.5.2 line too long")
+            return None
+        is_first, self.is_first = self.is_first, False
+        if is_first and HTTP_REQUEST.match(octets[at:end]):
+            self.has_ended = True
+            self.reply(end + 2, b"500 5.5.2 syntax error")
             return None
         lines = self.answer(octets[at:end].strip(b" \t"))
         self.reply(end + 2, *lines)
@@ -153,6 +163,8 @@ class Session:
             return TOO_LARGE
         if not is_message(data):
             return b"554 5.6.0 not a message"
+        if len(RECEIVED.findall((b"\r\n" + data).partition(b"\r\n\r\n")[0])) > RECEIVED_MAX:
+            return b"554 5.4.6 routing loop"
         moment = time.strftime("%d-%b-%Y %H:%M:%S +0000", time.gmtime(self.seconds)).encode()
         records = [message(self.store.folders.index(account), local_octets, date=moment) for account in local]
         self.records.append(b"".join(records) + (queue(envelope.path, remote, remote_octets) if remote else b""))

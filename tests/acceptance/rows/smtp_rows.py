@@ -21,7 +21,7 @@ GO_AHEAD, STORED, BYE = "354 go ahead", "250 2.0.0 stored", "221 2.0.0 bye"
 BAD, ORDER, UNKNOWN = "501 5.5.4 bad argument", "503 5.5.1 out of order", "500 5.5.2 unknown command"
 PARAMETER, NEEDS_SMTPUTF8, TOO_LARGE = "555 5.5.4 unknown parameter", "553 5.6.7 address needs SMTPUTF8", "552 5.3.4 too large"
 NO_MAILBOX, NO_MESSAGE, TOO_MANY = "550 5.1.1 no such mailbox", "554 5.6.0 not a message", "452 4.5.3 too many recipients"
-TOO_LONG = "500 5.5.2 line too long"
+TOO_LONG, SYNTAX, LOOP = "500 5.5.2 line too long", "500 5.5.2 syntax error", "554 5.4.6 routing loop"
 EHLO, TO_ANN = "EHLO client", "RCPT TO:<ann@example.org>"
 READY_FOR_DATA = [EHLO, "MAIL FROM:<a@b>", TO_ANN, "DATA"]
 TAKES_DATA = [*GREETED, SENDER_OK, RECIPIENT_OK, GO_AHEAD]
@@ -102,6 +102,22 @@ def of_data():
         ("white first", [" A: b"], None),
         ("a part that is no entity", [*MIXED.splitlines(), "--b", "é"], None),
         ("NUL", ["A: b", "", "\0"], None),
+    ]
+
+
+def of_loops():
+    """Name, the lines of the data, and whether they are refused as mail that goes in a circle. Fields of the message's own header count."""
+    one, body = "Received: from a by b; " + EPOCH, ["", "x"]
+    return [
+        ("99 fields Received", [one] * 99 + ["A: b"] + body, False),
+        ("100 fields Received", [one] * 100 + ["A: b"] + body, True),
+        ("150 fields Received and no body", [one] * 150, True),
+        ("100 fields Received in other spellings", ["RECEIVED \t: x", "received:", "A: b", "Received:", "\tx"] * 33 + ["Received:x"] + body, True),
+        ("100 fields and more with other names", ["Received-SPF: x", "X-Received: x", "Receive: x", "Received_: x"] * 100 + body, False),
+        ("lines that go on with a field", ["A: b", *[f" {one}"] * 100] + body, False),
+        ("99 fields Received, and more in the body", [one] * 99 + [""] + [one] * 100, False),
+        ("fields Received of an enclosed message", ["Content-Type: message/rfc822", "", *[one] * 100] + body, False),
+        ("100 fields Received behind an empty line", ["", *[one] * 100], False),
     ]
 
 
@@ -204,6 +220,21 @@ def of_order():
     ]
 
 
+def of_requests():
+    """Lines, and replies, of clients that speak HTTP: the first line counts."""
+    methods = ["CONNECT", "GET", "HEAD", "OPTIONS", "POST", "PUT"]
+    rest = ["Host: x", "", *READY_FOR_DATA, "A: b", "", "x", ".", "QUIT"]
+    others = ["get / HTTP/1.1", "GET", " GET / HTTP/1.1", "GET\t/ HTTP/1.1", "GETS / HTTP/1.1", "DELETE / HTTP/1.1"]
+    return [
+        *((f"a request {method}", ANN, [f"{method} / HTTP/1.1", *rest], [*READY, SYNTAX]) for method in methods),
+        *((f"a first line that is no request: {line!r}", ANN, [line, EHLO, "QUIT"], [*READY, UNKNOWN, *OFFERS, BYE]) for line in others),
+        ("requests behind a first line", ANN, ["NOOP", *(f"{it} / HTTP/1.1" for it in methods), EHLO, "GET / HTTP/1.1", "QUIT"],
+            [*READY, OK, *[UNKNOWN] * 6, *OFFERS, UNKNOWN, BYE]),
+        ("a request behind an unknown first line", ANN, ["FOO", "POST / HTTP/1.1", "QUIT"], [*READY, UNKNOWN, UNKNOWN, BYE]),
+        ("a request behind an empty first line", ANN, ["", "POST / HTTP/1.1", "QUIT"], [*READY, UNKNOWN, UNKNOWN, BYE]),
+    ]
+
+
 def of_octets():
     """Name, octets of the client, and octets of the replies."""
     return [
@@ -233,11 +264,16 @@ def rows():
     """Name, journal, input, and what is wanted: status, octets and journal."""
     for name, before, lines, replies, records in [*of_mail(), *of_recipients()]:
         yield name, before, octets_of(lines), (0, octets_of(replies), (before or journal()) + records)
-    for name, before, lines, replies in [*of_greetings(), *of_senders(), *of_order()]:
+    for name, before, lines, replies in [*of_greetings(), *of_senders(), *of_order(), *of_requests()]:
         yield name, before, octets_of(lines), (0, octets_of(replies), before)
     for name, lines, data in of_data():
         records, reply = (b"", NO_MESSAGE) if data is None else (message(0, kept("a@b", data)), STORED)
         yield name, ANN, octets_of([*READY_FOR_DATA, *lines, ".", TO_ANN]), (0, octets_of([*TAKES_DATA, reply, ORDER]), ANN + records)
+    for name, lines, loops in of_loops():
+        records, reply = (b"", LOOP) if loops else (message(0, kept("a@b", octets_of(lines))), STORED)
+        yield name, ANN, octets_of([*READY_FOR_DATA, *lines, ".", TO_ANN]), (0, octets_of([*TAKES_DATA, reply, ORDER]), ANN + records)
+    yield "100 fields Received and a line that is no field", ANN, octets_of([*READY_FOR_DATA, *["Received: x"] * 100, "x", "."]), (
+        0, octets_of([*TAKES_DATA, NO_MESSAGE]), ANN)
     for name, data in of_ends():
         yield f"no end: {name}", ANN, octets_of(READY_FOR_DATA) + data + b"NOOP\r\n", (0, octets_of([*TAKES_DATA, NO_MESSAGE, OK]), ANN)
     for name, given, wanted in of_octets():

@@ -1,5 +1,5 @@
 -- What holds of each line that a command may be answered holds of each line of its reply (RFC 5321, 4.2).
-use Rattle.std.proofs.Common.{ℕ, List, [], ◌∷◌, ◌++◌, ◌==◌, Bool, true, false, Option, Some, None, codes, cond}
+use Rattle.std.proofs.Common.{ℕ, List, [], ◌∷◌, ◌++◌, ◌==◌, ◌&&◌, Bool, true, false, Option, Some, None, codes, cond}
 use Rattle.std.specs.Prelude.{nat_lt, sum_by}
 use Rattle.std.specs.List.{AllByRecursion, list_any}
 use Rattle.std.specs.Fmt.{decimal}
@@ -9,10 +9,11 @@ use Rattle.mail_store.specs.StoreState.{StoreState}
 use Rattle.kept_mail.specs.declared.limits.TheConstants.{RECIPIENTS_MAX}
 use Rattle.smtp_grammar.specs.declared.command.Verb.{Verb}
 use Rattle.smtp_grammar.specs.declared.command.Verb.TheVariants as verb
-use Rattle.smtp_grammar.specs.Commands.{is_client, path_after, parameter_of, are_malformed, is_unknown, is_smtputf8, announced}
+use Rattle.http_lines.specs.Requests.{is_http_request}
+use Rattle.smtp_grammar.specs.Commands.{command_of, is_client, path_after, parameter_of, are_malformed, is_unknown, is_smtputf8, announced}
 use Rattle.smtp_session.specs.declared.states.Client.{Client}
 use Rattle.smtp_session.specs.declared.states.Envelope.{Envelope}
-use Rattle.smtp_session.specs.Machine.{State, fresh, greeted, mail, collecting, ended, Step, step, offers, client_of, answers, says, bad_argument, ehlo_step, helo_step, lacks_smtputf8, path_read, words_after, mail_by, mail_step, mail_to, is_same_remote, envelope_recipient_count, with_room, rcpt_local, rcpt_remote, rcpt_to, alone, rcpt_step, data_step}
+use Rattle.smtp_session.specs.Machine.{State, fresh, greeted, mail, collecting, ended, Step, step, offers, client_of, answers, says, awaits_first, past_first, line_step, bad_argument, ehlo_step, helo_step, lacks_smtputf8, path_read, words_after, mail_by, mail_step, mail_to, is_same_remote, envelope_recipient_count, with_room, rcpt_local, rcpt_remote, rcpt_to, alone, rcpt_step, data_step}
 use Rattle.session_core.specs.Oracles.{Oracles}
 
 -- `Fits` holds of each line that a command may be answered over this store
@@ -31,6 +32,7 @@ pub record SaidLines (Fits : List ℕ → Type 0) (store : StoreState) : Type 0 
   pub goodbye : Fits (codes "221 2.0.0 bye")
   pub full : Fits (codes "452 4.5.3 too many recipients")
   pub unknown : Fits (codes "500 5.5.2 unknown command")
+  pub request : Fits (codes "500 5.5.2 syntax error")
   pub bad : Fits (codes "501 5.5.4 bad argument")
   pub disordered : Fits (codes "503 5.5.1 out of order")
   pub nobody : Fits (codes "550 5.1.1 no such mailbox")
@@ -73,7 +75,7 @@ mail_said : (Fits : List ℕ → Type 0) (oracles : Oracles) (state : State) (st
 mail_said Fits oracles (greeted client) store argument lines =
     let given = path_after (codes "FROM:") argument in
     mail_by_said Fits client store (path_read oracles given) (words_after given) lines
-mail_said Fits oracles fresh store argument lines = (lines.disordered, tt)
+mail_said Fits oracles (fresh first) store argument lines = (lines.disordered, tt)
 mail_said Fits oracles (mail client envelope) store argument lines = (lines.disordered, tt)
 mail_said Fits oracles (collecting client envelope) store argument lines = (lines.disordered, tt)
 mail_said Fits oracles ended store argument lines = (lines.disordered, tt)
@@ -108,7 +110,7 @@ rcpt_said : (Fits : List ℕ → Type 0) (oracles : Oracles) (state : State) (st
     → AllByRecursion Fits (rcpt_step oracles state store argument).reply
 rcpt_said Fits oracles (mail client envelope) store argument lines =
     rcpt_to_said Fits oracles client envelope store (path_read oracles (alone (path_after (codes "TO:") argument))) lines
-rcpt_said Fits oracles fresh store argument lines = (lines.disordered, tt)
+rcpt_said Fits oracles (fresh first) store argument lines = (lines.disordered, tt)
 rcpt_said Fits oracles (greeted client) store argument lines = (lines.disordered, tt)
 rcpt_said Fits oracles (collecting client envelope) store argument lines = (lines.disordered, tt)
 rcpt_said Fits oracles ended store argument lines = (lines.disordered, tt)
@@ -117,7 +119,7 @@ rcpt_said Fits oracles ended store argument lines = (lines.disordered, tt)
 
 data_said : (Fits : List ℕ → Type 0) (state : State) (store : StoreState) → SaidLines Fits store → AllByRecursion Fits (data_step state).reply
 data_said Fits (mail client envelope) store lines = either Fits (envelope_recipient_count envelope == 0) _ _ (lines.disordered, tt) (lines.data_wanted, tt)
-data_said Fits fresh store lines = (lines.disordered, tt)
+data_said Fits (fresh first) store lines = (lines.disordered, tt)
 data_said Fits (greeted client) store lines = (lines.disordered, tt)
 data_said Fits (collecting client envelope) store lines = (lines.disordered, tt)
 data_said Fits ended store lines = (lines.disordered, tt)
@@ -135,3 +137,11 @@ step_said Fits oracles state store verb.Noop argument lines = (lines.fine, tt)
 step_said Fits oracles state store verb.Vrfy argument lines = (lines.unverified, tt)
 step_said Fits oracles state store verb.Quit argument lines = (lines.goodbye, tt)
 step_said Fits oracles state store verb.Other argument lines = (lines.unknown, tt)
+
+-- a whole line
+pub line_said : (Fits : List ℕ → Type 0) (oracles : Oracles) (state : State) (store : StoreState) (line : List ℕ) → SaidLines Fits store
+    → AllByRecursion Fits (line_step oracles state store line).reply
+unfolding line_step
+line_said Fits oracles state store line lines =
+    either Fits (awaits_first state && is_http_request line) _ _ (lines.request, tt)
+    (step_said Fits oracles (past_first state) store (command_of line).verb (command_of line).argument lines)

@@ -1,5 +1,5 @@
 -- What the driver takes of SMTP: a turn doesn't depend on what comes later, and whatever is asked for, the replies are ASCII.
-use Rattle.std.proofs.Common.{◌≡◌, List, [], ℕ, refl, sym, ap, subst, ◌∙◌, Some, None, Option, suc, ◌+◌, ◌<◌, ◌∷◌, ◌++◌, Bool, true, false, arith, ◌==◌, codes, cond, not, inl, inr, append-nil, length, if◌then◌else◌}
+use Rattle.std.proofs.Common.{◌≡◌, List, [], ℕ, refl, sym, ap, subst, ◌∙◌, Some, None, Option, suc, ◌+◌, ◌<◌, ◌∷◌, ◌++◌, Bool, true, false, arith, ◌==◌, ◌&&◌, codes, cond, not, inl, inr, append-nil, length, if◌then◌else◌}
 use Rattle.std.specs.Option.{option_map}
 use Rattle.std.specs.Prelude.{is_some, nat_lt, slice_index_or, sum_by}
 use Rattle.std.specs.Str.{IsAscii}
@@ -26,6 +26,8 @@ use Rattle.mail_store.specs.StoreState.{StoreState, with_records}
 use Rattle.kept_mail.specs.declared.delivery.Delivery.{Delivery}
 use Rattle.kept_mail.specs.declared.limits.TheConstants.{RECIPIENTS_MAX}
 use Rattle.smtp_grammar.specs.Commands.{command_of, announced, are_malformed, is_client, is_smtputf8, is_unknown, parameter_of, path_after}
+use Rattle.http_lines.specs.Requests.{is_http_request}
+use Rattle.smtp_session.specs.Loops.{is_looping}
 use Rattle.smtp_grammar.specs.Data.{data_cut}
 use Rattle.smtp_grammar.specs.declared.command.Verb.{Verb}
 use Rattle.smtp_grammar.proofs.DataLemmas.{data_cut-shorter, data_cut-stays}
@@ -45,9 +47,9 @@ use Rattle.smtp_session.specs.declared.states.Client.{Client}
 use Rattle.smtp_session.specs.declared.states.Envelope.{Envelope}
 use Rattle.smtp_session.specs.declared.states.SmtpState.{SmtpState}
 use Rattle.smtp_session.specs.declared.states.SmtpState.TheVariants as smtp
-use Rattle.smtp_session.specs.Machine.{State, collecting, delivery_of, end_data, ended, fresh, greeted, mail, step, Step, end_by, alone, data_step, is_same_remote, lacks_smtputf8, mail_by, mail_step, mail_to, path_read, rcpt_local, rcpt_remote, rcpt_step, rcpt_to, envelope_recipient_count, with_room, words_after}
+use Rattle.smtp_session.specs.Machine.{State, collecting, delivery_of, end_data, ended, fresh, greeted, mail, awaits_first, past_first, line_step, step, Step, end_by, alone, data_step, is_same_remote, lacks_smtputf8, mail_by, mail_step, mail_to, path_read, rcpt_local, rcpt_remote, rcpt_step, rcpt_to, envelope_recipient_count, with_room, words_after}
 use Rattle.smtp_session.specs.Session.{IsFit, SmtpReady, Machine, SmtpStands, data_turn, greeting, line_too_long, line_turn, machine_of, next_moment, next_turn, smtp_protocol, turn_from, AreFit, HasRest, IsUnfinished, state_of}
-use Rattle.smtp_session.specs.laws.SaidLines.{SaidLines, step_said}
+use Rattle.smtp_session.specs.laws.SaidLines.{SaidLines, line_said}
 
 -- ---- turns don't depend on what comes later
 
@@ -83,7 +85,7 @@ data_stays oracles machine client envelope octets more turn (Some cut) at is =
 
 shorter_in : (oracles : Oracles) (state : State) (machine : Machine) (octets : List ℕ) (turn : Turn Machine (Act (List ℕ))) → turn_from oracles state machine octets ≡ Some turn
     → length turn.rest < length octets
-shorter_in oracles fresh machine octets turn is = line_shorter oracles machine octets (next_line octets) turn (steady octets) is
+shorter_in oracles (fresh first) machine octets turn is = line_shorter oracles machine octets (next_line octets) turn (steady octets) is
 shorter_in oracles (greeted client) machine octets turn is = line_shorter oracles machine octets (next_line octets) turn (steady octets) is
 shorter_in oracles (mail client envelope) machine octets turn is = line_shorter oracles machine octets (next_line octets) turn (steady octets) is
 shorter_in oracles (collecting client envelope) machine octets turn is = data_shorter oracles machine client envelope octets turn (data_cut octets) refl is
@@ -91,7 +93,7 @@ shorter_in oracles ended machine octets turn is = cc
 
 stays_in : (oracles : Oracles) (state : State) (machine : Machine) (octets more : List ℕ) (turn : Turn Machine (Act (List ℕ))) → turn_from oracles state machine octets ≡ Some turn
     → turn_from oracles state machine (octets ++ more) ≡ Some (followed_by more turn)
-stays_in oracles fresh machine octets more turn is = line_stays oracles machine octets more (next_line octets) turn (steady octets) is
+stays_in oracles (fresh first) machine octets more turn is = line_stays oracles machine octets more (next_line octets) turn (steady octets) is
 stays_in oracles (greeted client) machine octets more turn is = line_stays oracles machine octets more (next_line octets) turn (steady octets) is
 stays_in oracles (mail client envelope) machine octets more turn is = line_stays oracles machine octets more (next_line octets) turn (steady octets) is
 stays_in oracles (collecting client envelope) machine octets more turn is = data_stays oracles machine client envelope octets more turn (data_cut octets) refl is
@@ -156,7 +158,7 @@ mail_step-changes : (oracles : Oracles) (state : State) (store : StoreState) (ar
 mail_step-changes oracles (greeted client) store argument =
     let given = path_after (codes "FROM:") argument in
     mail_by-changes client store (path_read oracles given) (words_after given)
-mail_step-changes oracles fresh store argument = refl
+mail_step-changes oracles (fresh first) store argument = refl
 mail_step-changes oracles (mail client envelope) store argument = refl
 mail_step-changes oracles (collecting client envelope) store argument = refl
 mail_step-changes oracles ended store argument = refl
@@ -182,14 +184,14 @@ rcpt_to-changes oracles client envelope store (Some (Some address)) =
 
 rcpt_step-changes : (oracles : Oracles) (state : State) (store : StoreState) (argument : List ℕ) → (rcpt_step oracles state store argument).changes ≡ []
 rcpt_step-changes oracles (mail client envelope) store argument = rcpt_to-changes oracles client envelope store (path_read oracles (alone (path_after (codes "TO:") argument)))
-rcpt_step-changes oracles fresh store argument = refl
+rcpt_step-changes oracles (fresh first) store argument = refl
 rcpt_step-changes oracles (greeted client) store argument = refl
 rcpt_step-changes oracles (collecting client envelope) store argument = refl
 rcpt_step-changes oracles ended store argument = refl
 
 data_step-changes : (state : State) → (data_step state).changes ≡ []
 data_step-changes (mail client envelope) = same_changes (envelope_recipient_count envelope == 0) _ _ refl refl
-data_step-changes fresh = refl
+data_step-changes (fresh first) = refl
 data_step-changes (greeted client) = refl
 data_step-changes (collecting client envelope) = refl
 data_step-changes ended = refl
@@ -207,6 +209,12 @@ step-changes oracles state store verb.Noop argument = refl
 step-changes oracles state store verb.Vrfy argument = refl
 step-changes oracles state store verb.Quit argument = refl
 step-changes oracles state store verb.Other argument = refl
+
+-- nor does a whole line
+pub line_step-changes : (oracles : Oracles) (state : State) (store : StoreState) (line : List ℕ) → (line_step oracles state store line).changes ≡ []
+unfolding line_step
+line_step-changes oracles state store line =
+    same_changes (awaits_first state && is_http_request line) _ _ refl (step-changes oracles (past_first state) store (command_of line).verb (command_of line).argument)
 
 -- ---- each line is ASCII
 
@@ -244,6 +252,7 @@ ascii-lines store named = record {
   goodbye = refl;
   full = refl;
   unknown = refl;
+  request = refl;
   bad = refl;
   disordered = refl;
   nobody = refl;
@@ -252,23 +261,18 @@ ascii-lines store named = record {
   parameter = refl;
 }
 
--- of each command, in each state
-step_fit : (oracles : Oracles) (state : State) (store : StoreState) (verb : Verb) (argument : List ℕ) → IsStoreName (name_of store.kept)
-    → AreFit (step oracles state store verb argument).reply
-step_fit oracles state store verb argument named = step_said IsFit oracles state store verb argument (ascii-lines store named)
-
--- one of four steps by three tests
-end_fit : (large is_message refused : Bool) (a b c d : Step) → AreFit a.reply → AreFit b.reply → AreFit c.reply → AreFit d.reply
-    → AreFit (cond large a (cond (not is_message) b (cond refused c d))).reply
-end_fit true is_message refused a b c d p q r s = p
-end_fit false false refused a b c d p q r s = q
-end_fit false true true a b c d p q r s = r
-end_fit false true false a b c d p q r s = s
+-- of each line, in each state
+line_fit : (oracles : Oracles) (state : State) (store : StoreState) (line : List ℕ) → IsStoreName (name_of store.kept) → AreFit (line_step oracles state store line).reply
+line_fit oracles state store line named = line_said IsFit oracles state store line (ascii-lines store named)
 
 -- of the end of data
-end_by_fit : (is_message : Bool) (store : StoreState) (client : Client) (delivery : Delivery) → AreFit (end_by is_message store client delivery).reply
-end_by_fit is_message store client delivery =
-    end_fit (has_large_octets store.message_max delivery) is_message (is_some (delivery_refusal store delivery)) _ _ _ _ (refl, tt) (refl, tt) (refl, tt) (refl, tt)
+end_by_fit : (is_message loops : Bool) (store : StoreState) (client : Client) (delivery : Delivery) → AreFit (end_by is_message loops store client delivery).reply
+end_by_fit is_message loops store client delivery =
+    let P : Step → Type 0 = λ taken. AreFit taken.reply in
+    cond_both (has_large_octets store.message_max delivery) _ _ P (λ large. (refl, tt))
+    (λ small. cond_both (not is_message) _ _ P (λ none. (refl, tt))
+    (λ message. cond_both loops _ _ P (λ circle. (refl, tt))
+    (λ straight. cond_both (is_some (delivery_refusal store delivery)) _ _ P (λ refused. (refl, tt)) (λ room. (refl, tt)))))
 
 -- of the beginning
 greeting_fit : (name : List ℕ) → IsStoreName name → AreFit (greeting name)
@@ -287,10 +291,9 @@ IsNamedAfter store made = IsStoreName (name_of (with_records store (records_of m
 named_as : (store : StoreState) (made : List (List Record)) → made ≡ [] → IsStoreName (name_of store.kept) → IsNamedAfter store made
 named_as store made none named = rw none named
 
--- after a command
-step_named : (oracles : Oracles) (state : State) (store : StoreState) (verb : Verb) (argument : List ℕ) → IsStoreName (name_of store.kept)
-    → IsNamedAfter store (step oracles state store verb argument).changes
-step_named oracles state store verb argument = named_as store _ (step-changes oracles state store verb argument)
+-- after a line
+line_named : (oracles : Oracles) (state : State) (store : StoreState) (line : List ℕ) → IsStoreName (name_of store.kept) → IsNamedAfter store (line_step oracles state store line).changes
+line_named oracles state store line = named_as store _ (line_step-changes oracles state store line)
 
 delivered_named : (store : StoreState) (delivery : Delivery) → IsStoreName (name_of store.kept) → IsNamedAfter store (delivered store.kept delivery ∷ [])
 delivered_named store delivery named =
@@ -298,13 +301,14 @@ delivered_named store delivery named =
     rw (append-nil records) (named_after store.kept (after_all store.kept records) (delivered_domains store.kept delivery) named)
 
 -- after the end of data
-end_by_named : (is_message : Bool) (store : StoreState) (client : Client) (delivery : Delivery) → IsStoreName (name_of store.kept)
-    → IsNamedAfter store (end_by is_message store client delivery).changes
-end_by_named is_message store client delivery named =
+end_by_named : (is_message loops : Bool) (store : StoreState) (client : Client) (delivery : Delivery) → IsStoreName (name_of store.kept)
+    → IsNamedAfter store (end_by is_message loops store client delivery).changes
+end_by_named is_message loops store client delivery named =
     let P : Step → Type 0 = λ taken. IsNamedAfter store taken.changes in
     cond_both (has_large_octets store.message_max delivery) _ _ P (λ large. named)
     (λ small. cond_both (not is_message) _ _ P (λ none. named)
-    (λ message. cond_both (is_some (delivery_refusal store delivery)) _ _ P (λ refused. named) (λ room. delivered_named store delivery named)))
+    (λ message. cond_both loops _ _ P (λ circle. named)
+    (λ straight. cond_both (is_some (delivery_refusal store delivery)) _ _ P (λ refused. named) (λ room. delivered_named store delivery named))))
 
 -- ---- the laws of replies
 
@@ -322,12 +326,11 @@ line_fits : (oracles : Oracles) (machine : Machine) (framed : Framed) (turn : Tu
     → IsFitFor oracles turn
 line_fits oracles machine waiting turn named is = absurd (none-some _ is)
 line_fits oracles machine (whole text rest) turn named is =
-    let command = command_of text in
-    let taken = step oracles machine.state machine.store command.verb command.argument in
+    let taken = line_step oracles machine.state machine.store text in
     subst (IsFitFor oracles) (same_Some _ _ is)
     (record {
-      fit = fit_acts IsFit taken.changes taken.reply (step_fit oracles machine.state machine.store command.verb command.argument named);
-      sound = step_named oracles machine.state machine.store command.verb command.argument named;
+      fit = fit_acts IsFit taken.changes taken.reply (line_fit oracles machine.state machine.store text named);
+      sound = line_named oracles machine.state machine.store text named;
     })
 line_fits oracles machine (too_long rest) turn named is =
     subst (IsFitFor oracles) (same_Some _ _ is) (record { fit = fit_acts IsFit [] line_too_long (refl, tt); sound = named })
@@ -342,13 +345,13 @@ data_fit oracles machine client envelope (Some cut) turn named is =
     let taken = end_data oracles machine.store client envelope moment octets in
     subst (IsFitFor oracles) (same_Some _ _ is)
     (record {
-      fit = fit_acts IsFit taken.changes taken.reply (end_by_fit (oracles.has_tree octets) machine.store client delivery);
-      sound = end_by_named (oracles.has_tree octets) machine.store client delivery named;
+      fit = fit_acts IsFit taken.changes taken.reply (end_by_fit (oracles.has_tree octets) (is_looping octets) machine.store client delivery);
+      sound = end_by_named (oracles.has_tree octets) (is_looping octets) machine.store client delivery named;
     })
 
 fits_in : (oracles : Oracles) (state : State) (machine : Machine) (octets : List ℕ) (turn : Turn Machine (Act (List ℕ))) → IsStoreName (name_of machine.store.kept)
     → turn_from oracles state machine octets ≡ Some turn → IsFitFor oracles turn
-fits_in oracles fresh machine octets turn named is = line_fits oracles machine (next_line octets) turn named is
+fits_in oracles (fresh first) machine octets turn named is = line_fits oracles machine (next_line octets) turn named is
 fits_in oracles (greeted client) machine octets turn named is = line_fits oracles machine (next_line octets) turn named is
 fits_in oracles (mail client envelope) machine octets turn named is = line_fits oracles machine (next_line octets) turn named is
 fits_in oracles (collecting client envelope) machine octets turn named is = data_fit oracles machine client envelope (data_cut octets) turn named is

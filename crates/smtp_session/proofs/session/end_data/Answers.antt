@@ -6,9 +6,9 @@ use Rattle.session_core.specs.Keeps.{fault_of}
 use Rattle.session_core.specs.Moments.{moment_of}
 use Rattle.session_core.proofs.DoingLemmas.{DoesFirst-none}
 use Rattle.session_core.proofs.KeepsLemmas.{Keeps-memory, Keeps-nil}
-use Rattle.smtp_session.specs.Machine.{acts_in, end_by, end_data}
+use Rattle.smtp_session.specs.Machine.{acts_in, end_data}
 use Rattle.smtp_session.specs.Session.{line_octets}
-use Rattle.smtp_session.specs.private.Steps.{accepted_content}
+use Rattle.smtp_session.specs.private.Steps.{accepted_content, due_by}
 use Rattle.smtp_session.proofs.EndLemmas.{Does-refused, Does-same, dropped_is, end_deliverable, end_is, said_none}
 use Rattle.smtp_session.proofs.session.end_data.Goals as goal
 
@@ -46,7 +46,7 @@ returns-clause-does g c oracles are lines ended =
     let store = c.args.outside.now.desk.store in
     let moment = moment_of c.args.timestamp in
     let accepted = c.in_ok-accepted.accepted in
-    Does-same c.args.outside.now c.finish_data.new.outside (fault_of c.finish_data.result) (end_by (oracles.has_tree (accepted_content accepted)) store session.client accepted.delivery)
+    Does-same c.args.outside.now c.finish_data.new.outside (fault_of c.finish_data.result) (due_by oracles.has_tree store session.client accepted)
     (end_data oracles store session.client session.envelope moment (unstuffed lines))
     (end_is oracles c.args.whole.reader.limit store session.client session.envelope moment lines c.in-Some.content (accepted_content accepted) accepted.delivery (c.in-Some.ensures lines ended)
     (c.in_ok-accepted.ensures.content ∙ c.as_slice.ensures) (rw c.as_slice.ensures at (c.in_ok-accepted.ensures.delivery store (c.as_bytes-name.ensures.value ∙ (rw c.store.ensures at c.name.ensures)))))
