@@ -1,24 +1,22 @@
 -- What a part says of itself in an ASCII header is ASCII.
-use Rattle.std.proofs.Common.{◌≡◌, ℕ, ◌==◌, Bool, true, false, not, inl, inr, cond, List, [], ◌∷◌, ◌++◌, map, filter, drop, Option, Some, None, IfSome, refl}
+use Rattle.std.proofs.Common.{◌≡◌, ℕ, ◌==◌, Bool, true, false, inl, inr, cond, List, [], ◌∷◌, ◌++◌, map, filter, drop, Option, Some, None, IfSome, refl}
 use Rattle.std.proofs.lemmas.Bool.{and_parts, and_from}
 use Rattle.std.specs.List.{list_all, AllByRecursion}
 use Rattle.mail_wire.specs.Octets.{is_ascii}
 use Rattle.mail_wire.specs.declared.values.Span.{Span}
 use Rattle.mail_wire.proofs.AllLemmas.{pass-append, pass-take, pass-drop}
-use Rattle.field_tokens.specs.declared.Style.TheVariants.{Mime}
 use Rattle.field_tokens.specs.declared.Token.{Token}
 use Rattle.field_tokens.specs.Tokens.{octets_at}
-use Rattle.field_tokens.specs.Squeezed.{is_blank, run_octets, words_of}
+use Rattle.field_tokens.specs.Squeezed.{run_octets}
 use Rattle.param_2231.proofs.WordsAgain.{lower-ascii, lower-all}
 use Rattle.param_grammar.specs.declared.ParamKind.{ParamKind}
 use Rattle.param_grammar.specs.declared.Piece.{Piece}
 use Rattle.param_grammar.specs.Bodies.{inner, unquoted, is_filled, IsPiece, ArePieces, solid}
 use Rattle.address_grammar.specs.Addresses.{quoted_string}
 use Rattle.imap_views.specs.Strings.{before_mark, after_mark}
-use Rattle.imap_views.specs.Parts.{HasPieces, value_said, pair_of, pairs_of, TypeValue, usual_type, IsTypeSaid, IsTypeBy, IsDispositionBy, IsSoleAtom, IsEncodingBy, PartValue, SaysPart}
-use Rattle.imap_views.proofs.AsciiTexts.{AreAscii, AreAllAscii, pass_filter, quoted_ascii, parentheses_ascii, listed_ascii, before_ascii, following_ascii}
+use Rattle.imap_views.specs.Parts.{HasPieces, value_said, pair_of, pairs_of, TypeValue, usual_type, IsTypeSaid, IsTypeBy, IsDispositionBy, IsEncodingBy, PartValue, SaysPart}
+use Rattle.imap_views.proofs.AsciiTexts.{AreAscii, AreAllAscii, quoted_ascii, parentheses_ascii, listed_ascii, before_ascii, following_ascii}
 use Rattle.imap_views.proofs.AsciiFields.{first_ascii}
-use Rattle.imap_views.proofs.AsciiAddresses.{is_ascii_token, AreAsciiTokens, tokens_ascii}
 
 -- ---- runs of tokens
 
@@ -117,16 +115,10 @@ disposition_ascii (Some text) form (inl is) h =
     rw (is.3) (parentheses_ascii (quoted_string is.0 ++ 32 ∷ pairs_of is.1) (pass-append is_ascii (quoted_string is.0) (32 ∷ pairs_of is.1) (quoted_ascii is.0 has.main_part) (pairs_ascii is.1 has.each)))
 disposition_ascii (Some text) form (inr is) h = rw (is.1) refl
 
-atom_ascii : (text octets : List ℕ) → IsSoleAtom text octets → AreAscii text → AreAscii octets
-atom_ascii text octets is h =
-    let words : AreAsciiTokens (words_of is.tokens) = pass_filter is_ascii_token (λ token. not (is_blank token.kind)) is.tokens (tokens_ascii Mime is.tokens text is.has.are_tokens h) in
-    let one : AreAsciiTokens (is.atom ∷ []) = rw (is.words) at words in
-    rw (is.octets_are) at (and_parts (is_ascii_token is.atom) true one).0
-
-encoding_ascii : (value : Option (List ℕ)) (name : List ℕ) → IsEncodingBy value name → IfSome value AreAscii → AreAscii name
-encoding_ascii None name is h = rw (is) refl
-encoding_ascii (Some text) name (inl is) h = atom_ascii text name is h
-encoding_ascii (Some text) name (inr is) h = rw (is.1) refl
+encoding_ascii : (value : Option (List ℕ)) (name : List ℕ) → IsEncodingBy value name → AreAscii name
+encoding_ascii None name is = rw (is) refl
+encoding_ascii (Some text) name (inl is) = is.ascii
+encoding_ascii (Some text) name (inr is) = rw (is.1) refl
 
 -- ---- all of it
 
@@ -146,6 +138,6 @@ part_ascii digest raws part says h =
       params = typed.params;
       id = first_ascii _ raws part.id h says.id;
       description = first_ascii _ raws part.description h says.description;
-      encoding = encoding_ascii says.encoding.0 part.encoding says.encoding.2 (first_ascii _ raws says.encoding.0 h says.encoding.1);
+      encoding = encoding_ascii says.encoding.0 part.encoding says.encoding.2;
       disposition = disposition_ascii says.disposition.0 part.disposition says.disposition.2 (first_ascii _ raws says.disposition.0 h says.disposition.1);
     }

@@ -2,6 +2,8 @@
 use Rattle.std.proofs.Common.{◌≡◌, ◌⊎◌, ℕ, List, [], ◌∷◌, Bool, true, Option, Some, None, inl, inr, refl, sym, ap, ◌∙◌, subst}
 use Rattle.std.proofs.lemmas.Bool.{cases_Bool, both_ways}
 use Rattle.std.specs.Prelude.{codes}
+use Rattle.std.specs.List.{list_all}
+use Rattle.mail_wire.specs.Octets.{is_ascii}
 use Rattle.field_tokens.specs.declared.Style.TheVariants.{Mime}
 use Rattle.field_tokens.specs.Squeezed.{words_of, is_atom_kind}
 use Rattle.field_tokens.specs.Tokens.{TokenValue}
@@ -14,8 +16,8 @@ use Rattle.param_grammar.proofs.DecideParams.{decide_params}
 use Rattle.param_2231.proofs.GlobalLemmas.{kind_is}
 use Rattle.param_grammar.proofs.SaidTrees.{SaysParams-trees, HasParams-says}
 use Rattle.imap_views.specs.Strings.{nil}
-use Rattle.imap_views.specs.Parts.{HasPieces, IsNoField, pairs_of, TypeValue, usual_type, plain_text_type, IsTypeBy, disposition_form, IsDispositionBy, IsSoleAtom, IsEncodingBy, PartValue, IsByFirst, SaysPart}
-use Rattle.imap_views.proofs.OnePart.{same_one}
+use Rattle.imap_views.specs.Parts.{HasPieces, IsNoField, pairs_of, TypeValue, usual_type, plain_text_type, IsTypeBy, disposition_form, IsDispositionBy, IsSoleAtom, IsMechanism, IsEncodingBy, PartValue, IsByFirst, SaysPart}
+use Rattle.imap_views.proofs.OnePart.{same_one, high_atom}
 use Rattle.imap_views.proofs.RawFields.{HaveFirsts}
 
 -- a text has pieces, or it is malformed
@@ -70,9 +72,19 @@ decide_one_atom text = elim (decide_tokens Mime text) [
   ]
 ]
 
+-- a text names a mechanism, or it doesn't
+decide_mechanism : (text : List ℕ) → ((octets : List ℕ) × IsMechanism text octets) ⊎ ((octets : List ℕ) → ¬ IsMechanism text octets)
+decide_mechanism text = elim (decide_one_atom text) [
+  | inr none ↦ inr (λ octets is. none octets is.sole)
+  | inl sole ↦ elim (cases_Bool (list_all is_ascii sole.0)) [
+    | inl ascii ↦ inl (sole.0, record { sole = sole.1; ascii = ascii })
+    | inr high ↦ inr (high_atom text sole.0 sole.1 high)
+  ]
+]
+
 some_encoding : (value : Option (List ℕ)) → (name : List ℕ) × IsEncodingBy value name
 some_encoding None = (codes "7bit", refl)
-some_encoding (Some text) = elim (decide_one_atom text) [
+some_encoding (Some text) = elim (decide_mechanism text) [
   | inl is ↦ (is.0, inl is.1)
   | inr none ↦ (codes "7bit", inr (none, refl))
 ]

@@ -1,6 +1,9 @@
 -- A part says one thing of itself at most.
-use Rattle.std.proofs.Common.{◌≡◌, ℕ, List, [], ◌∷◌, Bool, Option, Some, None, inl, inr, sym, ap, ◌∙◌, subst}
+use Rattle.std.proofs.Common.{◌≡◌, ℕ, List, [], ◌∷◌, Bool, true, false, Option, Some, None, inl, inr, sym, ap, ◌∙◌, subst}
+use Rattle.std.proofs.lemmas.Bool.{both_ways}
 use Rattle.std.specs.Prelude.{codes}
+use Rattle.std.specs.List.{list_all}
+use Rattle.mail_wire.specs.Octets.{is_ascii}
 use Rattle.field_tokens.specs.declared.Style.TheVariants.{Mime}
 use Rattle.field_tokens.specs.Squeezed.{words_of}
 use Rattle.field_tokens.specs.Tokens.{TokenValue}
@@ -10,7 +13,7 @@ use Rattle.param_grammar.specs.declared.ParamKind.TheVariants.{Content, Disposit
 use Rattle.param_grammar.specs.declared.Piece.{Piece}
 use Rattle.param_grammar.proofs.BodyLemmas.{HasBody-once}
 use Rattle.mime_tree.proofs.OneOpening.{first_once}
-use Rattle.imap_views.specs.Parts.{HasPieces, pairs_of, TypeValue, IsTypeSaid, IsTypeBy, disposition_form, IsDispositionBy, IsSoleAtom, IsEncodingBy, PartValue, IsByFirst, SaysPart}
+use Rattle.imap_views.specs.Parts.{HasPieces, pairs_of, TypeValue, IsTypeSaid, IsTypeBy, disposition_form, IsDispositionBy, IsSoleAtom, IsMechanism, IsEncodingBy, PartValue, IsByFirst, SaysPart}
 
 -- a text has one main part and one list of pieces
 pieces_once : (kind : ParamKind) (text main other : List ℕ) (pieces others : List Piece) → HasPieces kind text main pieces → HasPieces kind text other others → (main ≡ other) × (pieces ≡ others)
@@ -54,9 +57,13 @@ atom_once text octets others a b =
     let atom : a.atom ≡ b.atom = same_one a.atom b.atom (sym a.words ∙ ap words_of tokens ∙ b.words) in
     sym a.octets_are ∙ ap (λ (v : TokenValue). v.octets) atom ∙ b.octets_are
 
+-- a sole atom that isn't ASCII is no mechanism, and there is no other
+pub high_atom : (text sole : List ℕ) → IsSoleAtom text sole → list_all is_ascii sole ≡ false → (octets : List ℕ) → ¬ IsMechanism text octets
+high_atom text sole is high octets named = both_ways (list_all is_ascii sole) high (rw (atom_once text sole octets is named.sole) named.ascii)
+
 encoding_once : (value : Option (List ℕ)) (name other : List ℕ) → IsEncodingBy value name → IsEncodingBy value other → name ≡ other
 encoding_once None name other a b = a ∙ sym b
-encoding_once (Some text) name other (inl a) (inl b) = atom_once text name other a b
+encoding_once (Some text) name other (inl a) (inl b) = atom_once text name other a.sole b.sole
 encoding_once (Some text) name other (inl a) (inr b) = absurd (b.0 name a)
 encoding_once (Some text) name other (inr a) (inl b) = absurd (a.0 other b)
 encoding_once (Some text) name other (inr a) (inr b) = a.1 ∙ sym b.1

@@ -1,5 +1,7 @@
 -- What a part says of itself in its header block (RFC 2045, 5 and 6.1; RFC 2046, 5.1.5; RFC 2183).
-use Rattle.std.specs.Prelude.{◌≡◌, ℕ, ◌⊎◌, ◌==◌, Bool, if◌then◌else◌, List, [], ◌∷◌, ◌++◌, map, codes, Option, Some, None}
+use Rattle.std.specs.Prelude.{◌≡◌, ℕ, ◌⊎◌, ◌==◌, Bool, true, if◌then◌else◌, List, [], ◌∷◌, ◌++◌, map, codes, Option, Some, None}
+use Rattle.std.specs.List.{list_all}
+use Rattle.mail_wire.specs.Octets.{is_ascii}
 use Rattle.mail_wire.specs.Characters.{space, quote, slash, equals_sign}
 use Rattle.field_tokens.specs.declared.Style.TheVariants.{Mime}
 use Rattle.field_tokens.specs.declared.TokenKind.TheVariants.{Atom}
@@ -91,10 +93,15 @@ pub record IsSoleAtom (text octets : List ℕ) : Type 0 where
   pub kind : atom.kind ≡ Atom
   pub octets_are : atom.octets ≡ octets
 
+-- The text names this mechanism: one token, which is ASCII (RFC 2045, 5.1 and 6.1), with gaps and comments around it.
+pub record IsMechanism (text octets : List ℕ) : Type 0 where
+  pub sole : IsSoleAtom text octets
+  pub ascii : list_all is_ascii octets ≡ true
+
 -- an encoding as it is written; `7bit` where there is none or a malformed one
 abbrev pub IsEncodingBy : Option (List ℕ) → List ℕ → Type 0
 IsEncodingBy None name = name ≡ codes "7bit"
-IsEncodingBy (Some text) name = IsSoleAtom text name ⊎ (((octets : List ℕ) → ¬ IsSoleAtom text octets) × (name ≡ codes "7bit"))
+IsEncodingBy (Some text) name = IsMechanism text name ⊎ (((octets : List ℕ) → ¬ IsMechanism text octets) × (name ≡ codes "7bit"))
 
 -- ---- all of it
 

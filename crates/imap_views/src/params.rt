@@ -3,12 +3,12 @@ ghost use Rattle.std.specs.Prelude.{◌≡◌, ◌++◌, ℕ, List, IfOk, OnOk, 
 ghost use Rattle.param_grammar.specs.declared.Piece.{Piece};
 ghost use Rattle.param_grammar.specs.Placed.{HasPlaced};
 ghost use Rattle.param_grammar.specs.Places.{IsPlaced, ArePlaced};
-ghost use Rattle.imap_views.specs.Parts.{HasPieces, IsNoField, IsDispositionBy, IsEncodingBy, IsSoleAtom, IsTypeBy, TypeValue, disposition_form, pair_of, pairs_of, value_said, usual_params, usual_type};
+ghost use Rattle.imap_views.specs.Parts.{HasPieces, IsNoField, IsDispositionBy, IsEncodingBy, IsMechanism, IsSoleAtom, IsTypeBy, TypeValue, disposition_form, pair_of, pairs_of, value_said, usual_params, usual_type};
 
 use crate::strings::split_mark;
 use address_grammar::push_quoted_string;
 use field_tokens::{Style, TokenKind, read_tokens};
-use mail_wire::{Memory, Octets};
+use mail_wire::{Memory, Octets, is_ascii};
 use mime_tree::only_word;
 use param_grammar::{
     Body, ParamFault, ParamKind, Piece, Place, inner, piece_at, read_body, unquoted,
@@ -157,13 +157,27 @@ fn one_atom(alloc: Global, text: &[u8]) -> Result<Option<Octets>, Memory>
     Ok(Some(Octets::from_slice(alloc, octets)?))
 }
 
+// The mechanism that a text names: one atom, which is ASCII.
+fn mechanism(alloc: Global, text: &[u8]) -> Result<Option<Octets>, Memory>
+    ensures found { IfOk result (λ o. IfSome o (IsMechanism text.now)) }
+    ensures none { IfOk result (λ o. IfNone o ((octets : List ℕ) → ¬ IsMechanism text.now octets)) }
+{
+    let Some(atom) = one_atom(alloc, text)? else {
+        return Ok(None);
+    };
+    if !is_ascii(atom.as_slice()) {
+        return Ok(None);
+    }
+    Ok(Some(atom))
+}
+
 /// The encoding of a part.
 pub fn encoding_of(alloc: Global, value: &Option<Octets>) -> Result<Octets, Memory>
     ensures { IfOk result (λ made. IsEncodingBy value.now made) }
 {
     if let Some(text) = value {
-        if let Some(atom) = one_atom(alloc, text.as_slice())? {
-            return Ok(atom);
+        if let Some(name) = mechanism(alloc, text.as_slice())? {
+            return Ok(name);
         }
     }
     Octets::from_slice(alloc, b"7bit")

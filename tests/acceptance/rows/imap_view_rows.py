@@ -155,6 +155,7 @@ def of_views():
             ("a FETCH 1 ALL", told("FLAGS ()", f'INTERNALDATE "{DATE}"', size, envelope)), ("a UID FETCH 1 FULL", told("UID 1", "FLAGS ()",
             f'INTERNALDATE "{DATE}"', size, envelope, body))], b""))
     identifier = mailbox(["Message-ID: <é@x>\r\n".encode()])
+    encodings = mailbox([f"Content-Transfer-Encoding: {value}\r\n\r\nx\r\n".encode() for value in ("é", "base64 (é)")])
     return [
         *rows,
         ("an identifier beyond ASCII, to a legacy session", identifier, [LOGIN, select(1, 2), fetch("1 ENVELOPE", f"1 FETCH (ENVELOPE {NIL_ENVELOPE})")], b""),
@@ -173,6 +174,8 @@ def of_views():
             b"Content-Type: message/rfc822\r\nContent-Transfer-Encoding: base64\r\n\r\nx\r\n"]), [LOGIN, select(3, 4), fetch("1:3 BODY",
             f"1 FETCH (BODY {PLAIN.format(3, 1)})", '2 FETCH (BODY ("multipart" "mixed" ("boundary" "b") NIL NIL "7bit" 9))',
             '3 FETCH (BODY ("message" "rfc822" NIL NIL NIL "base64" 3))')], b""),
+        *((f"encodings beyond ASCII, to {kind} session", encodings, [LOGIN, *enable, select(2, 3), fetch("1:2 BODY", f"1 FETCH (BODY {PLAIN.format(3, 1)})",
+            f"2 FETCH (BODY {PLAIN.format(3, 1).replace('7bit', 'base64')})")], b"") for kind, enable in (("a legacy", []), ("an enabled", [ENABLE]))),
     ]
 
 

@@ -279,6 +279,24 @@ const STRUCTURES: [(&str, &[View]); 4] = [
                 false,
                 "(\"text\" \"plain\" (\"charset\" \"us-ascii\") NIL NIL \"7bit\" 1 0)",
             ),
+            View::Structure(
+                "Content-Transfer-Encoding: é\r\n\r\na",
+                true,
+                false,
+                "(\"text\" \"plain\" (\"charset\" \"us-ascii\") NIL NIL \"7bit\" 1 0)",
+            ),
+            View::Structure(
+                "Content-Transfer-Encoding: é\r\n\r\na",
+                false,
+                false,
+                "(\"text\" \"plain\" (\"charset\" \"us-ascii\") NIL NIL \"7bit\" 1 0)",
+            ),
+            View::Structure(
+                "Content-Transfer-Encoding: base64 (é)\r\n\r\na",
+                true,
+                false,
+                "(\"text\" \"plain\" (\"charset\" \"us-ascii\") NIL NIL \"base64\" 1 0)",
+            ),
         ],
     ),
 ];
