@@ -23,7 +23,7 @@ use Rattle.pop_session.specs.declared.command.TopNumbers.{TopNumbers}
 use Rattle.pop_session.specs.declared.states.MaildropMessage.{MaildropMessage}
 use Rattle.pop_session.specs.Commands.{Command, command_of, top_numbers_of}
 use Rattle.pop_session.specs.History.{AreInStore, IsOfMode, IsRefused, TellsSizes, after_command, asked_by_commands, commands_by, commands_in, commands_up_to, number_in}
-use Rattle.pop_session.specs.Machine.{ReplyPart, State, authorization, transaction, ended, asked_for, asked_for_found, asked_for_number, asked_for_top, asked_of, left_of, listed_at, listing_one_reply, of_message, of_number, of_top, retr_reply, size_of, step, top_reply, transaction_asks, transaction_step}
+use Rattle.pop_session.specs.Machine.{ReplyPart, State, greeted, authorization, transaction, ended, asked_for, asked_for_found, asked_for_number, asked_for_top, asked_of, left_of, listed_at, listing_one_reply, of_message, of_number, of_top, retr_reply, size_of, step, top_reply, transaction_asks, transaction_step}
 use Rattle.pop_session.specs.Session.{Machine, line_too_long, pop_grammar, pop_protocol, turns_of, wants_in}
 use Rattle.pop_session.proofs.ModeLemmas.{at_end, first_octet, machine_ends}
 
@@ -72,6 +72,7 @@ row_named maildrop store keyword.Top (Some text) number one is message = top_nam
 row_named maildrop store keyword.Dele argument number one is message = cc
 row_named maildrop store keyword.Rset argument number one is message = cc
 row_named maildrop store keyword.Noop argument number one is message = cc
+row_named maildrop store keyword.Http argument number one is message = cc
 row_named maildrop store keyword.Other argument number one is message = cc
 
 pub named_asked : (maildrop : List MaildropMessage) (store : StoreState) (command : Command) (number : ℕ) (one : Listed) → number_in command.keyword command.argument ≡ Some number
@@ -120,10 +121,12 @@ row_stored mode maildrop store keyword.Top (Some text) = top_stored mode store m
 row_stored mode maildrop store keyword.Dele argument = tt
 row_stored mode maildrop store keyword.Rset argument = tt
 row_stored mode maildrop store keyword.Noop argument = tt
+row_stored mode maildrop store keyword.Http argument = tt
 row_stored mode maildrop store keyword.Other argument = tt
 
 pub octets_asked : (state : State) (store : StoreState) (command : Command) → AreInStore store (asked_of state store command)
 unfolding asked_of
+octets_asked greeted store command = tt
 octets_asked (authorization mode user) store command = tt
 octets_asked (transaction mode maildrop) store command = row_stored mode maildrop store command.keyword command.argument
 octets_asked ended store command = tt
@@ -156,10 +159,12 @@ row_other mode maildrop store keyword.Top (Some text) other is = top_other mode 
 row_other mode maildrop store keyword.Dele argument other is = refl
 row_other mode maildrop store keyword.Rset argument other is = refl
 row_other mode maildrop store keyword.Noop argument other is = refl
+row_other mode maildrop store keyword.Http argument other is = refl
 row_other mode maildrop store keyword.Other argument other is = refl
 
 pub others_asked : (state : State) (store : StoreState) (command : Command) → ¬ TellsSizes command → number_in command.keyword command.argument ≡ None → asked_of state store command ≡ []
 unfolding asked_of
+others_asked greeted store command other is = refl
 others_asked (authorization mode user) store command other is = refl
 others_asked (transaction mode maildrop) store command other is = row_other mode maildrop store command.keyword command.argument other is
 others_asked ended store command other is = refl
@@ -204,10 +209,12 @@ row_refused oracles mode maildrop store keyword.Top (Some text) minus = top_refu
 row_refused oracles mode maildrop store keyword.Dele argument minus = refl
 row_refused oracles mode maildrop store keyword.Rset argument minus = refl
 row_refused oracles mode maildrop store keyword.Noop argument minus = refl
+row_refused oracles mode maildrop store keyword.Http argument minus = refl
 row_refused oracles mode maildrop store keyword.Other argument minus = refl
 
 pub refused_asked : (oracles : Oracles) (state : State) (store : StoreState) (command : Command) → IsRefused (step oracles state store command).reply → asked_of state store command ≡ []
 unfolding asked_of step
+refused_asked oracles greeted store command refused = refl
 refused_asked oracles (authorization mode user) store command refused = refl
 refused_asked oracles (transaction mode maildrop) store command refused = row_refused oracles mode maildrop store command.keyword command.argument (ap first_octet refused.1)
 refused_asked oracles ended store command refused = refl
@@ -248,10 +255,12 @@ row_enabled maildrop store keyword.Top (Some text) = top_enabled maildrop store 
 row_enabled maildrop store keyword.Dele argument = refl
 row_enabled maildrop store keyword.Rset argument = refl
 row_enabled maildrop store keyword.Noop argument = refl
+row_enabled maildrop store keyword.Http argument = refl
 row_enabled maildrop store keyword.Other argument = refl
 
 pub enabled_asked : (state : State) (store : StoreState) (command : Command) → IsOfMode enabled state → asked_of state store command ≡ []
 unfolding asked_of
+enabled_asked greeted store command is = refl
 enabled_asked (authorization mode user) store command is = refl
 enabled_asked (transaction mode maildrop) store command is = rw is (row_enabled maildrop store command.keyword command.argument)
 enabled_asked ended store command is = refl
@@ -293,6 +302,7 @@ framed_asked oracles n machine octets (too_long rest) more =
 
 state_asked : (oracles : Oracles) (n : ℕ) (state : State) (machine : Machine) (octets : List ℕ) → machine.state ≡ state → AsksSo oracles n
     → asked_after oracles n machine octets (turn_in pop_grammar oracles machine (wants_in state) octets) ≡ asked_by_commands oracles machine (commands_by (commands_up_to n) (next_line octets))
+state_asked oracles n greeted machine octets is more = framed_asked oracles n machine octets (next_line octets) more
 state_asked oracles n (authorization mode user) machine octets is more = framed_asked oracles n machine octets (next_line octets) more
 state_asked oracles n (transaction mode maildrop) machine octets is more = framed_asked oracles n machine octets (next_line octets) more
 state_asked oracles n ended machine octets is more =

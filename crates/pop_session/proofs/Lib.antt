@@ -9,6 +9,7 @@ pub mod MaildropLemmas
 pub mod TakenLemmas
 pub mod ManyLines
 pub mod ModeLemmas
+pub mod FirstLines
 pub mod MarkLemmas
 pub mod StoreLemmas
 pub mod RunLemmas

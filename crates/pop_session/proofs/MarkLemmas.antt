@@ -14,7 +14,7 @@ use Rattle.pop_session.specs.declared.states.MaildropMessage.{MaildropMessage}
 use Rattle.pop_session.specs.Commands.{Command}
 use Rattle.mail_wire.specs.Numbers.{number_of}
 use Rattle.pop_session.specs.History.{after_command, after_commands, is_among, with_marks, marks_found, marks_by_number, marks_by, marks_after, IsMarked, IsQuit}
-use Rattle.pop_session.specs.Machine.{State, authorization, transaction, ended, marked, listed_at, unmarked, inbox_messages, step, authorization_step, transaction_step, pass_step, dele_message, dele_step, quit_step, done, no_such_message}
+use Rattle.pop_session.specs.Machine.{State, greeted, authorization, transaction, ended, marked, listed_at, unmarked, inbox_messages, step, authorization_step, transaction_step, pass_step, dele_message, dele_step, quit_step, done, no_such_message}
 use Rattle.pop_session.specs.Session.{Machine}
 use Rattle.pop_session.proofs.ModeLemmas.{refused_not_done}
 
@@ -83,11 +83,13 @@ row_marked oracles mode listing marks store keyword.Capa argument = (refl, refl)
 row_marked oracles mode listing marks store keyword.Uidl argument = (refl, refl)
 row_marked oracles mode listing marks store keyword.Top argument = (refl, refl)
 row_marked oracles mode listing marks store keyword.Noop argument = (refl, refl)
+row_marked oracles mode listing marks store keyword.Http argument = (refl, refl)
 row_marked oracles mode listing marks store keyword.Other argument = (refl, refl)
 
 step_marked : (oracles : Oracles) (mode : Mode) (listing : List Listed) (marks : List ℕ) (state : State) (store : StoreState) (command : Command) → IsMarked mode listing marks state
     → IsMarked mode listing (marks_by listing marks command.keyword command.argument) (step oracles state store command).state
 unfolding step
+step_marked oracles mode listing marks greeted store command marked_so = absurd marked_so
 step_marked oracles mode listing marks (authorization is user) store command marked_so = absurd marked_so
 step_marked oracles mode listing marks (transaction is maildrop) store command marked_so =
     rw (marked_so.0, marked_so.1) (row_marked oracles mode listing marks store command.keyword command.argument)
@@ -126,6 +128,7 @@ row_login oracles mode is user store keyword.Top argument maildrop same = cc
 row_login oracles mode is user store keyword.Dele argument maildrop same = cc
 row_login oracles mode is user store keyword.Rset argument maildrop same = cc
 row_login oracles mode is user store keyword.Noop argument maildrop same = cc
+row_login oracles mode is user store keyword.Http argument maildrop same = cc
 row_login oracles mode is user store keyword.Other argument maildrop same = cc
 row_login oracles mode is user store keyword.Capa None maildrop same = cc
 row_login oracles mode is user store keyword.Capa (Some text) maildrop same = cc

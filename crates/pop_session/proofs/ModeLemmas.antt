@@ -1,6 +1,7 @@
 -- Which mode a session is in after commands, and after the lines of a stream.
 use Rattle.std.proofs.Common.{◌≡◌, ◌≢◌, ℕ, zero, suc, List, [], ◌∷◌, Bool, true, false, refl, sym, ap, subst, ◌∙◌, ◌⊎◌, inl, inr, Some, None, Option, arith}
 use Rattle.std.specs.Prelude.{◌||◌, ◌↔◌, IsTrue}
+use Rattle.std.proofs.lemmas.Bool.{cases_Bool}
 use Rattle.std.specs.Option.{option_map_or}
 use Rattle.mail_wire.specs.Framing.{Framed, waiting, whole, too_long, next_line}
 use Rattle.session_core.specs.Turns.{Turn, stay, following, turns}
@@ -20,7 +21,7 @@ use Rattle.pop_session.specs.declared.states.MaildropMessage.{MaildropMessage}
 use Rattle.pop_session.specs.Commands.{Command, command_of}
 use Rattle.mail_wire.specs.Numbers.{number_of}
 use Rattle.pop_session.specs.History.{after_command, after_commands, commands_by, commands_up_to, commands_in, IsOfMode, is_utf8, enables, some_enables, mode_after, IsQuit}
-use Rattle.pop_session.specs.Machine.{ReplyPart, line, shown, State, authorization, transaction, ended, done, out_of_order, syntax_error, listed_at, step, authorization_step, transaction_step, dele_message, dele_step, pass_step}
+use Rattle.pop_session.specs.Machine.{ReplyPart, line, shown, State, greeted, authorization, transaction, ended, done, out_of_order, syntax_error, listed_at, step, authorization_step, first_step, is_http, transaction_step, dele_message, dele_step, pass_step}
 use Rattle.pop_session.specs.laws.PopLaws.{step_quiet}
 use Rattle.pop_session.specs.Session.{Machine, pop_grammar, pop_protocol, turns_of, start_of, wants_in}
 
@@ -40,6 +41,7 @@ authorization_mode oracles mode user store keyword.Top argument = refl
 authorization_mode oracles mode user store keyword.Dele argument = refl
 authorization_mode oracles mode user store keyword.Rset argument = refl
 authorization_mode oracles mode user store keyword.Noop argument = refl
+authorization_mode oracles mode user store keyword.Http argument = refl
 authorization_mode oracles mode user store keyword.Other argument = refl
 authorization_mode oracles mode user store keyword.Capa None = refl
 authorization_mode oracles mode user store keyword.Capa (Some text) = refl
@@ -54,6 +56,12 @@ authorization_mode oracles mode None store keyword.Pass (Some password) = refl
 authorization_mode oracles mode (Some name) store keyword.Pass (Some password) = pass_mode mode store (logged_in oracles.path_of store.kept name password)
 authorization_mode oracles mode user store keyword.Quit None = tt
 authorization_mode oracles mode user store keyword.Quit (Some text) = refl
+
+first_mode : (oracles : Oracles) (store : StoreState) (word : Keyword) (argument : Option (List ℕ)) → IsOfMode (mode_after (is_utf8 word argument) legacy) (first_step oracles store word argument).state
+first_mode oracles store word argument = elim (cases_Bool (is_http word)) [
+  | inl http ↦ rw (http) tt
+  | inr other ↦ rw (other) (authorization_mode oracles legacy None store word argument)
+]
 
 message_mode : (mode : Mode) (maildrop : List MaildropMessage) (number : ℕ) (found : Option Listed) → IsOfMode mode (dele_message mode maildrop number found).state
 message_mode mode maildrop number None = refl
@@ -81,12 +89,16 @@ transaction_mode oracles mode maildrop store keyword.Capa argument = refl
 transaction_mode oracles mode maildrop store keyword.Uidl argument = refl
 transaction_mode oracles mode maildrop store keyword.Top argument = refl
 transaction_mode oracles mode maildrop store keyword.Noop argument = refl
+transaction_mode oracles mode maildrop store keyword.Http argument = refl
 transaction_mode oracles mode maildrop store keyword.Other argument = refl
 
 -- a command leaves the mode, but UTF8 before login
 pub step_mode : (oracles : Oracles) (state : State) (store : StoreState) (command : Command) (mode : Mode) → IsOfMode mode state
     → IsOfMode (mode_after (enables state command) mode) (step oracles state store command).state
 unfolding step
+step_mode oracles greeted store command mode same =
+    subst (λ m. IsOfMode (mode_after (is_utf8 command.keyword command.argument) m) (first_step oracles store command.keyword command.argument).state) same
+    (first_mode oracles store command.keyword command.argument)
 step_mode oracles (authorization is user) store command mode same =
     subst (λ m. IsOfMode (mode_after (is_utf8 command.keyword command.argument) m) (authorization_step oracles is user store command.keyword command.argument).state) same
     (authorization_mode oracles is user store command.keyword command.argument)
@@ -98,6 +110,7 @@ step_mode oracles ended store command mode same = tt
 -- QUIT ends the session
 quit_ends : (oracles : Oracles) (state : State) (store : StoreState) (command : Command) → IsQuit state command → (step oracles state store command).state ≡ ended
 unfolding step
+quit_ends oracles greeted store command is = absurd is
 quit_ends oracles (authorization mode user) store command is = absurd is
 quit_ends oracles (transaction mode maildrop) store command is = rw (is.0, is.1) refl
 quit_ends oracles ended store command is = absurd is
@@ -178,6 +191,7 @@ framed_left oracles n machine octets (too_long rest) more =
 state_left : (oracles : Oracles) (n : ℕ) (state : State) (machine : Machine) (octets : List ℕ) → machine.state ≡ state
     → ((next : Machine) (rest : List ℕ) → IsLeft oracles next (commands_up_to n rest) (left_by oracles n next rest))
     → IsLeft oracles machine (commands_by (commands_up_to n) (next_line octets)) (left_following oracles n machine octets (turn_in pop_grammar oracles machine (wants_in state) octets))
+state_left oracles n greeted machine octets is more = framed_left oracles n machine octets (next_line octets) more
 state_left oracles n (authorization mode user) machine octets is more = framed_left oracles n machine octets (next_line octets) more
 state_left oracles n (transaction mode maildrop) machine octets is more = framed_left oracles n machine octets (next_line octets) more
 state_left oracles n ended machine octets is more =
@@ -233,6 +247,8 @@ pub utf8_accepted : (oracles : Oracles) (state : State) (store : StoreState) (ar
     → let command : Command = record { keyword = keyword.Utf8; argument = argument } in
     ((step oracles state store command).reply ≡ done) ↔ IsTrue (enables state command)
 unfolding step
+utf8_accepted oracles greeted store None = (λ same. refl, λ is. refl)
+utf8_accepted oracles greeted store (Some text) = (λ same. absurd (refused_not_done syntax_error refl same), λ is. cc)
 utf8_accepted oracles (authorization mode user) store None = (λ same. refl, λ is. refl)
 utf8_accepted oracles (authorization mode user) store (Some text) = (λ same. absurd (refused_not_done syntax_error refl same), λ is. cc)
 utf8_accepted oracles (transaction mode maildrop) store argument = (λ same. absurd (refused_not_done out_of_order refl same), λ is. cc)
@@ -248,6 +264,7 @@ not_utf8 keyword.Top argument other is = cc
 not_utf8 keyword.Dele argument other is = cc
 not_utf8 keyword.Rset argument other is = cc
 not_utf8 keyword.Noop argument other is = cc
+not_utf8 keyword.Http argument other is = cc
 not_utf8 keyword.Other argument other is = cc
 not_utf8 keyword.Capa argument other is = cc
 not_utf8 keyword.User argument other is = cc
@@ -255,6 +272,7 @@ not_utf8 keyword.Pass argument other is = cc
 not_utf8 keyword.Quit argument other is = cc
 
 pub other_enables_not : (state : State) (command : Command) → command.keyword ≢ keyword.Utf8 → ¬ IsTrue (enables state command)
+other_enables_not greeted command other is = not_utf8 command.keyword command.argument other is
 other_enables_not (authorization mode user) command other is = not_utf8 command.keyword command.argument other is
 other_enables_not (transaction mode maildrop) command other is = cc
 other_enables_not ended command other is = cc

@@ -62,6 +62,7 @@ transaction_step-other oracles mode maildrop store keyword.Capa argument is = re
 transaction_step-other oracles mode maildrop store keyword.Uidl argument is = refl
 transaction_step-other oracles mode maildrop store keyword.Top argument is = refl
 transaction_step-other oracles mode maildrop store keyword.Noop argument is = refl
+transaction_step-other oracles mode maildrop store keyword.Http argument is = refl
 transaction_step-other oracles mode maildrop store keyword.Other argument is = refl
 
 -- ---- steps that were carried out
@@ -210,6 +211,7 @@ no_reply oracles mode maildrop a b met keyword.Dele argument none replies = Asks
 no_reply oracles mode maildrop a b met keyword.Rset argument none replies = AsksAndReplies-replies a b met (reply_octets oracles syntax_error) replies
 no_reply oracles mode maildrop a b met keyword.Noop None none replies = cc
 no_reply oracles mode maildrop a b met keyword.Noop (Some text) none replies = AsksAndReplies-replies a b met (reply_octets oracles syntax_error) replies
+no_reply oracles mode maildrop a b met keyword.Http argument none replies = AsksAndReplies-replies a b met (reply_octets oracles syntax_error) replies
 no_reply oracles mode maildrop a b met keyword.Other argument none replies = AsksAndReplies-replies a b met (reply_octets oracles syntax_error) replies
 
 -- ---- TOP

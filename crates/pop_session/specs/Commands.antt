@@ -1,7 +1,8 @@
 -- The words of a command line (RFC 1939, 3).
-use Rattle.std.specs.Prelude.{ℕ, ◌+◌, ◌-◌, ◌==◌, List, [], ◌∷◌, Bool, Option, None, Some, length, take, drop, codes, unwrap_or, option_and_then, position}
+use Rattle.std.specs.Prelude.{ℕ, ◌+◌, ◌-◌, ◌==◌, List, [], ◌∷◌, Bool, Option, None, Some, length, take, drop, codes, if◌then◌else◌, unwrap_or, option_and_then, position}
 use Rattle.std.specs.List.{before_first}
 use Rattle.std.specs.Option.{option_map}
+use Rattle.http_lines.specs.Requests.{is_http_request}
 use Rattle.mail_wire.specs.Characters.{space}
 use Rattle.mail_wire.specs.Numbers.{number_of}
 use Rattle.mail_wire.specs.Tables.{Named, said_by}
@@ -31,7 +32,7 @@ keywords =
     ∷ record { word = codes "rset"; says = keyword.Rset }
     ∷ record { word = codes "noop"; says = keyword.Noop } ∷ []
 
--- keywords are read in any case
+-- Keywords are read in any case (RFC 1939, 3).
 abbrev pub keyword_of : List ℕ → Keyword
 keyword_of word = unwrap_or (said_by keywords word) keyword.Other
 
@@ -47,9 +48,13 @@ text_of line = take (length line - 2) line
 unfoldable pub argument_of : List ℕ → Option (List ℕ)
 argument_of text = option_map (λ at. drop (at + 1) text) (position is_space text)
 
+-- a line that begins an HTTP request has a keyword of its own (RFC 9112, 3)
+abbrev pub keyword_in : List ℕ → Keyword
+keyword_in line = if is_http_request line then keyword.Http else keyword_of (before_first is_space (text_of line))
+
 -- the command of a line
 abbrev pub command_of : List ℕ → Command
-command_of line = record { keyword = keyword_of (before_first is_space (text_of line)); argument = argument_of (text_of line) }
+command_of line = record { keyword = keyword_in line; argument = argument_of (text_of line) }
 
 -- The message number and the number of lines of TOP, where the latter is one (RFC 1939, 7).
 abbrev pub with_lines : ℕ → Option ℕ → Option TopNumbers

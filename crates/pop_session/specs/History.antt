@@ -7,7 +7,7 @@ use Rattle.mail_wire.specs.Framing.{Framed, waiting, whole, too_long, next_line}
 use Rattle.kept_mail.specs.declared.kept.Listed.{Listed}
 use Rattle.mail_store.specs.StoreState.{StoreState}
 use Rattle.surrogate_cache.specs.Caching.{Asked}
-use Rattle.surrogate_cache.specs.Served.{Mode, enabled}
+use Rattle.surrogate_cache.specs.Served.{Mode, legacy, enabled}
 use Rattle.session_core.specs.Desks.{stored_octets}
 use Rattle.session_core.specs.Oracles.{Oracles}
 use Rattle.pop_session.specs.declared.command.Keyword.{Keyword}
@@ -16,7 +16,7 @@ use Rattle.pop_session.specs.declared.states.MaildropMessage.{MaildropMessage}
 use Rattle.pop_session.specs.declared.command.TopNumbers.{TopNumbers}
 use Rattle.pop_session.specs.Commands.{Command, command_of, top_numbers_of}
 use Rattle.mail_wire.specs.Numbers.{number_of}
-use Rattle.pop_session.specs.Machine.{ReplyPart, says, State, authorization, transaction, ended, listed_at, asked_of, step}
+use Rattle.pop_session.specs.Machine.{ReplyPart, says, State, greeted, authorization, transaction, ended, listed_at, asked_of, step}
 use Rattle.pop_session.specs.Session.{Machine, after_step}
 
 -- ---- the commands that are done
@@ -49,6 +49,7 @@ commands_in octets = commands_up_to (length octets) octets
 
 -- the state has this mode, or the session has ended
 abbrev pub IsOfMode : Mode → State → Type 0
+IsOfMode mode greeted = legacy ≡ mode
 IsOfMode mode (authorization is user) = is ≡ mode
 IsOfMode mode (transaction is maildrop) = is ≡ mode
 IsOfMode mode ended = Unit {0}
@@ -60,6 +61,7 @@ is_utf8 word argument = false
 
 -- The command enables UTF-8: it is an UTF8 that is accepted, before login (RFC 6856, 2).
 abbrev pub enables : State → Command → Bool
+enables greeted command = is_utf8 command.keyword command.argument
 enables (authorization mode user) command = is_utf8 command.keyword command.argument
 enables (transaction mode maildrop) command = false
 enables ended command = false
@@ -78,6 +80,7 @@ mode_after false mode = mode
 
 -- QUIT after login
 abbrev pub IsQuit : State → Command → Type 0
+IsQuit greeted command = ⊥
 IsQuit (authorization mode user) command = ⊥
 IsQuit (transaction mode maildrop) command = (command.keyword ≡ keyword.Quit) × (command.argument ≡ None)
 IsQuit ended command = ⊥
@@ -115,6 +118,7 @@ marks_after listing marks (command ∷ commands) = marks_after listing (marks_by
 
 -- the session is logged in to these messages, of which those of these numbers are marked, or it has ended
 abbrev pub IsMarked : Mode → List Listed → List ℕ → State → Type 0
+IsMarked mode listing marks greeted = ⊥
 IsMarked mode listing marks (authorization is user) = ⊥
 IsMarked mode listing marks (transaction is maildrop) = (is ≡ mode) × (maildrop ≡ with_marks 1 marks listing)
 IsMarked mode listing marks ended = Unit {0}

@@ -12,7 +12,7 @@ use Rattle.kept_mail.specs.Kept.{Kept, change_at, logged_in, inbox_of, listed}
 use Rattle.mail_store.specs.StoreState.{StoreState}
 use Rattle.journal_records.specs.declared.records.Record.{Record}
 use Rattle.surrogate_cache.specs.Caching.{Asked, asked_by}
-use Rattle.surrogate_cache.specs.Served.{Mode, enabled, served_by}
+use Rattle.surrogate_cache.specs.Served.{Mode, legacy, enabled, served_by}
 use Rattle.session_core.specs.Oracles.{Oracles}
 use Rattle.pop_session.specs.declared.command.Keyword.{Keyword}
 use Rattle.pop_session.specs.declared.command.Keyword.TheVariants as keyword
@@ -31,6 +31,8 @@ pub data ReplyPart : Type 0 where
 
 -- The states of a session (RFC 1939, 3).
 pub data State : Type 0 where
+  -- AUTHORIZATION before the first line, when no name was given and UTF-8 isn't enabled
+  greeted : State
   -- AUTHORIZATION, with the name that USER gave
   authorization : (mode : Mode) (user : Option (List ℕ)) → State
   -- TRANSACTION, with the messages of INBOX at login and those of them that are marked as deleted
@@ -238,6 +240,16 @@ authorization_step oracles mode user store keyword argument =
     if is_of_transaction keyword then answers out_of_order (authorization mode user)
     else authorization_row oracles mode user store keyword argument
 
+-- The line begins an HTTP request.
+abbrev pub is_http : Keyword → Bool
+is_http keyword.Http = true
+is_http keyword = false
+
+-- The first line of a session: an HTTP request is refused and ends it, so that no page speaks POP3 through a browser; any other line is one of AUTHORIZATION.
+abbrev pub first_step : Oracles → StoreState → Keyword → Option (List ℕ) → Step
+first_step oracles store keyword argument =
+    if is_http keyword then answers syntax_error ended else authorization_step oracles legacy None store keyword argument
+
 -- the replies of the rows of TRANSACTION that leave the state
 abbrev pub transaction_reply : Oracles → Mode → List MaildropMessage → StoreState → Keyword → Option (List ℕ) → List ReplyPart
 transaction_reply oracles mode maildrop store keyword.User argument = out_of_order
@@ -284,6 +296,7 @@ transaction_step oracles mode maildrop store keyword argument =
 
 -- one command
 unfoldable pub step : Oracles → State → StoreState → Command → Step
+step oracles greeted store command = first_step oracles store command.keyword command.argument
 step oracles (authorization mode user) store command = authorization_step oracles mode user store command.keyword command.argument
 step oracles (transaction mode maildrop) store command = transaction_step oracles mode maildrop store command.keyword command.argument
 step oracles ended store command = answers [] ended
@@ -324,6 +337,7 @@ transaction_asks mode maildrop store keyword argument = []
 
 -- one command
 unfoldable pub asked_of : State → StoreState → Command → List Asked
+asked_of greeted store command = []
 asked_of (authorization mode user) store command = []
 asked_of (transaction mode maildrop) store command = transaction_asks mode maildrop store command.keyword command.argument
 asked_of ended store command = []

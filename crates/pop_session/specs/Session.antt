@@ -6,7 +6,6 @@ use Rattle.session_core.specs.Acts.{Act, acts_of, asking}
 use Rattle.mail_store.specs.Following.{records_of}
 use Rattle.mail_store.specs.StoreState.{StoreState, AreStored, with_records}
 use Rattle.surrogate_cache.specs.Caching.{Asked}
-use Rattle.surrogate_cache.specs.Served.{legacy}
 use Rattle.session_core.specs.Around.{Around}
 use Rattle.session_core.specs.Doing.{Does}
 use Rattle.session_core.specs.Grammar.{Grammar, Row, protocol_of}
@@ -18,7 +17,7 @@ use Rattle.session_core.specs.declared.desk.Desk.{Desk}
 use Rattle.session_core.specs.declared.rows.Wants.{Wants}
 use Rattle.session_core.specs.declared.rows.Wants.TheVariants as wants
 use Rattle.pop_session.specs.Commands.{command_of}
-use Rattle.pop_session.specs.Machine.{ReplyPart, State, authorization, transaction, ended, says, Step, acts_in, asked_of, step}
+use Rattle.pop_session.specs.Machine.{ReplyPart, State, greeted, authorization, transaction, ended, says, Step, acts_in, asked_of, step}
 use Rattle.pop_session.specs.Replies.{IsFit, part_octets}
 use Rattle.pop_session.specs.States.{state_of, state_or_ended, KnowsState}
 use Rattle.pop_session.specs.declared.states.PopState.{PopState}
@@ -40,12 +39,13 @@ after_step store taken = record { state = taken.state; store = with_records stor
 abbrev pub greeting : List ReplyPart
 greeting = says (codes "+OK ready")
 
--- a session begins as legacy
+-- no line was read yet
 abbrev pub start_of : StoreState → Machine
-start_of store = record { state = authorization legacy None; store = store }
+start_of store = record { state = greeted; store = store }
 
 -- after the end no command is read
 abbrev pub wants_in : State → Option Wants
+wants_in greeted = Some wants.Line
 wants_in (authorization mode user) = Some wants.Line
 wants_in (transaction mode maildrop) = Some wants.Line
 wants_in ended = None

@@ -11,10 +11,11 @@ use Rattle.pop_session.specs.declared.states.PopState.{PopState}
 use Rattle.pop_session.specs.declared.states.PopState.TheVariants as pop
 use Rattle.pop_session.specs.declared.states.Login.{Login}
 use Rattle.pop_session.specs.declared.states.Login.TheVariants.{OutOfOrder, Refused, Open}
-use Rattle.pop_session.specs.Machine.{State, authorization, transaction, ended, maildrop_of}
+use Rattle.pop_session.specs.Machine.{State, greeted, authorization, transaction, ended, maildrop_of}
 
 -- the machine's state
 abbrev pub state_of : PopState → State
+state_of pop.Greeted = greeted
 state_of (pop.Authorization session) = authorization legacy session.state.user
 state_of (pop.EnabledAuthorization session) = authorization enabled session.state.user
 state_of (pop.Transaction session) = transaction legacy session.state.maildrop.items
@@ -32,6 +33,7 @@ pub record Knows (store : StoreState) (maildrop : List MaildropMessage) : Type 0
 
 -- the store has the messages that the state names
 abbrev pub KnowsState : StoreState → State → Type 0
+KnowsState store greeted = Unit {0}
 KnowsState store (authorization mode user) = Unit {0}
 KnowsState store (transaction mode maildrop) = Knows store maildrop
 KnowsState store ended = Unit {0}

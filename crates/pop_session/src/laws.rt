@@ -1,6 +1,8 @@
-//! Laws of what is sent of a message, of the mode of a session, of what QUIT takes out, of the store after a stream, and of what is asked for.
-ghost use Rattle.std.specs.Prelude.{◌≡◌, ◌≢◌, ◌++◌, ◌∷◌, ◌↔◌, [], ℕ, List, Option, None, Some, codes, map, IsTrue};
+//! Laws of HTTP requests, of what is sent of a message, of the mode of a session, of what QUIT takes out, of the store after a stream, and of what is asked for.
+ghost use Rattle.std.specs.Prelude.{◌≡◌, ◌≢◌, ◌++◌, ◌∷◌, ◌↔◌, [], ℕ, List, Option, None, Some, codes, map, true, false, IsTrue};
 ghost use Rattle.std.specs.List.{All, flat_map};
+ghost use Rattle.http_lines.specs.Requests.{is_http_request};
+ghost use Rattle.mail_wire.specs.Framing.{next_line, whole};
 ghost use Rattle.mail_wire.specs.Lines.{lines_of};
 ghost use Rattle.kept_mail.specs.declared.kept.Listed.{Listed};
 ghost use Rattle.mail_store.specs.Following.{records_of};
@@ -10,13 +12,13 @@ ghost use Rattle.surrogate_cache.specs.Served.{Mode, legacy, enabled};
 ghost use Rattle.session_core.specs.Acts.{asked_in, changes_in};
 ghost use Rattle.session_core.specs.Desks.{stored_octets};
 ghost use Rattle.session_core.specs.Oracles.{Oracles};
-ghost use Rattle.pop_session.specs.Commands.{Command};
+ghost use Rattle.pop_session.specs.Commands.{Command, command_of};
 ghost use Rattle.mail_wire.specs.Numbers.{number_of};
 ghost use Rattle.pop_session.specs.History.{after_commands, commands_in, IsOfMode, enables, some_enables, mode_after, IsQuit, with_marks, marks_by, marks_after, IsMarked, AreInStore, IsRefused, TellsSizes, asked_by_commands, number_in};
-ghost use Rattle.pop_session.specs.Machine.{State, authorization, transaction, ended, asked_of, done, inbox_messages, left_of, listed_at, quit_step, step, transaction_step};
+ghost use Rattle.pop_session.specs.Machine.{State, greeted, authorization, transaction, ended, acts_in, answers, asked_of, done, inbox_messages, left_of, listed_at, quit_step, step, syntax_error, transaction_step};
 ghost use Rattle.pop_session.specs.Replies.{multi_line};
 ghost use Rattle.mail_wire.specs.Dots.{unstuffed_line, missing_end};
-ghost use Rattle.pop_session.specs.Session.{Machine, start_of, turns_of};
+ghost use Rattle.pop_session.specs.Session.{Machine, after_step, pop_protocol, start_of, turns_of};
 ghost use Rattle.pop_session.specs.declared.command.Keyword.TheVariants as keyword;
 ghost use Rattle.pop_session.specs.declared.states.MaildropMessage.{MaildropMessage};
 
@@ -26,6 +28,18 @@ pub fn stuffed_lines_are_no_dots()
     ensures none { (text : List ℕ) → All (λ line. line ≢ codes ".\r\n") (lines_of (multi_line text)) }
     ensures end { (text : List ℕ) → lines_of (multi_line text ++ codes ".\r\n") ≡ lines_of (multi_line text) ++ codes ".\r\n" ∷ [] }
     ensures back { (text : List ℕ) → flat_map unstuffed_line (lines_of (multi_line text)) ≡ text ++ missing_end text }
+{}
+
+/// A first line that begins an HTTP request is answered `-ERR syntax`, and the session has ended. Any other does what it does in AUTHORIZATION
+/// of a legacy session in which no name was given. A later line that begins such a request is one with an unknown keyword.
+pub fn only_a_first_line_is_refused_as_http()
+    ensures first { (oracles : Oracles) (store : StoreState) (text rest octets : List ℕ) → next_line octets ≡ whole text rest → is_http_request text ≡ true
+        → pop_protocol.next oracles (start_of store) octets
+        ≡ Some (record { parts = acts_in (answers syntax_error ended); after = after_step store (answers syntax_error ended); rest = rest }) }
+    ensures others { (oracles : Oracles) (store : StoreState) (text : List ℕ) → is_http_request text ≡ false
+        → step oracles greeted store (command_of text) ≡ step oracles (authorization legacy None) store (command_of text) }
+    ensures later { (oracles : Oracles) (state : State) (store : StoreState) (argument : Option (List ℕ)) → state ≢ greeted
+        → step oracles state store (record { keyword = keyword.Http; argument = argument }) ≡ step oracles state store (record { keyword = keyword.Other; argument = argument }) }
 {}
 
 /// Only UTF8 that is accepted changes the mode, and every other command leaves it. So after a stream a session is enabled

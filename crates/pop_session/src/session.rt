@@ -9,13 +9,15 @@ ghost use Rattle.session_core.specs.Oracles.{WithOracles};
 ghost use Rattle.session_core.specs.Served.{met_of};
 ghost use Rattle.session_core.specs.Serving.{ServesBy};
 ghost use Rattle.session_core.specs.declared.rows.Wants.TheVariants.{Line};
-ghost use Rattle.pop_session.specs.Machine.{transaction, answers, done, marked, authorization_step, transaction_asks, transaction_step, transaction_reply, dele_step, quit_step};
+ghost use Rattle.pop_session.specs.Machine.{transaction, answers, done, marked, authorization_step, first_step, transaction_asks, transaction_step, transaction_reply, dele_step, quit_step};
 ghost use Rattle.pop_session.specs.Replies.{reply_octets};
 ghost use Rattle.pop_session.specs.Session.{pop_grammar, pop_protocol, PopStands, KnowsPop, TakesStep};
 ghost use Rattle.pop_session.specs.States.{state_or_ended, KnowsState, Knows};
 ghost use Rattle.pop_session.specs.laws.PopLaws.{agrees_by, opening_fits_by, rows_fit_by, long_rows_fit_by};
 
-use crate::command::{Command, Keyword, is_of_transaction, read_command, read_top_numbers};
+use crate::command::{
+    Command, Keyword, is_http, is_of_transaction, read_command, read_top_numbers,
+};
 use crate::replies::{
     Asked, find_message, list, list_one, message_at, retr, stat, top, uidl, uidl_one,
 };
@@ -92,6 +94,22 @@ fn authorize<V: Kind, W: Wire, J: Keeper, C: Clock>(
     let answer = answer_authorization(outside.alloc(), pop, command, outside.store())?;
     outside.give(answer.reply)?;
     Ok(answer.next)
+}
+
+// The first line: an HTTP request ends the session, and any other line is one of a legacy session.
+fn answer_first<W: Wire, J: Keeper, C: Clock>(
+    command: Command,
+    outside: &mut Outside<W, J, C>,
+) -> Result<Option<PopState>, Fault>
+    ensures takes { TakesStep outside.old outside.new result []
+        (λ oracles. first_step oracles outside.old.desk.store command.entry.keyword (option_copied command.entry.argument)) }
+    ensures keeps { Keeps outside.old outside.new (fault_of result) }
+{
+    if is_http(command.keyword) {
+        outside.give(SYNTAX)?;
+        return Ok(None);
+    }
+    authorize(Pop::new(), command, outside)
 }
 
 // Gives a text as a reply. Where there was no memory to make it, nothing is given.
@@ -347,10 +365,9 @@ impl Rows for PopState {
 
     ghost knows = { KnowsPop };
 
-    // A session is a legacy one until it asks for UTF-8 (RFC 6856, 2).
     fn begin<W: Wire, J: Keeper, C: Clock>(outside: &mut Outside<W, J, C>) -> Result<Self, Fault> {
         outside.give(b"+OK ready\r\n")?;
-        Ok(PopState::Authorization(Pop::new()))
+        Ok(PopState::Greeted)
     }
 
     fn wants(&self) -> Wants {
@@ -364,6 +381,7 @@ impl Rows for PopState {
     ) -> Result<Option<Self>, Fault> {
         let command = read_command(line);
         match self {
+            PopState::Greeted => answer_first(command, outside),
             PopState::Authorization(pop) => authorize(pop, command, outside),
             PopState::EnabledAuthorization(pop) => authorize(pop, command, outside),
             PopState::Transaction(pop) => transact(pop, command, outside),

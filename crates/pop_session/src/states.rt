@@ -42,6 +42,10 @@ pub struct Update {
     pub maildrop: Vec<MaildropMessage>,
 }
 
+// greeted --an HTTP request--> the end
+//    |
+//    | any other line, as in AUTHORIZATION
+//    v
 // AUTHORIZATION --PASS--> TRANSACTION --QUIT--> UPDATE --> the end
 //       |  ^                  |   ^
 //       +--+ UTF8, USER,      +---+ STAT, LIST, UIDL, RETR, TOP, DELE, RSET, NOOP, CAPA
@@ -54,9 +58,10 @@ pub struct Pop<S, V> {
     pub view: PhantomData<V>,
 }
 
-/// A session in any state, of either kind.
+/// A session in any state, of either kind. `Greeted` is before the first line.
 #[derive(Debug, Drop)]
 pub enum PopState {
+    Greeted,
     Authorization(Pop<Authorization, Legacy>),
     EnabledAuthorization(Pop<Authorization, Enabled>),
     Transaction(Pop<Transaction, Legacy>),

@@ -32,7 +32,7 @@ MAKERS = [
     generated_fields.subject, generated_fields.keywords, generated_fields.date, generated_addresses.certain_list,
     generated_parameters.certain_disposition, generated_traces.certain_trace, generated_traces.certain_recipient, generated_traces.identifier,
 ]
-WORDS = [b"USER", b"PASS", b"UTF8", b"STAT", b"LIST", b"RETR", b"QUIT", b"CAPA", b"NOOP", b"TOP", b"DELE", b"UIDL", b"RSET", b"", b"LISTS", b"RET"]
+WORDS = [b"USER", b"PASS", b"UTF8", b"STAT", b"LIST", b"RETR", b"QUIT", b"CAPA", b"NOOP", b"TOP", b"DELE", b"UIDL", b"RSET", b"", b"LISTS", b"RET", b"GET", b"POST", b"put"]
 ARGUMENTS = [None, None, b"", b" ", b"1", b"01", b"2", b"3", b"7", b"0", b"99999999999999999999", b"1 ", b"-1", b"x", b"\xe9", b"1 2"]
 SIZES = [1, 1, 1, 2, 3, 7, 64, 512]
 RECORDS = [

@@ -3,7 +3,8 @@
 The journal is read as pop_store.py says. A session answers lines that end with CRLF. A line is too long as soon as its octet
 65,537 is there. One space stands behind the keyword, and the rest of the line is the argument. State comes first, then the
 arguments, then the rest. A login is that of the first account whose mailbox the name names, with its password. Numbers are those of
-the messages at login; one that is marked as deleted has none. QUIT after a login expunges the marked messages in their order."""
+the messages at login; one that is marked as deleted has none. QUIT after a login expunges the marked messages in their order. A first
+line that begins an HTTP request is a syntax error and ends the session."""
 
 import re
 
@@ -13,6 +14,7 @@ from oracle.addresses import Uncertain
 from oracle.pop_store import Unopened, open_journal
 
 LINE_MAX = 65_536
+HTTP_METHODS = b"CONNECT", b"GET", b"HEAD", b"OPTIONS", b"POST", b"PUT"
 
 
 class Message:
@@ -27,6 +29,7 @@ class Session:
 
     def __init__(self, store):
         self.store = store
+        self.is_first = True
         self.is_enabled = False
         self.name = None
         self.shown = None
@@ -49,6 +52,10 @@ class Session:
 
     def answer(self, line):
         keyword, space, argument = line.partition(b" ")
+        was_first, self.is_first = self.is_first, False
+        if was_first and space and keyword in HTTP_METHODS:
+            self.has_ended = True
+            return b"-ERR syntax\r\n"
         keyword = keyword.upper()
         if keyword not in COMMANDS:
             return b"-ERR syntax\r\n"

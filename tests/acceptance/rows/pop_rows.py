@@ -122,6 +122,10 @@ def of_commands():
             "LIST ", "LIST x", "LIST 1 ", "LIST  1", "LIST -1", "RETR", "RETR ", "RETR +1", "RETR 1 1", "RETR\t1", "QUIT 1", "UIDL ", "UIDL 1 1",
             "TOP", "TOP 1", "TOP 1 ", "TOP  1", "TOP 1  1", "TOP 1 -1", "TOP x 1", "DELE", "DELE ", "DELE x", "RSET 1", "NOOP ", "CAPA "],
             [*READY, *["-ERR syntax"] * 7, "+OK", "+OK", *["-ERR syntax"] * 28]),
+        *((f"{method} in the first line", ANN, [f"{method} / HTTP/1.1", "Host: 127.0.0.1:110", "", *LOGIN], [*READY, "-ERR syntax"])
+            for method in ("CONNECT", "GET", "HEAD", "OPTIONS", "POST", "PUT")),
+        ("an HTTP request in the second line", ANN, ["NOOP", "POST / HTTP/1.1", *LOGIN], [*READY, "-ERR out of order", "-ERR syntax", "+OK", "+OK"]),
+        *((f"{line} in the first line", ANN, [line, *LOGIN], [*READY, "-ERR syntax", "+OK", "+OK"]) for line in ("post / HTTP/1.1", "POST", "DELETE / HTTP/1.1", " GET / HTTP/1.1")),
         ("a line of 65,536 octets", ANN, ["x" * (LINE_MAX - 2), "QUIT"], [*READY, "-ERR syntax", "+OK bye"]),
         ("a line of 65,537 octets", ANN, ["x" * (LINE_MAX - 1), "QUIT"], [*READY, "-ERR line too long"]),
     ]

@@ -1,5 +1,6 @@
 -- What holds of the rows: which change the store, and that what they give may be sent.
 use Rattle.std.proofs.Common.{◌≡◌, ℕ, ◌+◌, List, [], ◌∷◌, ◌++◌, length, Bool, true, false, refl, Some, None, Option, append-nil, ◌⊎◌, inl, inr, codes, sum_by}
+use Rattle.std.proofs.lemmas.Bool.{cases_Bool}
 use Rattle.std.specs.List.{list_all}
 use Rattle.std.specs.Fmt.{decimal}
 use Rattle.mail_wire.specs.Numbers.{number_of}
@@ -29,7 +30,7 @@ use Rattle.pop_session.specs.declared.command.Keyword.TheVariants as keyword
 use Rattle.pop_session.specs.declared.command.TopNumbers.{TopNumbers}
 use Rattle.pop_session.specs.Commands.{Command, command_of, top_numbers_of}
 use Rattle.pop_session.specs.History.{IsQuit}
-use Rattle.pop_session.specs.Machine.{ReplyPart, State, authorization, transaction, ended, line, shown, authorization_step, transaction_step, transaction_reply, pass_step, dele_message, dele_step, deleted_ids, taken_out, two_numbers, left_of, listed_at, size_of, listed_octets, listing_from, listing_one_reply, listing_reply, stat_reply, retr_reply, top_reply, of_message, of_number, of_top, uid_row, acts_in, asked_of, step}
+use Rattle.pop_session.specs.Machine.{ReplyPart, State, greeted, authorization, transaction, ended, line, shown, authorization_step, first_step, is_http, transaction_step, transaction_reply, pass_step, dele_message, dele_step, deleted_ids, taken_out, two_numbers, left_of, listed_at, size_of, listed_octets, listing_from, listing_one_reply, listing_reply, stat_reply, retr_reply, top_reply, of_message, of_number, of_top, uid_row, acts_in, asked_of, step}
 use Rattle.pop_session.specs.Replies.{IsFit, AreFit}
 use Rattle.pop_session.specs.Session.{Machine, PopStands, greeting, line_too_long, pop_grammar, wants_in}
 use Rattle.pop_session.specs.States.{state_of}
@@ -51,6 +52,7 @@ authorization_changes oracles mode user store keyword.Top argument = refl
 authorization_changes oracles mode user store keyword.Dele argument = refl
 authorization_changes oracles mode user store keyword.Rset argument = refl
 authorization_changes oracles mode user store keyword.Noop argument = refl
+authorization_changes oracles mode user store keyword.Http argument = refl
 authorization_changes oracles mode user store keyword.Other argument = refl
 authorization_changes oracles mode user store keyword.Capa None = refl
 authorization_changes oracles mode user store keyword.Capa (Some text) = refl
@@ -65,6 +67,13 @@ authorization_changes oracles mode None store keyword.Pass (Some password) = ref
 authorization_changes oracles mode (Some name) store keyword.Pass (Some password) = pass_changes mode store (logged_in oracles.path_of store.kept name password)
 authorization_changes oracles mode user store keyword.Quit None = refl
 authorization_changes oracles mode user store keyword.Quit (Some text) = refl
+
+-- nor does the first line
+pub first_changes : (oracles : Oracles) (store : StoreState) (word : Keyword) (argument : Option (List ℕ)) → (first_step oracles store word argument).changes ≡ []
+first_changes oracles store word argument = elim (cases_Bool (is_http word)) [
+  | inl http ↦ rw (http) refl
+  | inr other ↦ rw (other) (authorization_changes oracles legacy None store word argument)
+]
 
 message_changes : (mode : Mode) (maildrop : List MaildropMessage) (number : ℕ) (found : Option Listed) → (dele_message mode maildrop number found).changes ≡ []
 message_changes mode maildrop number None = refl
@@ -93,11 +102,13 @@ transaction_quiet oracles mode maildrop store keyword.Capa argument = inr refl
 transaction_quiet oracles mode maildrop store keyword.Uidl argument = inr refl
 transaction_quiet oracles mode maildrop store keyword.Top argument = inr refl
 transaction_quiet oracles mode maildrop store keyword.Noop argument = inr refl
+transaction_quiet oracles mode maildrop store keyword.Http argument = inr refl
 transaction_quiet oracles mode maildrop store keyword.Other argument = inr refl
 
 -- a command changes nothing, but QUIT after login
 pub step_quiet : (oracles : Oracles) (state : State) (store : StoreState) (command : Command) → IsQuit state command ⊎ ((step oracles state store command).changes ≡ [])
 unfolding step
+step_quiet oracles greeted store command = inr (first_changes oracles store command.keyword command.argument)
 step_quiet oracles (authorization mode user) store command = inr (authorization_changes oracles mode user store command.keyword command.argument)
 step_quiet oracles (transaction mode maildrop) store command = transaction_quiet oracles mode maildrop store command.keyword command.argument
 step_quiet oracles ended store command = inr refl
@@ -161,7 +172,14 @@ authorization_fit oracles mode None store keyword.Pass (Some password) = (refl, 
 authorization_fit oracles mode (Some name) store keyword.Pass (Some password) = pass_fit oracles mode store (logged_in oracles.path_of store.kept name password)
 authorization_fit oracles mode user store keyword.Quit None = (refl, tt)
 authorization_fit oracles mode user store keyword.Quit (Some text) = (refl, tt)
+authorization_fit oracles mode user store keyword.Http argument = (refl, tt)
 authorization_fit oracles mode user store keyword.Other argument = (refl, tt)
+
+first_fit : (oracles : Oracles) (store : StoreState) (word : Keyword) (argument : Option (List ℕ)) → AreFit oracles (first_step oracles store word argument).reply
+first_fit oracles store word argument = elim (cases_Bool (is_http word)) [
+  | inl http ↦ rw (http) (refl, tt)
+  | inr other ↦ rw (other) (authorization_fit oracles legacy None store word argument)
+]
 
 -- ---- what is shown of a message
 
@@ -209,6 +227,7 @@ reply_fit oracles are mode maildrop store stored keyword.Top (Some text) =
 reply_fit oracles are mode maildrop store stored keyword.Dele argument = (refl, tt)
 reply_fit oracles are mode maildrop store stored keyword.Rset argument = (refl, tt)
 reply_fit oracles are mode maildrop store stored keyword.Quit argument = (refl, tt)
+reply_fit oracles are mode maildrop store stored keyword.Http argument = (refl, tt)
 reply_fit oracles are mode maildrop store stored keyword.Other argument = (refl, tt)
 
 transaction_fit : (oracles : Oracles) → AreOracles oracles → (mode : Mode) (maildrop : List MaildropMessage) (store : StoreState) → AreStored store.kept.messages → (word : Keyword) (argument : Option (List ℕ))
@@ -229,10 +248,12 @@ transaction_fit oracles are mode maildrop store stored keyword.List argument = r
 transaction_fit oracles are mode maildrop store stored keyword.Uidl argument = reply_fit oracles are mode maildrop store stored keyword.Uidl argument
 transaction_fit oracles are mode maildrop store stored keyword.Retr argument = reply_fit oracles are mode maildrop store stored keyword.Retr argument
 transaction_fit oracles are mode maildrop store stored keyword.Top argument = reply_fit oracles are mode maildrop store stored keyword.Top argument
+transaction_fit oracles are mode maildrop store stored keyword.Http argument = reply_fit oracles are mode maildrop store stored keyword.Http argument
 transaction_fit oracles are mode maildrop store stored keyword.Other argument = reply_fit oracles are mode maildrop store stored keyword.Other argument
 
 step_fit : (oracles : Oracles) → AreOracles oracles → (state : State) (store : StoreState) → AreStored store.kept.messages → (command : Command) → AreFit oracles (step oracles state store command).reply
 unfolding step
+step_fit oracles are greeted store stored command = first_fit oracles store command.keyword command.argument
 step_fit oracles are (authorization mode user) store stored command = authorization_fit oracles mode user store command.keyword command.argument
 step_fit oracles are (transaction mode maildrop) store stored command = transaction_fit oracles are mode maildrop store stored command.keyword command.argument
 step_fit oracles are ended store stored command = tt
@@ -252,6 +273,7 @@ stored_taken store (id ∷ ids) stored = rw (append-nil (expunged (id ∷ ids)))
 
 step_sound : (oracles : Oracles) (state : State) (store : StoreState) (command : Command) → AreStored store.kept.messages → IsStoredAfter store (step oracles state store command).changes
 unfolding step
+step_sound oracles greeted store command stored = stored_as store _ (first_changes oracles store command.keyword command.argument) stored
 step_sound oracles (authorization mode user) store command stored = stored_as store _ (authorization_changes oracles mode user store command.keyword command.argument) stored
 step_sound oracles (transaction mode maildrop) store command stored = elim (transaction_quiet oracles mode maildrop store command.keyword command.argument) [
   | inl quit ↦ rw (quit.0, quit.1) (stored_taken store (deleted_ids maildrop) stored)
@@ -262,6 +284,7 @@ step_sound oracles ended store command stored = stored
 -- ---- the laws
 
 wants_by : (session : PopState) → wants_in (state_of session) ≡ Some wants.Line
+wants_by pop.Greeted = refl
 wants_by (pop.Authorization session) = refl
 wants_by (pop.EnabledAuthorization session) = refl
 wants_by (pop.Transaction session) = refl

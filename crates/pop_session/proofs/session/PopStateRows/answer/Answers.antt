@@ -3,6 +3,12 @@ use Rattle.pop_session.specs.declared.states.PopState.TheVariants as pop
 use Rattle.pop_session.proofs.RowLemmas.{answers_step}
 use Rattle.pop_session.proofs.session.PopStateRows.answer.Goals as goal
 
+pub returns-in-Greeted-clause-answers : goal.returns-in-Greeted-clause-answers
+unfolding asked_of step
+returns-in-Greeted-clause-answers g c = rw c.in-Greeted.is
+    (answers_step c.args.outside.now c.answer_first.new.outside pop.Greeted c.args.line.now c.answer_first.result
+    (rw (c.read_command-command.ensures.keyword, c.read_command-command.ensures.argument) at c.answer_first.ensures.takes))
+
 pub returns-in-Authorization-clause-answers : goal.returns-in-Authorization-clause-answers
 unfolding asked_of step
 returns-in-Authorization-clause-answers g c = rw c.in-Authorization.is
