@@ -2,6 +2,8 @@
 #![tactic(auto)]
 
 #[cfg(test)]
+mod lines;
+#[cfg(test)]
 mod test_ace_domains;
 #[cfg(test)]
 mod test_address_grammar;

@@ -1,194 +1,246 @@
-//! Texts and what is read of them.
-use address_grammar::{AddressFault, Element, Mailbox, read_list, read_path, write_address};
+//! Texts and what is read of them. A row has the text, and what is told.
+use address_grammar::{
+    Address, AddressFault, AddressList, Element, Mailbox, read_list, read_path, write_address,
+};
 use encoded_words::Unit;
+use mail_wire::{Memory, Octets};
+use std::alloc::Global;
 use std::test::Fail;
+use test_mail::{Case, all_hold};
 
-fn reads(rt: &HostRuntime, text: &str, local: &str, domain: &str) -> Result<bool, Fail> {
-    match read_path(rt.alloc(), text.as_bytes()) {
-        Ok(Some(address)) => Ok(
-            address.local.as_slice() == local.as_bytes()
-                && address.domain.as_slice() == domain.as_bytes(),
+// What is called with a text.
+#[derive(Clone, Copy)]
+enum Call {
+    // The local part and the domain are told, with a bar between the two.
+    ReadPath,
+    // An address is read, and told as it is written.
+    WriteAddress,
+    // Each element is told on a line, and then parentheses for each comment.
+    ReadList,
+}
+
+struct Row(Call, &'static str, &'static str);
+
+impl Case for Row {
+    fn holds(&self, alloc: Global) -> Result<bool, Memory> {
+        let mut told = Octets::new(alloc);
+        tell(alloc, self.0, self.1.as_bytes(), &mut told)?;
+        Ok(told.as_slice() == self.2.as_bytes())
+    }
+}
+
+fn tell(alloc: Global, call: Call, text: &[u8], told: &mut Octets) -> Result<(), Memory> {
+    match call {
+        Call::ReadPath => tell_path(told, read_path(alloc, text)),
+        Call::WriteAddress => tell_written(alloc, text, told),
+        Call::ReadList => tell_list(told, read_list(alloc, text)),
+    }
+}
+
+fn put_all(told: &mut Octets, parts: &[&[u8]]) -> Result<(), Memory> {
+    for part in parts {
+        told.push_slice(part)?;
+    }
+    Ok(())
+}
+
+fn tell_fault(told: &mut Octets, fault: AddressFault) -> Result<(), Memory> {
+    match fault {
+        AddressFault::Malformed => told.push_slice(b"malformed"),
+        AddressFault::Memory => Err(Memory),
+    }
+}
+
+fn tell_path(told: &mut Octets, read: Result<Option<Address>, AddressFault>) -> Result<(), Memory> {
+    match read {
+        Ok(Some(address)) => put_all(
+            told,
+            &[address.local.as_slice(), b"|", address.domain.as_slice()],
         ),
-        _ => Ok(false),
+        Ok(None) => told.push_slice(b"null"),
+        Err(fault) => tell_fault(told, fault),
     }
 }
 
-#[test]
-fn paths_are_read(rt: HostRuntime) -> Result<(), Fail> {
-    let rows = [
-        ("<a@b>", "a", "b"),
-        ("(x) < a . b (y)@ c . é >", "a.b", "c.é"),
-        ("<\"a b\".\"\\\"\"@[1\\]2]>", "a b.\"", "[1\\]2]"),
-        ("<\"\"@é>", "", "é"),
-    ];
-    for (text, local, domain) in rows {
-        assert!(rt; reads(&rt, text, local, domain)?, "{text}");
-    }
-    Ok(())
-}
-
-#[test]
-fn null_paths_are_read(rt: HostRuntime) -> Result<(), Fail> {
-    for text in ["<>", "<(x) >"] {
-        let read = read_path(rt.alloc(), text.as_bytes());
-        assert!(rt; read.is_ok_and(|answer| answer.is_none()), "{text}");
-    }
-    Ok(())
-}
-
-#[test]
-fn other_paths_are_malformed(rt: HostRuntime) -> Result<(), Fail> {
-    for text in [
-        "<a@>",
-        "<a>",
-        "a@b",
-        "<a@b",
-        "<@x:a@b>",
-        "<a@b>c",
-        "<a.@b>",
-        "<a@b.>",
-        "<a@\"b\">",
-        "",
-    ] {
-        let read = read_path(rt.alloc(), text.as_bytes());
-        assert!(rt;
-            read.is_err_and(|fault| fault == AddressFault::Malformed),
-            "{text}"
-        );
-    }
-    Ok(())
-}
-
-fn is_written(rt: &HostRuntime, text: &str, wanted: &str) -> Result<bool, Fail> {
-    match read_path(rt.alloc(), text.as_bytes()) {
+fn tell_written(alloc: Global, text: &[u8], told: &mut Octets) -> Result<(), Memory> {
+    match read_path(alloc, text) {
         Ok(Some(address)) => {
-            let made = write_address(rt.alloc(), &address).map_err(|_| "memory")?;
-            Ok(made.as_slice() == wanted.as_bytes())
+            let made = write_address(alloc, &address)?;
+            told.push_slice(made.as_slice())
         }
-        _ => Ok(false),
+        _ => told.push_slice(b"no address"),
     }
 }
 
-#[test]
-fn addresses_are_written(rt: HostRuntime) -> Result<(), Fail> {
-    let rows = [
-        ("<\"a\".b@ c . d>", "a.b@c.d"),
-        ("<\"é (\"@[1 2]>", "\"é (\"@[1 2]"),
-        ("<\"\\\"\\\\\\é\"@b>", "\"\\\"\\\\é\"@b"),
-        ("<\"\"@b>", "\"\"@b"),
-        ("<\".\"@b>", "\".\"@b"),
-    ];
-    for (text, wanted) in rows {
-        assert!(rt; is_written(&rt, text, wanted)?, "{text}");
-    }
-    Ok(())
-}
-
-fn says(units: &[Unit], text: &str) -> bool {
-    match units {
-        [Unit::Text(octets)] => octets.as_slice() == text.as_bytes(),
-        [] => text.is_empty(),
-        _ => false,
+fn tell_list(told: &mut Octets, read: Result<AddressList, AddressFault>) -> Result<(), Memory> {
+    match read {
+        Ok(list) => tell_elements(told, &list),
+        Err(fault) => tell_fault(told, fault),
     }
 }
 
-fn has_address(mailbox: &Mailbox, local: &str, domain: &str) -> bool {
-    mailbox.address.local.as_slice() == local.as_bytes()
-        && mailbox.address.domain.as_slice() == domain.as_bytes()
-}
-
-fn is_named(mailbox: &Mailbox, display: &str, local: &str, domain: &str) -> bool {
-    mailbox.phrase
-        && mailbox.angle
-        && says(mailbox.display.as_slice(), display)
-        && has_address(mailbox, local, domain)
-}
-
-fn is_nameless(mailbox: &Mailbox, angle: bool, local: &str, domain: &str) -> bool {
-    !mailbox.phrase
-        && mailbox.angle == angle
-        && mailbox.display.as_slice().is_empty()
-        && has_address(mailbox, local, domain)
-}
-
-fn has_members(element: &Element, group: &str, count: usize) -> bool {
-    match element {
-        Element::Group { name, members } => {
-            says(name.as_slice(), group) && members.as_slice().len() == count
+fn tell_elements(told: &mut Octets, list: &AddressList) -> Result<(), Memory> {
+    for element in list.elements.as_slice() {
+        match element {
+            Element::Mailbox(mailbox) => tell_mailbox(told, mailbox)?,
+            Element::Group { name, members } => {
+                tell_group(told, name.as_slice(), members.as_slice())?
+            }
         }
-        Element::Mailbox(_) => false,
+        told.push(b'\n')?;
     }
-}
-
-#[test]
-fn mailboxes_are_read(rt: HostRuntime) -> Result<(), Fail> {
-    let text = ", =?UTF-8?Q?=C3=A9?= a.<@x,@y:a@b> (c (d)), \"\" <c@d>,, g: a@é, (e) <f@g>;, h:;,";
-    let list = read_list(rt.alloc(), text.as_bytes()).map_err(|_| "fault")?;
-    let [
-        Element::Mailbox(first),
-        Element::Mailbox(second),
-        third,
-        fourth,
-    ] = list.elements.as_slice()
-    else {
-        return Err(Fail::from("other elements"));
-    };
-    assert!(rt; is_named(first, "é a.", "a", "b"));
-    assert!(rt; is_named(second, "", "c", "d"));
-    assert!(rt; has_members(third, "g", 2));
-    assert!(rt; has_members(fourth, "h", 0));
-    assert!(rt; list.comments.len() == 2);
-    Ok(())
-}
-
-#[test]
-fn members_are_read(rt: HostRuntime) -> Result<(), Fail> {
-    let list = read_list(rt.alloc(), "g: a@é, (e) <f@g>;".as_bytes()).map_err(|_| "fault")?;
-    let [Element::Group { members, .. }] = list.elements.as_slice() else {
-        return Err(Fail::from("other elements"));
-    };
-    let [first, second] = members.as_slice() else {
-        return Err(Fail::from("other members"));
-    };
-    assert!(rt; is_nameless(first, false, "a", "é"));
-    assert!(rt; is_nameless(second, true, "f", "g"));
-    Ok(())
-}
-
-#[test]
-fn lists_are_malformed(rt: HostRuntime) -> Result<(), Fail> {
-    for text in [
-        "a",
-        "a@",
-        "a@b c",
-        "g: a@é,, b@c;",
-        "g: a@b",
-        "a <b@c",
-        "a <b@c> d",
-        "g: h: a@b;;",
-        "<@x:>",
-        ":;",
-        "a@b;",
-        "\"a",
-        "a@b, <@x a@b>",
-    ] {
-        let read = read_list(rt.alloc(), text.as_bytes());
-        assert!(rt;
-            read.is_err_and(|fault| fault == AddressFault::Malformed),
-            "{text}"
-        );
+    for _ in &list.comments {
+        told.push_slice(b"()")?;
     }
     Ok(())
 }
 
-#[test]
-fn lists_may_be_empty(rt: HostRuntime) -> Result<(), Fail> {
-    for text in ["", ",", ",,", "(a)", " , (b) ,"] {
-        let read = read_list(rt.alloc(), text.as_bytes());
-        assert!(rt;
-            read.is_ok_and(|list| list.elements.as_slice().is_empty()),
-            "{text}"
-        );
+fn tell_group(told: &mut Octets, name: &[Unit], members: &[Mailbox]) -> Result<(), Memory> {
+    tell_units(told, name)?;
+    told.push(b':')?;
+    for member in members {
+        told.push(b' ')?;
+        tell_mailbox(told, member)?;
+    }
+    told.push(b';')
+}
+
+// Tells whether there is a phrase, what it says, and the address, in angle brackets or not.
+fn tell_mailbox(told: &mut Octets, mailbox: &Mailbox) -> Result<(), Memory> {
+    if mailbox.phrase {
+        told.push_slice(b"phrase ")?;
+    }
+    tell_units(told, mailbox.display.as_slice())?;
+    let (open, close): (&[u8], &[u8]) = if mailbox.angle {
+        (b"<", b">")
+    } else {
+        (b"", b"")
+    };
+    let address = &mailbox.address;
+    put_all(
+        told,
+        &[
+            open,
+            address.local.as_slice(),
+            b"@",
+            address.domain.as_slice(),
+            close,
+        ],
+    )
+}
+
+// Tells each text between quotes, before a space.
+fn tell_units(told: &mut Octets, units: &[Unit]) -> Result<(), Memory> {
+    for unit in units {
+        match unit {
+            Unit::Text(octets) => put_all(told, &[b"\"", octets.as_slice(), b"\" "])?,
+            Unit::Opaque { .. } => told.push_slice(b"opaque ")?,
+        }
     }
     Ok(())
+}
+
+const PATHS: [(&str, &[Row]); 4] = [
+    (
+        "paths are read",
+        &[
+            Row(Call::ReadPath, "<a@b>", "a|b"),
+            Row(Call::ReadPath, "(x) < a . b (y)@ c . é >", "a.b|c.é"),
+            Row(
+                Call::ReadPath,
+                "<\"a b\".\"\\\"\"@[1\\]2]>",
+                "a b.\"|[1\\]2]",
+            ),
+            Row(Call::ReadPath, "<\"\"@é>", "|é"),
+        ],
+    ),
+    (
+        "null paths are read",
+        &[
+            Row(Call::ReadPath, "<>", "null"),
+            Row(Call::ReadPath, "<(x) >", "null"),
+        ],
+    ),
+    (
+        "other paths are malformed",
+        &[
+            Row(Call::ReadPath, "<a@>", "malformed"),
+            Row(Call::ReadPath, "<a>", "malformed"),
+            Row(Call::ReadPath, "a@b", "malformed"),
+            Row(Call::ReadPath, "<a@b", "malformed"),
+            Row(Call::ReadPath, "<@x:a@b>", "malformed"),
+            Row(Call::ReadPath, "<a@b>c", "malformed"),
+            Row(Call::ReadPath, "<a.@b>", "malformed"),
+            Row(Call::ReadPath, "<a@b.>", "malformed"),
+            Row(Call::ReadPath, "<a@\"b\">", "malformed"),
+            Row(Call::ReadPath, "", "malformed"),
+        ],
+    ),
+    (
+        "addresses are written",
+        &[
+            Row(Call::WriteAddress, "<\"a\".b@ c . d>", "a.b@c.d"),
+            Row(Call::WriteAddress, "<\"é (\"@[1 2]>", "\"é (\"@[1 2]"),
+            Row(Call::WriteAddress, "<\"\\\"\\\\\\é\"@b>", "\"\\\"\\\\é\"@b"),
+            Row(Call::WriteAddress, "<\"\"@b>", "\"\"@b"),
+            Row(Call::WriteAddress, "<\".\"@b>", "\".\"@b"),
+        ],
+    ),
+];
+
+#[test]
+fn paths_are_read_and_addresses_written(rt: HostRuntime) -> Result<(), Fail> {
+    all_hold(rt.alloc(), &PATHS)
+}
+
+const LISTS: [(&str, &[Row]); 4] = [
+    (
+        "mailboxes are read",
+        &[Row(
+            Call::ReadList,
+            ", =?UTF-8?Q?=C3=A9?= a.<@x,@y:a@b> (c (d)), \"\" <c@d>,, g: a@é, (e) <f@g>;, h:;,",
+            "phrase \"é a.\" <a@b>\nphrase <c@d>\n\"g\" : a@é <f@g>;\n\"h\" :;\n()()",
+        )],
+    ),
+    (
+        "members are read",
+        &[Row(
+            Call::ReadList,
+            "g: a@é, (e) <f@g>;",
+            "\"g\" : a@é <f@g>;\n()",
+        )],
+    ),
+    (
+        "lists are malformed",
+        &[
+            Row(Call::ReadList, "a", "malformed"),
+            Row(Call::ReadList, "a@", "malformed"),
+            Row(Call::ReadList, "a@b c", "malformed"),
+            Row(Call::ReadList, "g: a@é,, b@c;", "malformed"),
+            Row(Call::ReadList, "g: a@b", "malformed"),
+            Row(Call::ReadList, "a <b@c", "malformed"),
+            Row(Call::ReadList, "a <b@c> d", "malformed"),
+            Row(Call::ReadList, "g: h: a@b;;", "malformed"),
+            Row(Call::ReadList, "<@x:>", "malformed"),
+            Row(Call::ReadList, ":;", "malformed"),
+            Row(Call::ReadList, "a@b;", "malformed"),
+            Row(Call::ReadList, "\"a", "malformed"),
+            Row(Call::ReadList, "a@b, <@x a@b>", "malformed"),
+        ],
+    ),
+    (
+        "lists may be empty",
+        &[
+            Row(Call::ReadList, "", ""),
+            Row(Call::ReadList, ",", ""),
+            Row(Call::ReadList, ",,", ""),
+            Row(Call::ReadList, "(a)", "()"),
+            Row(Call::ReadList, " , (b) ,", "()"),
+        ],
+    ),
+];
+
+#[test]
+fn lists_are_read(rt: HostRuntime) -> Result<(), Fail> {
+    all_hold(rt.alloc(), &LISTS)
 }

@@ -1,69 +1,104 @@
 //! Fields that keep a value, and the forms of addresses.
+use crate::lines::is_made;
 use encapsulated_fields::{encapsulate, read_xtext, unitext_of, xtext_of};
+use mail_wire::Memory;
+use std::alloc::Global;
 use std::test::Fail;
+use test_mail::{Case, all_hold};
 
-#[test]
-fn a_message_identifier_is_kept(rt: HostRuntime) -> Result<(), Fail> {
-    let field = encapsulate(rt.alloc(), b"Message-ID", "<é@x>".as_bytes()).map_err(|_| "memory")?;
-    let lines = "Downgraded-Message-ID:\r\n =?UTF-8?B?PMOpQHg+?=\r\n";
-    assert_eq!(rt; field.as_slice(), lines.as_bytes());
-    Ok(())
+// A text, and what is made of it.
+enum Row {
+    // the value of a Message-ID, which isn't empty, and the field that keeps it
+    Kept(&'static str, &'static str),
+    // an address in ASCII
+    Xtext(&'static str, &'static str),
+    // one in UTF-8
+    Unitext(&'static str, &'static str),
+    // the address that a text says
+    Read(&'static str, &'static str),
+    // a text that says none
+    Refused(&'static [u8]),
 }
 
-#[test]
-fn characters_are_escaped_by_their_number(rt: HostRuntime) -> Result<(), Fail> {
-    let text = xtext_of(rt.alloc(), "josé@example.com".as_bytes()).map_err(|_| "memory")?;
-    assert_eq!(rt; text.as_slice(), b"jos\\x{E9}@example.com".as_slice());
-    let text = xtext_of(rt.alloc(), "a+ あ😀\u{10FFFF}".as_bytes()).map_err(|_| "memory")?;
-    assert_eq!(rt;
-        text.as_slice(),
-        b"a\\x{2B}\\x{20}\\x{3042}\\x{1F600}\\x{10FFFF}".as_slice()
-    );
-    Ok(())
+impl Case for Row {
+    fn holds(&self, alloc: Global) -> Result<bool, Memory> {
+        match self {
+            Row::Kept(value, field) => is_kept(alloc, *value, *field),
+            Row::Xtext(address, text) => is_made(xtext_of(alloc, address.as_bytes()), *text),
+            Row::Unitext(address, text) => is_made(unitext_of(alloc, address.as_bytes()), *text),
+            Row::Read(text, address) => is_read(alloc, text.as_bytes(), address.as_bytes()),
+            Row::Refused(text) => is_refused(alloc, *text),
+        }
+    }
 }
 
-#[test]
-fn characters_above_127_stay_in_the_utf8_form(rt: HostRuntime) -> Result<(), Fail> {
-    let address = "josé@example.com".as_bytes();
-    let text = unitext_of(rt.alloc(), address).map_err(|_| "memory")?;
-    assert_eq!(rt; text.as_slice(), address);
-    let text = unitext_of(rt.alloc(), "é=\\\u{7F}".as_bytes()).map_err(|_| "memory")?;
-    assert_eq!(rt; text.as_slice(), "é\\x{3D}\\x{5C}\\x{7F}".as_bytes());
-    Ok(())
+fn is_refused(alloc: Global, text: &[u8]) -> Result<bool, Memory> {
+    Ok(read_xtext(alloc, text)?.is_none())
 }
 
-fn reads(rt: &HostRuntime, text: &str, address: &str) -> Result<bool, Fail> {
-    match read_xtext(rt.alloc(), text.as_bytes()).map_err(|_| "memory")? {
-        Some(octets) => Ok(octets.as_slice() == address.as_bytes()),
+fn is_kept(alloc: Global, value: &str, field: &str) -> Result<bool, Memory> {
+    if value.is_empty() {
+        return Ok(false);
+    }
+    is_made(encapsulate(alloc, b"Message-ID", value.as_bytes()), field)
+}
+
+fn is_read(alloc: Global, text: &[u8], address: &[u8]) -> Result<bool, Memory> {
+    match read_xtext(alloc, text)? {
+        Some(octets) => Ok(octets.as_slice() == address),
         None => Ok(false),
     }
 }
 
-fn refuses(rt: &HostRuntime, text: &[u8]) -> Result<bool, Fail> {
-    Ok(
-        read_xtext(rt.alloc(), text)
-            .map_err(|_| "memory")?
-            .is_none(),
-    )
-}
+const ROWS: [(&str, &[Row]); 5] = [
+    (
+        "a message identifier is kept",
+        &[Row::Kept(
+            "<é@x>",
+            "Downgraded-Message-ID:\r\n =?UTF-8?B?PMOpQHg+?=\r\n",
+        )],
+    ),
+    (
+        "characters are escaped by their number",
+        &[
+            Row::Xtext("josé@example.com", "jos\\x{E9}@example.com"),
+            Row::Xtext(
+                "a+ あ😀\u{10FFFF}",
+                "a\\x{2B}\\x{20}\\x{3042}\\x{1F600}\\x{10FFFF}",
+            ),
+        ],
+    ),
+    (
+        "characters above 127 stay in the UTF-8 form",
+        &[
+            Row::Unitext("josé@example.com", "josé@example.com"),
+            Row::Unitext("é=\\\u{7F}", "é\\x{3D}\\x{5C}\\x{7F}"),
+        ],
+    ),
+    (
+        "both forms are read",
+        &[
+            Row::Read("jos\\x{E9}@example.com", "josé@example.com"),
+            Row::Read("josé@example.com", "josé@example.com"),
+            Row::Read("\\x{e9}\\x{0000E9}+ \\x{10FFFF}", "éé+ \u{10FFFF}"),
+        ],
+    ),
+    (
+        "other backslashes are refused",
+        &[
+            Row::Refused(b"\\x{9}"),
+            Row::Refused(b"\\x{00000E9}"),
+            Row::Refused(b"\\x{D800}"),
+            Row::Refused(b"\\x{110000}"),
+            Row::Refused(b"\\"),
+            Row::Refused(b"\\x{E9"),
+            Row::Refused(b"\\x41"),
+            Row::Refused(b"\xC3"),
+        ],
+    ),
+];
 
 #[test]
-fn both_forms_are_read(rt: HostRuntime) -> Result<(), Fail> {
-    assert!(rt; reads(&rt, "jos\\x{E9}@example.com", "josé@example.com")?);
-    assert!(rt; reads(&rt, "josé@example.com", "josé@example.com")?);
-    assert!(rt; reads(&rt, "\\x{e9}\\x{0000E9}+ \\x{10FFFF}", "éé+ \u{10FFFF}")?);
-    Ok(())
-}
-
-#[test]
-fn other_backslashes_are_refused(rt: HostRuntime) -> Result<(), Fail> {
-    assert!(rt; refuses(&rt, b"\\x{9}")?);
-    assert!(rt; refuses(&rt, b"\\x{00000E9}")?);
-    assert!(rt; refuses(&rt, b"\\x{D800}")?);
-    assert!(rt; refuses(&rt, b"\\x{110000}")?);
-    assert!(rt; refuses(&rt, b"\\")?);
-    assert!(rt; refuses(&rt, b"\\x{E9")?);
-    assert!(rt; refuses(&rt, b"\\x41")?);
-    assert!(rt; refuses(&rt, b"\xC3")?);
-    Ok(())
+fn values_and_addresses_are_kept_in_their_forms(rt: HostRuntime) -> Result<(), Fail> {
+    all_hold(rt.alloc(), &ROWS)
 }

@@ -3,168 +3,173 @@ use field_tokens::{
     Comment, Item, Lexemes, Style, Token, TokenFault, TokenKind, comment_tree, first_token,
     is_blank, is_comment, read_marks, read_tokens, squeezed, tokens,
 };
-use mail_wire::Span;
+use mail_wire::Memory;
+use std::alloc::Global;
 use std::test::Fail;
+use test_mail::{Case, all_hold};
 
-fn token(kind: TokenKind, at: usize, len: usize) -> Token {
-    Token {
-        kind,
-        span: Span { at, len },
+// A kind, a place and a length.
+type Place = (TokenKind, usize, usize);
+
+// What is read of texts.
+enum Row {
+    // the tokens
+    Tokens(Style, &'static str, &'static [Place]),
+    // the tokens of so many opening parentheses and so many closing ones, of which there are none where they are malformed
+    Parentheses(Style, [usize; 2], &'static [Place]),
+    // a text that is malformed
+    Malformed(Style, &'static [u8]),
+    // of each token, whether it is blank and whether it is a comment
+    Kinds(&'static [u8], &'static [[bool; 2]]),
+    // a text without tokens
+    NoKinds(&'static [u8]),
+    // of the third token, which is a comment, the place of a run, before an empty comment and one with a run in this place
+    Tree(&'static str, [usize; 2], [usize; 2]),
+    // the text with a space for each gap and comment between two others
+    Squeezed(&'static [u8], &'static [u8]),
+    // the kinds and octets of the tokens, or of so many of them
+    Lexemes(&'static str, Option<usize>, &'static [(TokenKind, &'static str)]),
+    // how many marks there are
+    Marks(Style, &'static [u8], Option<usize>),
+    // the kind of the first token of a text that isn't empty, and the rest
+    First(&'static [u8], TokenKind, &'static [u8]),
+    // one that begins with no token
+    NoFirst(&'static [u8]),
+}
+
+impl Case for Row {
+    fn holds(&self, alloc: Global) -> Result<bool, Memory> {
+        match self {
+            Row::Tokens(style, text, wanted) => has_tokens(alloc, *style, text.as_bytes(), *wanted),
+            Row::Parentheses(style, counts, wanted) => {
+                have_tokens(alloc, *style, *counts, *wanted)
+            }
+            Row::Malformed(style, text) => has_tokens(alloc, *style, *text, &[]),
+            Row::Kinds(text, wanted) => has_kinds(alloc, *text, *wanted),
+            Row::NoKinds(text) => has_no_tokens(alloc, *text),
+            Row::Tree(text, first, second) => has_tree(alloc, text.as_bytes(), *first, *second),
+            Row::Squeezed(text, wanted) => is_squeezed(alloc, *text, *wanted),
+            Row::Lexemes(text, count, wanted) => {
+                has_lexemes(alloc, text.as_bytes(), *count, *wanted)
+            }
+            Row::Marks(style, text, wanted) => has_marks(alloc, *style, *text, *wanted),
+            Row::First(text, kind, rest) => Ok(begins_with(*text, *kind, *rest)),
+            Row::NoFirst(text) => Ok(begins_with_none(*text)),
+        }
     }
 }
 
-#[test]
-fn an_address_has_tokens(rt: HostRuntime) -> Result<(), Fail> {
-    let text = "é. (a (b) \\)) <\"a\\\" \u{1}b\"@[1\t]>".as_bytes();
-    let found = tokens(rt.alloc(), Style::Mail, text).map_err(|_| "fault")?;
-    let wanted = [
-        token(TokenKind::Atom, 0, 2),
-        token(TokenKind::Special, 2, 1),
-        token(TokenKind::Gap, 3, 1),
-        token(TokenKind::Comment, 4, 10),
-        token(TokenKind::Gap, 14, 1),
-        token(TokenKind::Special, 15, 1),
-        token(TokenKind::Quoted, 16, 8),
-        token(TokenKind::Special, 24, 1),
-        token(TokenKind::Literal, 25, 4),
-        token(TokenKind::Special, 29, 1),
-    ];
-    assert!(rt; found.as_slice() == wanted.as_slice());
-    Ok(())
-}
-
-#[test]
-fn parameters_have_tokens(rt: HostRuntime) -> Result<(), Fail> {
-    let found = tokens(rt.alloc(), Style::Mime, b"a/b.; c=[d]").map_err(|_| "fault")?;
-    let wanted = [
-        token(TokenKind::Atom, 0, 1),
-        token(TokenKind::Special, 1, 1),
-        token(TokenKind::Atom, 2, 2),
-        token(TokenKind::Special, 4, 1),
-        token(TokenKind::Gap, 5, 1),
-        token(TokenKind::Atom, 6, 1),
-        token(TokenKind::Special, 7, 1),
-        token(TokenKind::Special, 8, 1),
-        token(TokenKind::Atom, 9, 1),
-        token(TokenKind::Special, 10, 1),
-    ];
-    assert!(rt; found.as_slice() == wanted.as_slice());
-    Ok(())
-}
-
-#[test]
-fn malformed_texts_have_none(rt: HostRuntime) -> Result<(), Fail> {
-    let texts: [&[u8]; 12] = [
-        b"a)",
-        b"a]",
-        b"a\\b",
-        b"\"a",
-        b"(a\\)",
-        b"[a",
-        b"[[a]]",
-        b"[\x01]",
-        b"[\\\x7f]",
-        b"a\x01",
-        b"a\r\n b",
-        b"\xc3",
-    ];
-    for text in texts {
-        assert!(rt;
-            tokens(rt.alloc(), Style::Mail, text).is_err_and(|fault| fault == TokenFault::Malformed)
-        );
+fn are_tokens(found: &[Token], wanted: &[Place]) -> bool {
+    if found.len() != wanted.len() {
+        return false;
     }
-    assert!(rt; tokens(rt.alloc(), Style::Mime, b"(\0)").is_err());
-    Ok(())
-}
-
-#[test]
-fn gaps_and_comments_are_blank(rt: HostRuntime) -> Result<(), Fail> {
-    let Ok(Some(found)) = read_tokens(rt.alloc(), Style::Mime, b"a (b)") else {
-        return Err(Fail::from("no tokens"));
-    };
-    let [word, gap, comment] = found.as_slice() else {
-        return Err(Fail::from("other tokens"));
-    };
-    assert!(rt; !is_blank(word.kind) && is_blank(gap.kind) && is_blank(comment.kind));
-    assert!(rt; !is_comment(gap.kind) && is_comment(comment.kind));
-    assert!(rt; matches!(read_tokens(rt.alloc(), Style::Mime, b"a)"), Ok(None)));
-    Ok(())
-}
-
-#[test]
-fn comments_are_at_most_64_deep(rt: HostRuntime) -> Result<(), Fail> {
-    let mut text = Vec::new(rt.alloc());
-    for _ in 0..64 {
-        text.push(b'(')?;
+    for (token, place) in found.iter().zip(wanted) {
+        if (token.kind, token.span.at, token.span.len) != *place {
+            return false;
+        }
     }
-    for _ in 0..64 {
+    true
+}
+
+// Whether a text has these tokens, or is malformed where they are none.
+fn has_tokens(alloc: Global, style: Style, text: &[u8], wanted: &[Place]) -> Result<bool, Memory> {
+    match tokens(alloc, style, text) {
+        Ok(found) => Ok(!wanted.is_empty() && are_tokens(&found, wanted)),
+        Err(TokenFault::Malformed) => Ok(wanted.is_empty()),
+        Err(TokenFault::Memory) => Err(Memory),
+    }
+}
+
+fn parentheses(alloc: Global, [opening, closing]: [usize; 2]) -> Result<Vec<u8>, Memory> {
+    let mut text = Vec::from_elem(alloc, b'(', opening)?;
+    for _ in 0..closing {
         text.push(b')')?;
     }
-    let found = tokens(rt.alloc(), Style::Mail, &text).map_err(|_| "fault")?;
-    assert!(rt; found.as_slice() == [token(TokenKind::Comment, 0, 128)].as_slice());
-    text.insert(0, b'(')?;
-    text.push(b')')?;
-    assert!(rt; tokens(rt.alloc(), Style::Mail, &text).is_err());
-    Ok(())
+    Ok(text)
 }
 
-#[test]
-fn a_million_parentheses_are_malformed(rt: HostRuntime) -> Result<(), Fail> {
-    let mut text = Vec::new(rt.alloc());
-    for _ in 0..1_000_000 {
-        text.push(b'(')?;
+fn have_tokens(
+    alloc: Global,
+    style: Style,
+    counts: [usize; 2],
+    wanted: &[Place],
+) -> Result<bool, Memory> {
+    has_tokens(alloc, style, &parentheses(alloc, counts)?, wanted)
+}
+
+fn are_kinds(found: &[Token], wanted: &[[bool; 2]]) -> bool {
+    if found.len() != wanted.len() {
+        return false;
     }
-    assert!(rt;
-        tokens(rt.alloc(), Style::Mime, &text).is_err_and(|fault| fault == TokenFault::Malformed)
-    );
-    Ok(())
+    for (token, kinds) in found.iter().zip(wanted) {
+        if [is_blank(token.kind), is_comment(token.kind)] != *kinds {
+            return false;
+        }
+    }
+    true
 }
 
-#[test]
-fn the_white_of_a_quoted_pair_stays_in_its_run(rt: HostRuntime) -> Result<(), Fail> {
-    let text = "1 ( é\\  ( ) (b)\t)".as_bytes();
-    let found = tokens(rt.alloc(), Style::Mail, text).map_err(|_| "fault")?;
-    assert!(rt; found.len() == 3);
-    let TokenKind::Comment = found[2].kind else {
-        return Err(Fail::from("no comment"));
-    };
-    let comment = comment_tree(rt.alloc(), text, &found[2]).map_err(|_| "memory")?;
+fn has_kinds(alloc: Global, text: &[u8], wanted: &[[bool; 2]]) -> Result<bool, Memory> {
+    match read_tokens(alloc, Style::Mime, text)? {
+        Some(found) => Ok(are_kinds(&found, wanted)),
+        None => Ok(false),
+    }
+}
+
+fn has_no_tokens(alloc: Global, text: &[u8]) -> Result<bool, Memory> {
+    Ok(read_tokens(alloc, Style::Mime, text)?.is_none())
+}
+
+fn has_items(comment: &Comment, first: [usize; 2], second: [usize; 2]) -> bool {
     let [
         Item::Run(run),
         Item::Nested(empty),
         Item::Nested(Comment { items }),
     ] = comment.items.as_slice()
     else {
-        return Err(Fail::from("other items"));
+        return false;
     };
-    assert!(rt; run.at == 4 && run.len == 4);
-    assert!(rt; empty.items.is_empty());
-    let [Item::Run(run)] = items.as_slice() else {
-        return Err(Fail::from("other items"));
+    let [Item::Run(inner)] = items.as_slice() else {
+        return false;
     };
-    assert!(rt; run.at == 14 && run.len == 1);
-    Ok(())
+    [run.at, run.len] == first && empty.items.is_empty() && [inner.at, inner.len] == second
 }
 
-#[test]
-fn gaps_and_comments_become_spaces(rt: HostRuntime) -> Result<(), Fail> {
-    let text = b"(x) a.b (y) \t c(z)";
-    let Ok(found) = tokens(rt.alloc(), Style::Mail, text) else {
-        return Err(Fail::from("fault"));
+fn has_tree(
+    alloc: Global,
+    text: &[u8],
+    first: [usize; 2],
+    second: [usize; 2],
+) -> Result<bool, Memory> {
+    let Ok(found) = tokens(alloc, Style::Mail, text) else {
+        return Ok(false);
     };
-    let made = squeezed(rt.alloc(), text, found.as_slice()).map_err(|_| "memory")?;
-    assert!(rt; made.as_slice() == b"a.b c".as_slice());
-    Ok(())
+    if found.len() != 3 {
+        return Ok(false);
+    }
+    let TokenKind::Comment = found[2].kind else {
+        return Ok(false);
+    };
+    let comment = comment_tree(alloc, text, &found[2])?;
+    Ok(has_items(&comment, first, second))
+}
+
+fn is_squeezed(alloc: Global, text: &[u8], wanted: &[u8]) -> Result<bool, Memory> {
+    let Ok(found) = tokens(alloc, Style::Mail, text) else {
+        return Ok(false);
+    };
+    let made = squeezed(alloc, text, found.as_slice())?;
+    Ok(made.as_slice() == wanted)
 }
 
 // Whether the tokens are these, and no others.
-fn are(lexemes: Lexemes<'_, '_>, wanted: &[(TokenKind, &[u8])]) -> bool {
+fn are(lexemes: Lexemes<'_, '_>, wanted: &[(TokenKind, &str)]) -> bool {
     let mut left = lexemes;
-    for (kind, octets) in wanted {
+    for (kind, text) in wanted {
         let Some((lexeme, following)) = left.split_first() else {
             return false;
         };
-        if lexeme.kind != *kind || lexeme.octets != *octets {
+        if lexeme.kind != *kind || lexeme.octets != text.as_bytes() {
             return false;
         }
         left = following;
@@ -172,48 +177,204 @@ fn are(lexemes: Lexemes<'_, '_>, wanted: &[(TokenKind, &[u8])]) -> bool {
     left.is_empty() && lexemes.len() == wanted.len()
 }
 
-#[test]
-fn tokens_are_read_by_their_marks(rt: HostRuntime) -> Result<(), Fail> {
-    let text = "é.<\"b\"@[1]>\t(c)".as_bytes();
-    let Ok(Some(marks)) = read_marks(rt.alloc(), Style::Mail, text) else {
-        return Err(Fail::from("no marks"));
+fn has_lexemes(
+    alloc: Global,
+    text: &[u8],
+    count: Option<usize>,
+    wanted: &[(TokenKind, &str)],
+) -> Result<bool, Memory> {
+    let Some(marks) = read_marks(alloc, Style::Mail, text)? else {
+        return Ok(false);
     };
     let all = Lexemes::new(text, &marks);
-    let wanted: [(TokenKind, &[u8]); 9] = [
-        (TokenKind::Atom, "é".as_bytes()),
-        (TokenKind::Special, b"."),
-        (TokenKind::Special, b"<"),
-        (TokenKind::Quoted, b"\"b\""),
-        (TokenKind::Special, b"@"),
-        (TokenKind::Literal, b"[1]"),
-        (TokenKind::Special, b">"),
-        (TokenKind::Gap, b"\t"),
-        (TokenKind::Comment, b"(c)"),
-    ];
-    assert!(rt; are(all, &wanted));
-    assert!(rt; are(all.front(3), &wanted[..3]));
-    assert!(rt; are(all.front(10), &wanted));
-    Ok(())
-}
-
-#[test]
-fn texts_without_tokens_have_no_marks(rt: HostRuntime) -> Result<(), Fail> {
-    let texts: [&[u8]; 4] = [b"a)", b"a (b", b"a\0", b"\xff"];
-    for text in texts {
-        assert!(rt; matches!(read_marks(rt.alloc(), Style::Mail, text), Ok(None)));
+    match count {
+        Some(count) => Ok(are(all.front(count), wanted)),
+        None => Ok(are(all, wanted)),
     }
-    let found = read_marks(rt.alloc(), Style::Mime, b"").map_err(|_| "memory")?;
-    assert!(rt; found.is_some_and(|marks| marks.is_empty()));
-    Ok(())
 }
 
+fn has_marks(
+    alloc: Global,
+    style: Style,
+    text: &[u8],
+    wanted: Option<usize>,
+) -> Result<bool, Memory> {
+    match (read_marks(alloc, style, text)?, wanted) {
+        (Some(marks), Some(count)) => Ok(marks.len() == count),
+        (None, None) => Ok(true),
+        _ => Ok(false),
+    }
+}
+
+fn begins_with(text: &[u8], kind: TokenKind, rest: &[u8]) -> bool {
+    if text.is_empty() {
+        return false;
+    }
+    match first_token(Style::Mime, text) {
+        Some((found, left)) => found == kind && left == rest,
+        None => false,
+    }
+}
+
+fn begins_with_none(text: &[u8]) -> bool {
+    !text.is_empty() && first_token(Style::Mime, text).is_none()
+}
+
+const TOKENS: [(&str, &[Row]); 6] = [
+    (
+        "an address has tokens",
+        &[Row::Tokens(
+            Style::Mail,
+            "é. (a (b) \\)) <\"a\\\" \u{1}b\"@[1\t]>",
+            &[
+                (TokenKind::Atom, 0, 2),
+                (TokenKind::Special, 2, 1),
+                (TokenKind::Gap, 3, 1),
+                (TokenKind::Comment, 4, 10),
+                (TokenKind::Gap, 14, 1),
+                (TokenKind::Special, 15, 1),
+                (TokenKind::Quoted, 16, 8),
+                (TokenKind::Special, 24, 1),
+                (TokenKind::Literal, 25, 4),
+                (TokenKind::Special, 29, 1),
+            ],
+        )],
+    ),
+    (
+        "parameters have tokens",
+        &[Row::Tokens(
+            Style::Mime,
+            "a/b.; c=[d]",
+            &[
+                (TokenKind::Atom, 0, 1),
+                (TokenKind::Special, 1, 1),
+                (TokenKind::Atom, 2, 2),
+                (TokenKind::Special, 4, 1),
+                (TokenKind::Gap, 5, 1),
+                (TokenKind::Atom, 6, 1),
+                (TokenKind::Special, 7, 1),
+                (TokenKind::Special, 8, 1),
+                (TokenKind::Atom, 9, 1),
+                (TokenKind::Special, 10, 1),
+            ],
+        )],
+    ),
+    (
+        "malformed texts have none",
+        &[
+            Row::Malformed(Style::Mail, b"a)"),
+            Row::Malformed(Style::Mail, b"a]"),
+            Row::Malformed(Style::Mail, b"a\\b"),
+            Row::Malformed(Style::Mail, b"\"a"),
+            Row::Malformed(Style::Mail, b"(a\\)"),
+            Row::Malformed(Style::Mail, b"[a"),
+            Row::Malformed(Style::Mail, b"[[a]]"),
+            Row::Malformed(Style::Mail, b"[\x01]"),
+            Row::Malformed(Style::Mail, b"[\\\x7f]"),
+            Row::Malformed(Style::Mail, b"a\x01"),
+            Row::Malformed(Style::Mail, b"a\r\n b"),
+            Row::Malformed(Style::Mail, b"\xc3"),
+            Row::Malformed(Style::Mime, b"(\0)"),
+        ],
+    ),
+    (
+        "gaps and comments are blank",
+        &[
+            Row::Kinds(b"a (b)", &[[false, false], [true, false], [true, true]]),
+            Row::NoKinds(b"a)"),
+        ],
+    ),
+    (
+        "comments are at most 64 deep",
+        &[
+            Row::Parentheses(Style::Mail, [64, 64], &[(TokenKind::Comment, 0, 128)]),
+            Row::Parentheses(Style::Mail, [65, 65], &[]),
+        ],
+    ),
+    (
+        "a million parentheses are malformed",
+        &[Row::Parentheses(Style::Mime, [1_000_000, 0], &[])],
+    ),
+];
+
 #[test]
-fn the_first_token_of_a_text_is_cut_off(rt: HostRuntime) -> Result<(), Fail> {
-    assert!(rt;
-        first_token(Style::Mime, b"a.b;c").is_some_and(|(kind, rest)| {
-            kind == TokenKind::Atom && rest == b";c".as_slice()
-        })
-    );
-    assert!(rt; first_token(Style::Mime, b")a").is_none());
-    Ok(())
+fn texts_have_tokens(rt: HostRuntime) -> Result<(), Fail> {
+    all_hold(rt.alloc(), &TOKENS)
+}
+
+const CALLS: [(&str, &[Row]); 5] = [
+    (
+        "the white of a quoted pair stays in its run",
+        &[Row::Tree("1 ( é\\  ( ) (b)\t)", [4, 4], [14, 1])],
+    ),
+    (
+        "gaps and comments become spaces",
+        &[Row::Squeezed(b"(x) a.b (y) \t c(z)", b"a.b c")],
+    ),
+    (
+        "tokens are read by their marks",
+        &[
+            Row::Lexemes(
+                "é.<\"b\"@[1]>\t(c)",
+                None,
+                &[
+                    (TokenKind::Atom, "é"),
+                    (TokenKind::Special, "."),
+                    (TokenKind::Special, "<"),
+                    (TokenKind::Quoted, "\"b\""),
+                    (TokenKind::Special, "@"),
+                    (TokenKind::Literal, "[1]"),
+                    (TokenKind::Special, ">"),
+                    (TokenKind::Gap, "\t"),
+                    (TokenKind::Comment, "(c)"),
+                ],
+            ),
+            Row::Lexemes(
+                "é.<\"b\"@[1]>\t(c)",
+                Some(3),
+                &[
+                    (TokenKind::Atom, "é"),
+                    (TokenKind::Special, "."),
+                    (TokenKind::Special, "<"),
+                ],
+            ),
+            Row::Lexemes(
+                "é.<\"b\"@[1]>\t(c)",
+                Some(10),
+                &[
+                    (TokenKind::Atom, "é"),
+                    (TokenKind::Special, "."),
+                    (TokenKind::Special, "<"),
+                    (TokenKind::Quoted, "\"b\""),
+                    (TokenKind::Special, "@"),
+                    (TokenKind::Literal, "[1]"),
+                    (TokenKind::Special, ">"),
+                    (TokenKind::Gap, "\t"),
+                    (TokenKind::Comment, "(c)"),
+                ],
+            ),
+        ],
+    ),
+    (
+        "texts without tokens have no marks",
+        &[
+            Row::Marks(Style::Mail, b"a)", None),
+            Row::Marks(Style::Mail, b"a (b", None),
+            Row::Marks(Style::Mail, b"a\0", None),
+            Row::Marks(Style::Mail, b"\xff", None),
+            Row::Marks(Style::Mime, b"", Some(0)),
+        ],
+    ),
+    (
+        "the first token of a text is cut off",
+        &[
+            Row::First(b"a.b;c", TokenKind::Atom, b";c"),
+            Row::NoFirst(b")a"),
+        ],
+    ),
+];
+
+#[test]
+fn tokens_have_trees_and_marks(rt: HostRuntime) -> Result<(), Fail> {
+    all_hold(rt.alloc(), &CALLS)
 }

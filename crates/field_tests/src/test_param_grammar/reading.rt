@@ -1,100 +1,102 @@
-//! Texts, and the parameters that they have.
+//! Texts, and the parameters that they have. A row has what is told: the main part and each parameter, on a line each, and
+//! parentheses for each comment.
 use encoded_words::Unit;
-use param_grammar::{Param, ParamFault, ParamKind, read_params};
+use mail_wire::{Memory, Octets};
+use param_grammar::{Param, ParamFault, ParamKind, Params, read_params};
+use std::alloc::Global;
 use std::test::Fail;
+use test_mail::{Case, all_hold};
 
-fn is_text(param: &Param, name: &[u8], octets: &[u8]) -> bool {
-    match &param.value {
-        Unit::Text(text) => param.name.as_slice() == name && text.as_slice() == octets,
-        Unit::Opaque { .. } => false,
+struct Row(&'static str, &'static str);
+
+impl Case for Row {
+    fn holds(&self, alloc: Global) -> Result<bool, Memory> {
+        let mut told = Octets::new(alloc);
+        tell(alloc, self.0.as_bytes(), &mut told)?;
+        Ok(told.as_slice() == self.1.as_bytes())
     }
 }
 
-#[test]
-fn pieces_in_falling_order_are_joined(rt: HostRuntime) -> Result<(), Fail> {
-    let text = b"A; x*1=b; X*0=a; y=c (d)";
-    let read = read_params(rt.alloc(), ParamKind::Disposition, text).map_err(|_| "nothing")?;
-    assert_eq!(rt; read.main.as_slice(), b"a".as_slice());
-    let [x, y] = read.list.as_slice() else {
-        return Err(Fail::from("other parameters"));
-    };
-    assert!(rt; is_text(x, b"x", b"ab"));
-    assert!(rt; is_text(y, b"y", b"c"));
-    assert_eq!(rt; read.comments.len(), 1);
-    Ok(())
+fn tell(alloc: Global, text: &[u8], told: &mut Octets) -> Result<(), Memory> {
+    match read_params(alloc, ParamKind::Disposition, text) {
+        Ok(params) => tell_params(&params, told),
+        Err(ParamFault::Malformed) => told.push_slice(b"malformed"),
+        Err(ParamFault::Memory) => Err(Memory),
+    }
 }
 
-#[test]
-fn quoted_values_are_what_they_say(rt: HostRuntime) -> Result<(), Fail> {
-    let text = b"a; x=\"b; y=\\\"c\"; z=\"\"";
-    let read = read_params(rt.alloc(), ParamKind::Disposition, text).map_err(|_| "nothing")?;
-    let [x, z] = read.list.as_slice() else {
-        return Err(Fail::from("other parameters"));
-    };
-    assert!(rt; is_text(x, b"x", b"b; y=\"c"));
-    assert!(rt; is_text(z, b"z", b""));
-    Ok(())
-}
-
-#[test]
-fn pieces_are_joined_by_number(rt: HostRuntime) -> Result<(), Fail> {
-    let text = b"a; x*10=k; x*9=j; x*8=i; x*7=h; x*6=g; x*5=f; x*4=e; x*3=d; x*2=c; x*1=b; x*0=a";
-    let read = read_params(rt.alloc(), ParamKind::Disposition, text).map_err(|_| "nothing")?;
-    let [x] = read.list.as_slice() else {
-        return Err(Fail::from("other parameters"));
-    };
-    assert!(rt; is_text(x, b"x", b"abcdefghijk"));
-    Ok(())
-}
-
-#[test]
-fn other_numbers_are_malformed(rt: HostRuntime) -> Result<(), Fail> {
-    for text in [
-        "a; x*0=a; x*2=c",
-        "a; x*1=b",
-        "a; x*0=a; x*0=b",
-        "a; x*0=a; x*1=b; y*0=c; x*1=d",
-        "a; x*0=a; x*99999999999999999999999999=b",
-    ] {
-        let read = read_params(rt.alloc(), ParamKind::Disposition, text.as_bytes());
-        assert!(rt;
-            read.is_err_and(|fault| fault == ParamFault::Malformed),
-            "{text}"
-        );
+fn tell_params(params: &Params, told: &mut Octets) -> Result<(), Memory> {
+    told.push_slice(params.main.as_slice())?;
+    told.push(b'\n')?;
+    for param in params.list.as_slice() {
+        tell_param(param, told)?;
+    }
+    for _ in &params.comments {
+        told.push_slice(b"()")?;
     }
     Ok(())
 }
 
-#[test]
-fn values_are_of_their_charset(rt: HostRuntime) -> Result<(), Fail> {
-    let text = b"a; x*=''%C3%A9; y*=US-ASCII''%C3%A9";
-    let read = read_params(rt.alloc(), ParamKind::Disposition, text).map_err(|_| "nothing")?;
-    let [x, y] = read.list.as_slice() else {
-        return Err(Fail::from("other parameters"));
+// Tells a name, the charset of a value that is no text, and the octets of the value.
+fn tell_param(param: &Param, told: &mut Octets) -> Result<(), Memory> {
+    told.push_slice(param.name.as_slice())?;
+    let octets = match &param.value {
+        Unit::Text(octets) => octets,
+        Unit::Opaque {
+            charset,
+            octets,
+            ..
+        } => {
+            told.push(b' ')?;
+            told.push_slice(charset.as_slice())?;
+            octets
+        }
     };
-    assert!(rt; is_text(x, b"x", "é".as_bytes()));
-    let Unit::Opaque {
-        charset,
-        octets,
-        ..
-    } = &y.value
-    else {
-        return Err(Fail::from("text"));
-    };
-    assert_eq!(rt; charset.as_slice(), b"us-ascii".as_slice());
-    assert_eq!(rt; octets.as_slice(), "é".as_bytes());
-    Ok(())
+    told.push(b'=')?;
+    told.push_slice(octets.as_slice())?;
+    told.push(b'\n')
 }
 
+const ROWS: [(&str, &[Row]); 6] = [
+    (
+        "pieces in falling order are joined",
+        &[Row("A; x*1=b; X*0=a; y=c (d)", "a\nx=ab\ny=c\n()")],
+    ),
+    (
+        "quoted values are what they say",
+        &[Row("a; x=\"b; y=\\\"c\"; z=\"\"", "a\nx=b; y=\"c\nz=\n")],
+    ),
+    (
+        "pieces are joined by number",
+        &[Row(
+            "a; x*10=k; x*9=j; x*8=i; x*7=h; x*6=g; x*5=f; x*4=e; x*3=d; x*2=c; x*1=b; x*0=a",
+            "a\nx=abcdefghijk\n",
+        )],
+    ),
+    (
+        "other numbers are malformed",
+        &[
+            Row("a; x*0=a; x*2=c", "malformed"),
+            Row("a; x*1=b", "malformed"),
+            Row("a; x*0=a; x*0=b", "malformed"),
+            Row("a; x*0=a; x*1=b; y*0=c; x*1=d", "malformed"),
+            Row("a; x*0=a; x*99999999999999999999999999=b", "malformed"),
+        ],
+    ),
+    (
+        "values are of their charset",
+        &[Row(
+            "a; x*=''%C3%A9; y*=US-ASCII''%C3%A9",
+            "a\nx=é\ny us-ascii=é\n",
+        )],
+    ),
+    (
+        "each parameter of a name is read",
+        &[Row("a; x*1=b; x=c; x=d; x*0=a", "a\nx=ab\nx=c\nx=d\n")],
+    ),
+];
+
 #[test]
-fn each_parameter_of_a_name_is_read(rt: HostRuntime) -> Result<(), Fail> {
-    let text = b"a; x*1=b; x=c; x=d; x*0=a";
-    let read = read_params(rt.alloc(), ParamKind::Disposition, text).map_err(|_| "nothing")?;
-    let [first, second, third] = read.list.as_slice() else {
-        return Err(Fail::from("other parameters"));
-    };
-    assert!(rt; is_text(first, b"x", b"ab"));
-    assert!(rt; is_text(second, b"x", b"c"));
-    assert!(rt; is_text(third, b"x", b"d"));
-    Ok(())
+fn parameters_are_read(rt: HostRuntime) -> Result<(), Fail> {
+    all_hold(rt.alloc(), &ROWS)
 }

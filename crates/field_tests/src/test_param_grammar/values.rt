@@ -1,123 +1,175 @@
 //! Names, numbers, escapes and extended values.
+use crate::lines::is_made;
 use encoded_words::Unit;
-use mail_wire::Octets;
+use mail_wire::{Memory, Octets};
 use param_grammar::{
     number_below, push_escaped, read_escaped, read_name, split_extended, unit_of, unquoted,
 };
+use std::alloc::Global;
 use std::test::Fail;
+use test_mail::{Case, all_hold};
 
-fn is_read(name: &[u8], base: &[u8], number: &[u8], is_extended: bool) -> bool {
+// What is read or written.
+enum Row {
+    // of a name, what stands before the stars, the digits of a number or nothing, and whether the value is extended
+    Name(&'static str, &'static str, &'static str, bool),
+    // a name that isn't one
+    NoName(&'static str),
+    // digits, and the number if it's below a bound
+    Number(&'static [u8], usize, Option<usize>),
+    // the octets of escapes
+    Read(&'static str, &'static str),
+    // escapes that have none
+    NotRead(&'static str),
+    // octets as they are escaped
+    Escaped(&'static str, &'static str),
+    // what a quoted string says
+    Unquoted(&'static str, &'static str),
+    // octets of no charset that are a text
+    Text(&'static [u8]),
+    // other octets of a charset, and the charset in lower case
+    Opaque(&'static [u8], &'static [u8], &'static [u8]),
+    // the charset and the text of an extended value
+    Extended(&'static str, &'static str, &'static str),
+    // a value that isn't extended
+    NotExtended(&'static str),
+}
+
+impl Case for Row {
+    fn holds(&self, alloc: Global) -> Result<bool, Memory> {
+        match self {
+            Row::Name(name, base, number, is) => {
+                Ok(has_parts(name.as_bytes(), *base, *number, *is))
+            }
+            Row::NoName(name) => Ok(read_name(name.as_bytes()).is_none()),
+            Row::Number(digits, bound, number) => Ok(number_below(*digits, *bound) == *number),
+            Row::Read(text, octets) => reads(alloc, text.as_bytes(), *octets),
+            Row::NotRead(text) => reads_none(alloc, text.as_bytes()),
+            Row::Escaped(octets, text) => is_escaped(alloc, octets.as_bytes(), text.as_bytes()),
+            Row::Unquoted(octets, said) => is_made(unquoted(alloc, octets.as_bytes()), *said),
+            Row::Text(octets) => is_text(alloc, *octets),
+            Row::Opaque(charset, octets, lower) => is_opaque(alloc, *charset, *octets, *lower),
+            Row::Extended(value, charset, text) => Ok(is_cut(value.as_bytes(), *charset, *text)),
+            Row::NotExtended(value) => Ok(split_extended(value.as_bytes()).is_none()),
+        }
+    }
+}
+
+fn has_parts(name: &[u8], base: &str, number: &str, is_extended: bool) -> bool {
     match read_name(name) {
         Some(parts) => {
-            parts.base == base
-                && parts.number.unwrap_or(b"") == number
+            parts.base == base.as_bytes()
+                && parts.number.unwrap_or(b"") == number.as_bytes()
                 && parts.is_extended == is_extended
         }
         None => false,
     }
 }
 
-#[test]
-fn names_are_read(rt: HostRuntime) -> Result<(), Fail> {
-    assert!(rt; is_read(b"a", b"a", b"", false));
-    assert!(rt; is_read(b"a*", b"a", b"", true));
-    assert!(rt; is_read(b"a*0", b"a", b"0", false));
-    assert!(rt; is_read(b"a*10*", b"a", b"10", true));
-    Ok(())
-}
-
-#[test]
-fn other_names_are_none(rt: HostRuntime) -> Result<(), Fail> {
-    for name in [
-        "*",
-        "a*01",
-        "a**",
-        "a*1*1",
-        "aaaaaaaaaaaaaaaaaaaaaaaaaaaaaaaaaaaaaaaaaaaaaaaaaaaaaaaaaaaaa",
-    ] {
-        assert!(rt; read_name(name.as_bytes()).is_none(), "{name}");
+fn reads(alloc: Global, text: &[u8], wanted: &str) -> Result<bool, Memory> {
+    match read_escaped(alloc, text)? {
+        Some(octets) => Ok(octets.as_slice() == wanted.as_bytes()),
+        None => Ok(false),
     }
-    Ok(())
 }
 
-#[test]
-fn numbers_are_below_a_bound(rt: HostRuntime) -> Result<(), Fail> {
-    assert_eq!(rt; number_below(b"0", 1), Some(0));
-    assert_eq!(rt; number_below(b"12", 13), Some(12));
-    assert_eq!(rt; number_below(b"12", 12), None);
-    assert_eq!(rt; number_below(b"99999999999999999999999999", 13), None);
-    Ok(())
+fn reads_none(alloc: Global, text: &[u8]) -> Result<bool, Memory> {
+    Ok(read_escaped(alloc, text)?.is_none())
 }
 
-#[test]
-fn escapes_are_read(rt: HostRuntime) -> Result<(), Fail> {
-    let read = read_escaped(rt.alloc(), b"a%c3%A9 %25").map_err(|_| "memory")?;
-    let Some(octets) = read else {
-        return Err(Fail::from("no octets"));
-    };
-    assert_eq!(rt; octets.as_slice(), "aé %".as_bytes());
-    Ok(())
+fn is_escaped(alloc: Global, octets: &[u8], text: &[u8]) -> Result<bool, Memory> {
+    let mut made = Octets::new(alloc);
+    push_escaped(&mut made, octets)?;
+    Ok(made.as_slice() == text)
 }
 
-#[test]
-fn other_escapes_are_none(rt: HostRuntime) -> Result<(), Fail> {
-    for text in ["%4", "%4g"] {
-        let read = read_escaped(rt.alloc(), text.as_bytes());
-        assert!(rt; read.is_ok_and(|answer| answer.is_none()), "{text}");
+fn is_text(alloc: Global, octets: &[u8]) -> Result<bool, Memory> {
+    match unit_of(alloc, b"", Octets::from_slice(alloc, octets)?)? {
+        Unit::Text(text) => Ok(text.as_slice() == octets),
+        Unit::Opaque { .. } => Ok(false),
     }
-    Ok(())
 }
 
-#[test]
-fn other_octets_are_escaped(rt: HostRuntime) -> Result<(), Fail> {
-    let mut made = Octets::new(rt.alloc());
-    push_escaped(&mut made, "é '~.txt".as_bytes()).map_err(|_| "memory")?;
-    assert_eq!(rt; made.as_slice(), b"%C3%A9%20%27~.txt".as_slice());
-    Ok(())
+fn is_opaque(alloc: Global, name: &[u8], text: &[u8], lower: &[u8]) -> Result<bool, Memory> {
+    match unit_of(alloc, name, Octets::from_slice(alloc, text)?)? {
+        Unit::Text(_) => Ok(false),
+        Unit::Opaque {
+            charset,
+            octets,
+            ..
+        } => Ok(charset.as_slice() == lower && octets.as_slice() == text),
+    }
 }
 
-#[test]
-fn quoted_pairs_are_their_second_octets(rt: HostRuntime) -> Result<(), Fail> {
-    let octets = unquoted(rt.alloc(), b"a\\\"b\\\\\\c\\").map_err(|_| "memory")?;
+fn is_cut(value: &[u8], charset: &str, text: &str) -> bool {
+    match split_extended(value) {
+        Some((found, left)) => found == charset.as_bytes() && left == text.as_bytes(),
+        None => false,
+    }
+}
+
+const ROWS: [(&str, &[Row]); 10] = [
+    (
+        "names are read",
+        &[
+            Row::Name("a", "a", "", false),
+            Row::Name("a*", "a", "", true),
+            Row::Name("a*0", "a", "0", false),
+            Row::Name("a*10*", "a", "10", true),
+        ],
+    ),
+    (
+        "other names are none",
+        &[
+            Row::NoName("*"),
+            Row::NoName("a*01"),
+            Row::NoName("a**"),
+            Row::NoName("a*1*1"),
+            Row::NoName("aaaaaaaaaaaaaaaaaaaaaaaaaaaaaaaaaaaaaaaaaaaaaaaaaaaaaaaaaaaaa"),
+        ],
+    ),
+    (
+        "numbers are below a bound",
+        &[
+            Row::Number(b"0", 1, Some(0)),
+            Row::Number(b"12", 13, Some(12)),
+            Row::Number(b"12", 12, None),
+            Row::Number(b"99999999999999999999999999", 13, None),
+        ],
+    ),
+    ("escapes are read", &[Row::Read("a%c3%A9 %25", "aé %")]),
+    (
+        "other escapes are none",
+        &[Row::NotRead("%4"), Row::NotRead("%4g")],
+    ),
+    (
+        "other octets are escaped",
+        &[Row::Escaped("é '~.txt", "%C3%A9%20%27~.txt")],
+    ),
     // After the last backslash nothing stands.
-    assert_eq!(rt; octets.as_slice(), b"a\"b\\c\\".as_slice());
-    Ok(())
-}
+    (
+        "quoted pairs are their second octets",
+        &[Row::Unquoted("a\\\"b\\\\\\c\\", "a\"b\\c\\")],
+    ),
+    (
+        "octets of no charset are text where they are UTF-8",
+        &[Row::Text(b"\xC3\xA9")],
+    ),
+    (
+        "other octets are of their charset",
+        &[Row::Opaque(b"ISO-8859-1", b"\xE9", b"iso-8859-1")],
+    ),
+    (
+        "extended values are cut at apostrophes",
+        &[
+            Row::Extended("UTF-8'en'a'b", "UTF-8", "a'b"),
+            Row::NotExtended("UTF-8'a"),
+            Row::NotExtended("é''a"),
+        ],
+    ),
+];
 
 #[test]
-fn octets_of_no_charset_are_text_where_they_are_utf8(rt: HostRuntime) -> Result<(), Fail> {
-    let octets = Octets::from_slice(rt.alloc(), "é".as_bytes()).map_err(|_| "memory")?;
-    let Unit::Text(text) = unit_of(rt.alloc(), b"", octets).map_err(|_| "memory")? else {
-        return Err(Fail::from("no text"));
-    };
-    assert_eq!(rt; text.as_slice(), "é".as_bytes());
-    Ok(())
-}
-
-#[test]
-fn other_octets_are_of_their_charset(rt: HostRuntime) -> Result<(), Fail> {
-    let octets = Octets::from_slice(rt.alloc(), b"\xE9").map_err(|_| "memory")?;
-    let Unit::Opaque {
-        charset,
-        octets,
-        ..
-    } = unit_of(rt.alloc(), b"ISO-8859-1", octets).map_err(|_| "memory")?
-    else {
-        return Err(Fail::from("text"));
-    };
-    assert_eq!(rt; charset.as_slice(), b"iso-8859-1".as_slice());
-    assert_eq!(rt; octets.as_slice(), b"\xE9".as_slice());
-    Ok(())
-}
-
-#[test]
-fn extended_values_are_cut_at_apostrophes(rt: HostRuntime) -> Result<(), Fail> {
-    let Some((charset, text)) = split_extended(b"UTF-8'en'a'b") else {
-        return Err(Fail::from("no value"));
-    };
-    assert_eq!(rt; charset, b"UTF-8".as_slice());
-    assert_eq!(rt; text, b"a'b".as_slice());
-    assert!(rt; split_extended(b"UTF-8'a").is_none());
-    assert!(rt; split_extended("é''a".as_bytes()).is_none());
-    Ok(())
+fn names_numbers_and_values_are_read(rt: HostRuntime) -> Result<(), Fail> {
+    all_hold(rt.alloc(), &ROWS)
 }

@@ -1,5 +1,5 @@
 use Rattle.field_tests.proofs.OneComment.{one_comment}
-use Rattle.field_tests.proofs.test_field_tokens.comments.has_pieces.Goals as goal
+use Rattle.field_tests.proofs.test_field_tokens.comments.put_comment.Goals as goal
 
 pub write_comment-requires-clause-comment : goal.write_comment-requires-clause-comment
 write_comment-requires-clause-comment c =
