@@ -140,7 +140,7 @@ fn tell_units(told: &mut Octets, units: &[Unit]) -> Result<(), Memory> {
     Ok(())
 }
 
-const PATHS: [(&str, &[Row]); 4] = [
+const ROWS: [(&str, &[Row]); 8] = [
     (
         "paths are read",
         &[
@@ -186,14 +186,6 @@ const PATHS: [(&str, &[Row]); 4] = [
             Row(Call::WriteAddress, "<\".\"@b>", "\".\"@b"),
         ],
     ),
-];
-
-#[test]
-fn paths_are_read_and_addresses_written(rt: HostRuntime) -> Result<(), Fail> {
-    all_hold(rt.alloc(), &PATHS)
-}
-
-const LISTS: [(&str, &[Row]); 4] = [
     (
         "mailboxes are read",
         &[Row(
@@ -241,6 +233,6 @@ const LISTS: [(&str, &[Row]); 4] = [
 ];
 
 #[test]
-fn lists_are_read(rt: HostRuntime) -> Result<(), Fail> {
-    all_hold(rt.alloc(), &LISTS)
+fn paths_and_lists_are_read(rt: HostRuntime) -> Result<(), Fail> {
+    all_hold(rt.alloc(), &ROWS)
 }

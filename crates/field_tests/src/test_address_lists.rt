@@ -54,7 +54,7 @@ fn tell_fault(made: &mut Octets, done: Result<(), AddressFault>) -> Result<(), M
     }
 }
 
-const LISTS: [(&str, &[Row]); 3] = [
+const ROWS: [(&str, &[Row]); 8] = [
     (
         "mailboxes are rewritten",
         &[
@@ -150,14 +150,6 @@ const LISTS: [(&str, &[Row]); 3] = [
             Row(Call::List, "a@é <", &["malformed"]),
         ],
     ),
-];
-
-#[test]
-fn lists_are_rewritten(rt: HostRuntime) -> Result<(), Fail> {
-    all_hold(rt.alloc(), &LISTS)
-}
-
-const PHRASES: [(&str, &[Row]); 5] = [
     (
         "phrases are written",
         &[
@@ -219,6 +211,6 @@ const PHRASES: [(&str, &[Row]); 5] = [
 ];
 
 #[test]
-fn phrases_and_paths_are_rewritten(rt: HostRuntime) -> Result<(), Fail> {
-    all_hold(rt.alloc(), &PHRASES)
+fn lists_phrases_and_paths_are_rewritten(rt: HostRuntime) -> Result<(), Fail> {
+    all_hold(rt.alloc(), &ROWS)
 }

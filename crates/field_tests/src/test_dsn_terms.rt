@@ -109,7 +109,7 @@ fn writes_delivered(alloc: Global, written: &str) -> Result<bool, Memory> {
     is_made(write_rcpt_terms(alloc, &asked), written)
 }
 
-const PARAMETERS: [(&str, &[Row]); 2] = [
+const ROWS: [(&str, &[Row]); 7] = [
     (
         "parameters of MAIL are read",
         &[
@@ -212,14 +212,6 @@ const PARAMETERS: [(&str, &[Row]); 2] = [
             Row::Recipient(false, "FOO FOO", ""),
         ],
     ),
-];
-
-#[test]
-fn parameters_are_read(rt: HostRuntime) -> Result<(), Fail> {
-    all_hold(rt.alloc(), &PARAMETERS)
-}
-
-const LIMITS: [(&str, &[Row]); 5] = [
     (
         "recipients are read that have 500 octets at most",
         &[
@@ -270,6 +262,6 @@ const LIMITS: [(&str, &[Row]); 5] = [
 ];
 
 #[test]
-fn what_can_be_kept_and_what_is_owed(rt: HostRuntime) -> Result<(), Fail> {
-    all_hold(rt.alloc(), &LIMITS)
+fn terms_are_read_and_kept(rt: HostRuntime) -> Result<(), Fail> {
+    all_hold(rt.alloc(), &ROWS)
 }

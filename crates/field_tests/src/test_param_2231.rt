@@ -19,7 +19,9 @@ enum Row {
     // that of the first parameter of a Content-Disposition
     First(&'static [u8], &'static str),
     // where `global` stands in a type
-    Global(&'static str, Option<usize>),
+    Global(&'static str, usize),
+    // a type without it
+    NoGlobal(&'static str),
 }
 
 impl Case for Row {
@@ -35,7 +37,8 @@ impl Case for Row {
                 has_pieces(alloc, ParamKind::Disposition, false, *text, *pieces)
             }
             Row::First(text, piece) => is_written(alloc, *text, *piece),
-            Row::Global(text, place) => Ok(find_global(alloc, text.as_bytes())? == *place),
+            Row::Global(text, place) => Ok(find_global(alloc, text.as_bytes())? == Some(*place)),
+            Row::NoGlobal(text) => Ok(find_global(alloc, text.as_bytes())?.is_none()),
         }
     }
 }
@@ -167,18 +170,18 @@ const ROWS: [(&str, &[Row]); 10] = [
     (
         "global is found",
         &[
-            Row::Global("message/global", Some(8)),
-            Row::Global("Message/ GLOBAL (x)", Some(9)),
-            Row::Global("(global) message/global; a=global", Some(17)),
+            Row::Global("message/global", 8),
+            Row::Global("Message/ GLOBAL (x)", 9),
+            Row::Global("(global) message/global; a=global", 17),
         ],
     ),
     (
         "other types are none",
         &[
-            Row::Global("text/global", None),
-            Row::Global("message/rfc822; a=global", None),
-            Row::Global("message/global; x", None),
-            Row::Global("message/global(", None),
+            Row::NoGlobal("text/global"),
+            Row::NoGlobal("message/rfc822; a=global"),
+            Row::NoGlobal("message/global; x"),
+            Row::NoGlobal("message/global("),
         ],
     ),
 ];

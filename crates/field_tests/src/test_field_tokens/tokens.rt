@@ -27,10 +27,14 @@ enum Row {
     Tree(&'static str, [usize; 2], [usize; 2]),
     // the text with a space for each gap and comment between two others
     Squeezed(&'static [u8], &'static [u8]),
-    // the kinds and octets of the tokens, or of so many of them
-    Lexemes(&'static str, Option<usize>, &'static [(TokenKind, &'static str)]),
+    // the kinds and octets of the tokens
+    Lexemes(&'static str, &'static [(TokenKind, &'static str)]),
+    // those of so many of them
+    Front(&'static str, usize, &'static [(TokenKind, &'static str)]),
     // how many marks there are
-    Marks(Style, &'static [u8], Option<usize>),
+    Marks(Style, &'static [u8], usize),
+    // a text that has none
+    NoMarks(&'static [u8]),
     // the kind of the first token of a text that isn't empty, and the rest
     First(&'static [u8], TokenKind, &'static [u8]),
     // one that begins with no token
@@ -49,10 +53,12 @@ impl Case for Row {
             Row::NoKinds(text) => has_no_tokens(alloc, *text),
             Row::Tree(text, first, second) => has_tree(alloc, text.as_bytes(), *first, *second),
             Row::Squeezed(text, wanted) => is_squeezed(alloc, *text, *wanted),
-            Row::Lexemes(text, count, wanted) => {
-                has_lexemes(alloc, text.as_bytes(), *count, *wanted)
+            Row::Lexemes(text, wanted) => has_lexemes(alloc, text.as_bytes(), None, *wanted),
+            Row::Front(text, count, wanted) => {
+                has_lexemes(alloc, text.as_bytes(), Some(*count), *wanted)
             }
-            Row::Marks(style, text, wanted) => has_marks(alloc, *style, *text, *wanted),
+            Row::Marks(style, text, count) => has_marks(alloc, *style, *text, Some(*count)),
+            Row::NoMarks(text) => has_marks(alloc, Style::Mail, *text, None),
             Row::First(text, kind, rest) => Ok(begins_with(*text, *kind, *rest)),
             Row::NoFirst(text) => Ok(begins_with_none(*text)),
         }
@@ -220,7 +226,7 @@ fn begins_with_none(text: &[u8]) -> bool {
     !text.is_empty() && first_token(Style::Mime, text).is_none()
 }
 
-const TOKENS: [(&str, &[Row]); 6] = [
+const ROWS: [(&str, &[Row]); 11] = [
     (
         "an address has tokens",
         &[Row::Tokens(
@@ -295,14 +301,6 @@ const TOKENS: [(&str, &[Row]); 6] = [
         "a million parentheses are malformed",
         &[Row::Parentheses(Style::Mime, [1_000_000, 0], &[])],
     ),
-];
-
-#[test]
-fn texts_have_tokens(rt: HostRuntime) -> Result<(), Fail> {
-    all_hold(rt.alloc(), &TOKENS)
-}
-
-const CALLS: [(&str, &[Row]); 5] = [
     (
         "the white of a quoted pair stays in its run",
         &[Row::Tree("1 ( é\\  ( ) (b)\t)", [4, 4], [14, 1])],
@@ -316,7 +314,6 @@ const CALLS: [(&str, &[Row]); 5] = [
         &[
             Row::Lexemes(
                 "é.<\"b\"@[1]>\t(c)",
-                None,
                 &[
                     (TokenKind::Atom, "é"),
                     (TokenKind::Special, "."),
@@ -329,18 +326,18 @@ const CALLS: [(&str, &[Row]); 5] = [
                     (TokenKind::Comment, "(c)"),
                 ],
             ),
-            Row::Lexemes(
+            Row::Front(
                 "é.<\"b\"@[1]>\t(c)",
-                Some(3),
+                3,
                 &[
                     (TokenKind::Atom, "é"),
                     (TokenKind::Special, "."),
                     (TokenKind::Special, "<"),
                 ],
             ),
-            Row::Lexemes(
+            Row::Front(
                 "é.<\"b\"@[1]>\t(c)",
-                Some(10),
+                10,
                 &[
                     (TokenKind::Atom, "é"),
                     (TokenKind::Special, "."),
@@ -358,11 +355,11 @@ const CALLS: [(&str, &[Row]); 5] = [
     (
         "texts without tokens have no marks",
         &[
-            Row::Marks(Style::Mail, b"a)", None),
-            Row::Marks(Style::Mail, b"a (b", None),
-            Row::Marks(Style::Mail, b"a\0", None),
-            Row::Marks(Style::Mail, b"\xff", None),
-            Row::Marks(Style::Mime, b"", Some(0)),
+            Row::NoMarks(b"a)"),
+            Row::NoMarks(b"a (b"),
+            Row::NoMarks(b"a\0"),
+            Row::NoMarks(b"\xff"),
+            Row::Marks(Style::Mime, b"", 0),
         ],
     ),
     (
@@ -375,6 +372,6 @@ const CALLS: [(&str, &[Row]); 5] = [
 ];
 
 #[test]
-fn tokens_have_trees_and_marks(rt: HostRuntime) -> Result<(), Fail> {
-    all_hold(rt.alloc(), &CALLS)
+fn texts_have_tokens(rt: HostRuntime) -> Result<(), Fail> {
+    all_hold(rt.alloc(), &ROWS)
 }

@@ -15,8 +15,10 @@ enum Row {
     Name(&'static str, &'static str, &'static str, bool),
     // a name that isn't one
     NoName(&'static str),
-    // digits, and the number if it's below a bound
-    Number(&'static [u8], usize, Option<usize>),
+    // digits, and the number, which is below a bound
+    Number(&'static [u8], usize, usize),
+    // digits of a number that isn't
+    NoNumber(&'static [u8], usize),
     // the octets of escapes
     Read(&'static str, &'static str),
     // escapes that have none
@@ -42,7 +44,10 @@ impl Case for Row {
                 Ok(has_parts(name.as_bytes(), *base, *number, *is))
             }
             Row::NoName(name) => Ok(read_name(name.as_bytes()).is_none()),
-            Row::Number(digits, bound, number) => Ok(number_below(*digits, *bound) == *number),
+            Row::Number(digits, bound, number) => {
+                Ok(number_below(*digits, *bound) == Some(*number))
+            }
+            Row::NoNumber(digits, bound) => Ok(number_below(*digits, *bound).is_none()),
             Row::Read(text, octets) => reads(alloc, text.as_bytes(), *octets),
             Row::NotRead(text) => reads_none(alloc, text.as_bytes()),
             Row::Escaped(octets, text) => is_escaped(alloc, octets.as_bytes(), text.as_bytes()),
@@ -131,10 +136,10 @@ const ROWS: [(&str, &[Row]); 10] = [
     (
         "numbers are below a bound",
         &[
-            Row::Number(b"0", 1, Some(0)),
-            Row::Number(b"12", 13, Some(12)),
-            Row::Number(b"12", 12, None),
-            Row::Number(b"99999999999999999999999999", 13, None),
+            Row::Number(b"0", 1, 0),
+            Row::Number(b"12", 13, 12),
+            Row::NoNumber(b"12", 12),
+            Row::NoNumber(b"99999999999999999999999999", 13),
         ],
     ),
     ("escapes are read", &[Row::Read("a%c3%A9 %25", "aé %")]),
