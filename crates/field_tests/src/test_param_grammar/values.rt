@@ -43,11 +43,9 @@ impl Case for Row {
             Row::Name(name, base, number, is) => {
                 Ok(has_parts(name.as_bytes(), *base, *number, *is))
             }
-            Row::NoName(name) => Ok(read_name(name.as_bytes()).is_none()),
-            Row::Number(digits, bound, number) => {
-                Ok(number_below(*digits, *bound) == Some(*number))
-            }
-            Row::NoNumber(digits, bound) => Ok(number_below(*digits, *bound).is_none()),
+            Row::NoName(name) => Ok(has_no_parts(name.as_bytes())),
+            Row::Number(digits, bound, number) => Ok(is_number(*digits, *bound, *number)),
+            Row::NoNumber(digits, bound) => Ok(is_no_number(*digits, *bound)),
             Row::Read(text, octets) => reads(alloc, text.as_bytes(), *octets),
             Row::NotRead(text) => reads_none(alloc, text.as_bytes()),
             Row::Escaped(octets, text) => is_escaped(alloc, octets.as_bytes(), text.as_bytes()),
@@ -55,7 +53,7 @@ impl Case for Row {
             Row::Text(octets) => is_text(alloc, *octets),
             Row::Opaque(charset, octets, lower) => is_opaque(alloc, *charset, *octets, *lower),
             Row::Extended(value, charset, text) => Ok(is_cut(value.as_bytes(), *charset, *text)),
-            Row::NotExtended(value) => Ok(split_extended(value.as_bytes()).is_none()),
+            Row::NotExtended(value) => Ok(is_not_cut(value.as_bytes())),
         }
     }
 }
@@ -69,6 +67,18 @@ fn has_parts(name: &[u8], base: &str, number: &str, is_extended: bool) -> bool {
         }
         None => false,
     }
+}
+
+fn has_no_parts(name: &[u8]) -> bool {
+    read_name(name).is_none()
+}
+
+fn is_number(digits: &[u8], bound: usize, number: usize) -> bool {
+    number_below(digits, bound) == Some(number)
+}
+
+fn is_no_number(digits: &[u8], bound: usize) -> bool {
+    number_below(digits, bound).is_none()
 }
 
 fn reads(alloc: Global, text: &[u8], wanted: &str) -> Result<bool, Memory> {
@@ -111,6 +121,10 @@ fn is_cut(value: &[u8], charset: &str, text: &str) -> bool {
         Some((found, left)) => found == charset.as_bytes() && left == text.as_bytes(),
         None => false,
     }
+}
+
+fn is_not_cut(value: &[u8]) -> bool {
+    split_extended(value).is_none()
 }
 
 const ROWS: [(&str, &[Row]); 10] = [
