@@ -18,7 +18,6 @@ use Rattle.smtp_grammar.specs.Data.{data_cut}
 use Rattle.smtp_grammar.specs.Reading.{DataHaveEnded, HasRead, TakesOfPiece}
 use Rattle.smtp_grammar.specs.declared.data.DataReader.{DataReader}
 use Rattle.smtp_session.specs.declared.session.SmtpMachine.{SmtpMachine}
-use Rattle.smtp_session.specs.declared.states.Client.{Client}
 use Rattle.smtp_session.specs.declared.states.Data.{Data}
 use Rattle.smtp_session.specs.declared.states.Greeted.{Greeted}
 use Rattle.smtp_session.specs.declared.states.Smtp.{Smtp}
