@@ -1,5 +1,5 @@
 -- What the driver takes of SMTP: a turn doesn't depend on what comes later, and whatever is asked for, the replies are ASCII.
-use Rattle.std.proofs.Common.{◌≡◌, List, [], ℕ, refl, sym, ap, subst, ◌∙◌, Some, None, Option, suc, ◌+◌, ◌<◌, ◌∷◌, ◌++◌, Bool, true, false, arith, ◌==◌, ◌&&◌, codes, not, inl, inr, append-nil, length, if◌then◌else◌}
+use Rattle.std.proofs.Common.{◌≡◌, List, [], ℕ, refl, sym, ap, subst, ◌∙◌, Some, None, Option, suc, ◌<◌, ◌∷◌, ◌++◌, Bool, true, false, arith, ◌==◌, ◌&&◌, codes, not, inl, inr, append-nil, length, if◌then◌else◌}
 use Rattle.std.specs.Option.{option_map}
 use Rattle.std.specs.Prelude.{is_some, nat_lt, slice_index_or, sum_by}
 use Rattle.std.specs.Str.{IsAscii}
