@@ -174,7 +174,7 @@ bad_of octets new (opening.BadJournal at) status line told is = (told.0, at, is.
 bad_of octets new opening.Keeper status line told is = absurd told
 bad_of octets new opening.Memory status line told is = absurd told
 
-broken_answer : (refused : Option StoreFault) (status : ℕ) → BreaksSessionOff status → IsAnswerTo refused status
+pub broken_answer : (refused : Option StoreFault) (status : ℕ) → BreaksSessionOff status → IsAnswerTo refused status
 broken_answer None status broken = inr broken
 broken_answer (Some why) status broken = inr broken
 
@@ -195,7 +195,7 @@ adding_at refusal one octets new a b status (Unopened line unopened gives) = λ 
     let bad = bad_of octets new unopened.fault status line unopened.told unopened.is in absurd (records_not_bad octets all bad.1 had bad.2)
 adding_at refusal one octets new a b status (Broken broken partly) = λ all had. broken_answer (refusal (store_of all)) status broken
 
-exact_adding : (refusal : Kept → Option StoreFault) (one : Record) (old new : Option (List ℕ)) (a b : WireState) (status : ℕ) → RunsAdding refusal one old new a b status
+pub exact_adding : (refusal : Kept → Option StoreFault) (one : Record) (old new : Option (List ℕ)) (a b : WireState) (status : ℕ) → RunsAdding refusal one old new a b status
     → IfSome old (λ octets. IsExactAdding refusal octets status)
 exact_adding refusal one None new a b status runs = tt
 exact_adding refusal one (Some octets) new a b status runs = adding_at refusal one octets new a b status runs
@@ -208,7 +208,7 @@ journal_at refusal one octets new a b status (Refused line refuses gives is) = �
 journal_at refusal one octets new a b status (Unopened line unopened gives) = λ at bad. inl (bad_of octets new unopened.fault status line unopened.told unopened.is).0
 journal_at refusal one octets new a b status (Broken broken partly) = λ at bad. inr broken
 
-exact_journal : (refusal : Kept → Option StoreFault) (one : Record) (old new : Option (List ℕ)) (a b : WireState) (status : ℕ) → RunsAdding refusal one old new a b status
+pub exact_journal : (refusal : Kept → Option StoreFault) (one : Record) (old new : Option (List ℕ)) (a b : WireState) (status : ℕ) → RunsAdding refusal one old new a b status
     → IfSome old (λ octets. IsExactJournal octets status)
 exact_journal refusal one None new a b status runs = tt
 exact_journal refusal one (Some octets) new a b status runs = journal_at refusal one octets new a b status runs

@@ -9,7 +9,8 @@ use Rattle.address_grammar.proofs.PathLemmas.{HasPath-once}
 use Rattle.address_grammar.proofs.PathParts.{path_parts}
 use Rattle.journal_records.specs.Addresses.{IsTextOfAddress}
 use Rattle.journal_records.specs.declared.limits.TheConstants.{TEXT_MAX}
-use Rattle.setup_command.specs.WordForms.{IsAccountText, IsAccountCommand}
+use Rattle.setup_command.specs.private.Apps.{account_words}
+use Rattle.setup_command.specs.WordForms.{IsAccountText, IsAccountByInput, IsAccountCommand}
 
 -- the address that was read
 pub text_of : (found : Option Address) (text : List ℕ) (own : Address) → found ≡ Some own → IfSome found (IsTextOfAddress text) → IsTextOfAddress text own
@@ -56,3 +57,26 @@ account_once words a b p q one other =
   where
     second_same : (s t p q : List ℕ) → codes "account" ∷ s ∷ p ∷ [] ≡ codes "account" ∷ t ∷ q ∷ [] → s ≡ t
     second_same s t p q same = cc
+
+pub by_input_once : (words : List (List ℕ)) (a b : Address) → IsAccountByInput words a → IsAccountByInput words b → a ≡ b
+by_input_once words a b one other =
+    let texts : one.text ≡ other.text = first_same one.text other.text (sym one.words_are ∙ other.words_are) in
+    address_once other.text b a other.says.is_text (subst (λ (t : List ℕ). IsTextOfAddress t a) texts one.says.is_text)
+  where
+    first_same : (s t : List ℕ) → codes "account" ∷ s ∷ [] ≡ codes "account" ∷ t ∷ [] → s ≡ t
+    first_same s t same = cc
+
+-- ---- words without values
+
+-- what was found of a list of words, where it is none
+none_of : (T : Type 0) (found : Option T) (P : Type 0) → found ≡ None → IfNone found P → P
+none_of T None P is none = none
+none_of T (Some it) P is none = absurd (cc is)
+
+pub no_account : (T : Type 0) (found : Option T) (words listed : List (List ℕ)) → listed ≡ words → found ≡ None
+    → IfNone found ((address : List ℕ) (password : Option (List ℕ)) → listed ≡ account_words address password → ⊥) → (address : Address) (password : List ℕ) → IsAccountCommand words address password → ⊥
+no_account T found words listed same is none address password command = none_of T found _ is none command.text (Some password) (same ∙ command.words_are)
+
+pub no_account_by_input : (T : Type 0) (found : Option T) (words listed : List (List ℕ)) → listed ≡ words → found ≡ None
+    → IfNone found ((address : List ℕ) (password : Option (List ℕ)) → listed ≡ account_words address password → ⊥) → (address : Address) → IsAccountByInput words address → ⊥
+no_account_by_input T found words listed same is none address command = none_of T found _ is none command.text None (same ∙ command.words_are)

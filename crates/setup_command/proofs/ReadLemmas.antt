@@ -1,12 +1,12 @@
 -- What the commands of `clap` read after their names.
-use Rattle.std.proofs.Common.{ap, ap₂, refl, codes, true, List, ℕ, Some, None, [], ◌∷◌, ◌≡◌, ◌∙◌}
+use Rattle.std.proofs.Common.{ap, ap₂, refl, codes, true, List, ℕ, Option, Some, None, [], ◌∷◌, ◌≡◌, ◌∙◌}
 use Rattle.clap.specs.Walk.{Row, Text, Held, first_of, nothing_held, reading_by, walk, walked, walk_from, finished}
 use Rattle.clap.specs.declared.parser.matches.ValueSource.TheVariants.{CommandLine}
 use Rattle.clap.specs.Faults.{fault_of, is_simple_and_free, walk_fault}
 use Rattle.clap.specs.Simple.{is_simple, built, matches_of}
 use Rattle.clap.specs.declared.error.kind.ErrorKind.TheVariants as kind
 use Rattle.clap.proofs.OnLiterals.{clap_on_literals}
-use Rattle.setup_command.specs.private.Apps.{word_rule, domain_app, account_app}
+use Rattle.setup_command.specs.private.Apps.{word_rule, domain_app, account_app, account_words}
 use Rattle.setup_command.specs.PlainWords.{is_plain_word}
 use Rattle.setup_command.proofs.ClapLemmas.{turned, faults_on, faults_by, standing}
 
@@ -56,7 +56,7 @@ pub domain_value : (word : Text) → is_plain_word word ≡ true → first_of (c
 domain_value word plain =
     ap (λ w. first_of (codes "domain") (finished (built domain_app).top.rules w.held)) (turned (built domain_app).top.rules nothing_held 1 word plain) ∙ domain_found word
 
--- ---- two arguments
+-- ---- one argument, and one that may be missing
 
 pub account_simple : is_simple_and_free account_app ≡ true
 unfolding clap_on_literals
@@ -77,15 +77,15 @@ row id word = record { id = id; values = word ∷ []; count = None; source = Som
 abbrev two_held : List ℕ → List ℕ → Held
 two_held address password = record { rows = row (codes "address") address ∷ []; pending = Some (codes "password", password ∷ []); skip = 0 }
 
-account_lacks : (address : Text) → faults_by (built account_app) (standing (one_held (codes "address") address) 2) [] ≡ kind.MissingRequiredArgument ∷ []
+account_read_one : (address : Text) → faults_by (built account_app) (standing (one_held (codes "address") address) 2) [] ≡ []
 unfolding clap_on_literals
-account_lacks address = refl
+account_read_one address = refl
 
-pub account_one : (address : Text) → is_plain_word address ≡ true → fault_of account_app (codes "account" ∷ address ∷ []) ≡ kind.MissingRequiredArgument ∷ []
+account_one : (address : Text) → is_plain_word address ≡ true → fault_of account_app (codes "account" ∷ address ∷ []) ≡ []
 unfolding walk_fault
 account_one address plain =
     ap₂ (faults_by (built account_app)) (turned (built account_app).top.rules nothing_held 1 address plain) (faults_on (built account_app).top nothing_held 1 address [] plain)
-    ∙ account_lacks address
+    ∙ account_read_one address
 
 account_walk : (address password : Text) → is_plain_word address ≡ true → is_plain_word password ≡ true
     → walk (built account_app).top.rules [] nothing_held (address ∷ password ∷ []) ≡ standing (two_held address password) 3
@@ -104,7 +104,7 @@ account_read : (address password : Text) → faults_by (built account_app) (stan
 unfolding clap_on_literals
 account_read address password = refl
 
-pub account_two : (address password : Text) → is_plain_word address ≡ true → is_plain_word password ≡ true → fault_of account_app (codes "account" ∷ address ∷ password ∷ []) ≡ []
+account_two : (address password : Text) → is_plain_word address ≡ true → is_plain_word password ≡ true → fault_of account_app (codes "account" ∷ address ∷ password ∷ []) ≡ []
 account_two address password plain also =
     ap₂ (faults_by (built account_app)) (account_walk address password plain also) (account_walk_fault address password plain also) ∙ account_read address password
 
@@ -127,11 +127,34 @@ account_found_password : (address password : Text) → first_of (codes "password
 unfolding clap_on_literals
 account_found_password address password = refl
 
--- the values are the two words
-pub account_values : (address password : Text) → is_plain_word address ≡ true → is_plain_word password ≡ true
-    → (first_of (codes "address") (matches_of account_app (codes "account" ∷ address ∷ password ∷ [])) ≡ Some address)
-    × (first_of (codes "password") (matches_of account_app (codes "account" ∷ address ∷ password ∷ [])) ≡ Some password)
-account_values address password plain also = (
-  ap (λ w. first_of (codes "address") (finished (built account_app).top.rules w.held)) (account_walk address password plain also) ∙ account_found address password,
-  ap (λ w. first_of (codes "password") (finished (built account_app).top.rules w.held)) (account_walk address password plain also) ∙ account_found_password address password,
-)
+account_found_one : (address : Text) → first_of (codes "address") (finished (built account_app).top.rules (one_held (codes "address") address)) ≡ Some address
+unfolding clap_on_literals
+account_found_one address = refl
+
+account_lacks : (address : Text) → first_of (codes "password") (finished (built account_app).top.rules (one_held (codes "address") address)) ≡ None
+unfolding clap_on_literals
+account_lacks address = refl
+
+-- there is a password where this passes
+abbrev pub plain_password : Option Text → Type 0
+plain_password None = Unit {0}
+plain_password (Some password) = is_plain_word password ≡ true
+
+pub account_faultless : (address : Text) (password : Option Text) → is_plain_word address ≡ true → plain_password password → fault_of account_app (account_words address password) ≡ []
+account_faultless address None plain also = account_one address plain
+account_faultless address (Some password) plain also = account_two address password plain also
+
+-- the values are the word, or the two words
+pub account_address_found : (address : Text) (password : Option Text) → is_plain_word address ≡ true → plain_password password
+    → first_of (codes "address") (matches_of account_app (account_words address password)) ≡ Some address
+account_address_found address None plain also =
+    ap (λ w. first_of (codes "address") (finished (built account_app).top.rules w.held)) (turned (built account_app).top.rules nothing_held 1 address plain) ∙ account_found_one address
+account_address_found address (Some password) plain also =
+    ap (λ w. first_of (codes "address") (finished (built account_app).top.rules w.held)) (account_walk address password plain also) ∙ account_found address password
+
+pub account_password_found : (address : Text) (password : Option Text) → is_plain_word address ≡ true → plain_password password
+    → first_of (codes "password") (matches_of account_app (account_words address password)) ≡ password
+account_password_found address None plain also =
+    ap (λ w. first_of (codes "password") (finished (built account_app).top.rules w.held)) (turned (built account_app).top.rules nothing_held 1 address plain) ∙ account_lacks address
+account_password_found address (Some password) plain also =
+    ap (λ w. first_of (codes "password") (finished (built account_app).top.rules w.held)) (account_walk address password plain also) ∙ account_found_password address password

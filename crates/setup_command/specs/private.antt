@@ -1,2 +1,3 @@
 -- What private functions answer.
 pub mod Apps
+pub mod Passwords

@@ -32,7 +32,7 @@ const COMMANDS: [(&str, &str); 11] = [
     ),
     (
         "account",
-        "Add the account of the words ADDRESS and PASSWORD",
+        "Add the account ADDRESS with PASSWORD, or with the first line of the input",
     ),
     ("domain", "Make the domain of the word DOMAIN local"),
     (

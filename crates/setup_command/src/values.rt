@@ -1,7 +1,7 @@
 //! What `clap` reads after the name of a command.
-ghost use Rattle.std.specs.Prelude.{◌≡◌, ◌≢◌, ◌↔◌, ℕ, List, [], ◌∷◌, map, codes, IfOk, IfSome, IfNone, IsTrue};
+ghost use Rattle.std.specs.Prelude.{◌≡◌, ◌≢◌, ◌↔◌, ℕ, List, [], ◌∷◌, Option, map, option_map, codes, IfOk, IfSome, IfNone, IsTrue};
 ghost use Rattle.clap.specs.Words.{app_of, kind_of, rule_of};
-ghost use Rattle.setup_command.specs.private.Apps.{account_app, domain_app, word_rule};
+ghost use Rattle.setup_command.specs.private.Apps.{account_app, account_words, domain_app};
 ghost use Rattle.setup_command.specs.PlainWords.{IsCalled};
 
 use clap::error::ErrorKind;
@@ -19,16 +19,14 @@ fn domain_command<'a>(alloc: Global) -> Result<Command<'a>, Memory>
     Ok(Command::new(alloc, "domain").arg(domain)?)
 }
 
-// The command of two words.
+// The command of one word or two.
 fn account_command<'a>(alloc: Global) -> Result<Command<'a>, Memory>
     ensures { IfOk result (λ command. app_of command ≡ account_app) }
 {
     let address = Arg::new(alloc, "address")
         .required(true)
         .action(ArgAction::Set);
-    let password = Arg::new(alloc, "password")
-        .required(true)
-        .action(ArgAction::Set);
+    let password = Arg::new(alloc, "password").action(ArgAction::Set);
     Ok(Command::new(alloc, "account").arg(address)?.arg(password)?)
 }
 
@@ -57,18 +55,21 @@ pub fn one_value<'a>(alloc: Global, words: &'a [&'a str]) -> Result<Option<&'a s
     }
 }
 
-/// The two words after `account`, or none where there are fewer or more.
-pub fn two_values<'a>(
+/// The word after `account`, and the second one where it is there, or none where there are fewer or more.
+pub fn account_values<'a>(
     alloc: Global,
     words: &'a [&'a str],
-) -> Result<Option<(&'a str, &'a str)>, Memory>
+) -> Result<Option<(&'a str, Option<&'a str>)>, Memory>
     requires { IsCalled (codes "account") (map (λ s. s.now) words.now) }
-    ensures some { IfOk result (λ found. IfSome found (λ values. map (λ s. s.now) words.now ≡ codes "account" ∷ values.0.now ∷ values.1.now ∷ [])) }
-    ensures none { IfOk result (λ found. IfNone found ((address password : List ℕ) → map (λ s. s.now) words.now ≢ codes "account" ∷ address ∷ password ∷ [])) }
+    ensures some { IfOk result (λ found. IfSome found (λ values. map (λ s. s.now) words.now ≡ account_words values.0.now (option_map (λ s. s.now) values.1))) }
+    ensures none { IfOk result (λ found. IfNone found ((address : List ℕ) (password : Option (List ℕ)) → map (λ s. s.now) words.now ≢ account_words address password)) }
 {
     let command = account_command(alloc)?;
     match command.try_get_matches_from(words) {
-        Ok(matches) => Ok(matches.get_str("address").zip(matches.get_str("password"))),
+        Ok(matches) => match matches.get_str("address") {
+            Some(address) => Ok(Some((address, matches.get_str("password")))),
+            None => Ok(None),
+        },
         Err(error) => {
             if is_want_of_memory(&error) {
                 return Err(Memory);

@@ -1,5 +1,5 @@
 //! Reads the words of the commands that add to a store.
-ghost use Rattle.std.specs.Prelude.{◌≡◌, ◌≢◌, ◌≤◌, ◌↔◌, ℕ, List, length, map, string_bytes, IfOk, IfSome, IfNone, IsTrue, IsUtf8, None};
+ghost use Rattle.std.specs.Prelude.{◌≡◌, ◌≢◌, ◌≤◌, ◌↔◌, ℕ, List, length, map, option_map, string_bytes, IfOk, IfSome, IfNone, IsTrue, IsUtf8, None};
 ghost use Rattle.std.specs.List.{list_all};
 ghost use Rattle.ace_domains.specs.Domains.{normal_form};
 ghost use Rattle.address_grammar.specs.Addresses.{address_text};
@@ -7,20 +7,21 @@ ghost use Rattle.address_grammar.specs.Paths.{ComesInPath};
 ghost use Rattle.address_grammar.specs.declared.Address.{Address as AddressValue};
 ghost use Rattle.journal_records.specs.Addresses.{IsTextOfAddress};
 ghost use Rattle.setup_command.specs.PlainWords.{IsCalled, is_plain_word as is_plain_word};
-ghost use Rattle.setup_command.specs.WordForms.{IsAccountCommand, IsAccountText, IsDomainCommand};
+ghost use Rattle.setup_command.specs.private.Passwords.{IsWithin};
+ghost use Rattle.setup_command.specs.WordForms.{IsAccountByInput, IsAccountCommand, IsAccountText, IsDomainCommand, SaysAccount};
 
-use crate::values::{one_value, two_values};
+use crate::values::{account_values, one_value};
 use ace_domains::normal;
 use address_grammar::{Address, write_address};
 use journal_records::{TEXT_MAX, read_text};
 use mail_wire::{Memory, Octets, Words};
 use std::alloc::Global;
 
-/// What the words of `account` say.
+/// What the words of `account` say: without a password, it is the first line of the input.
 #[derive(Debug, Drop)]
 pub struct AccountWords {
     pub address: Address,
-    pub password: Octets,
+    pub password: Option<Octets>,
 }
 
 // The words as a list.
@@ -97,25 +98,46 @@ fn account_address(alloc: Global, text: &[u8]) -> Result<Option<Address>, Memory
     Ok(Some(address))
 }
 
+// Whether the password is within the limit, or there is none.
+fn is_within(password: Option<&str>) -> bool
+    ensures { IsTrue result ↔ IsWithin (option_map (λ s. s.now) password.entry) }
+{
+    match password {
+        Some(word) => word.len() <= TEXT_MAX,
+        None => true,
+    }
+}
+
+// The octets of the password where there is one.
+fn password_octets(alloc: Global, password: Option<&str>) -> Result<Option<Octets>, Memory>
+    ensures { IfOk result (λ octets. octets ≡ option_map (λ s. s.now) password.entry) }
+{
+    match password {
+        Some(word) => Ok(Some(Octets::from_slice(alloc, word.as_bytes())?)),
+        None => Ok(None),
+    }
+}
+
 /// What the words of `account` say, or none where the words aren't such.
 pub fn read_account(alloc: Global, words: &Words) -> Result<Option<AccountWords>, Memory>
-    ensures some { IfOk result (λ found. IfSome found (λ said. IsAccountCommand words.now said.address said.password)) }
+    ensures some { IfOk result (λ found. IfSome found (λ said. SaysAccount words.now said.address said.password)) }
     ensures none { IfOk result (λ found. IfNone found ((address : AddressValue) (password : List ℕ) → ¬ IsAccountCommand words.now address password)) }
+    ensures none_by_input { IfOk result (λ found. IfNone found ((address : AddressValue) → ¬ IsAccountByInput words.now address)) }
 {
     let list = list_of(alloc, words)?;
     if !is_called(&list, "account") {
         return Ok(None);
     }
-    let Some((text, password)) = two_values(alloc, &list)? else {
+    let Some((text, password)) = account_values(alloc, &list)? else {
         return Ok(None);
     };
-    if password.len() > TEXT_MAX {
+    if !is_within(password) {
         return Ok(None);
     }
     let Some(address) = account_address(alloc, text.as_bytes())? else {
         return Ok(None);
     };
-    let password = Octets::from_slice(alloc, password.as_bytes())?;
+    let password = password_octets(alloc, password)?;
     Ok(Some(AccountWords { address, password }))
 }
 

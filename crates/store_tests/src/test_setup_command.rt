@@ -19,13 +19,10 @@ fn answer(
 ) -> Result<Option<u8>, Memory> {
     let words = words_of(alloc, list)?;
     let status = match (read_account(alloc, &words)?, read_domain(alloc, &words)?) {
-        (Some(said), None) => run_account(
-            alloc,
-            &said.address,
-            said.password.as_slice(),
-            wire,
-            keeper,
-        ),
+        (Some(said), None) => match &said.password {
+            Some(password) => run_account(alloc, &said.address, password.as_slice(), wire, keeper),
+            None => return Ok(None),
+        },
         (None, Some(domain)) => run_domain(alloc, domain.as_str(), wire, keeper),
         _ => return Ok(None),
     };
@@ -106,6 +103,48 @@ fn each_failing_call_breaks_off(rt: HostRuntime) -> Result<(), Fail> {
     all_hold(rt.alloc(), &ADDING)
 }
 
+// Words of `account`, the local part that they name, and the password that they have.
+struct Said {
+    words: &'static [&'static str],
+    local: &'static [u8],
+    password: Option<&'static [u8]>,
+}
+
+impl Case for Said {
+    fn holds(&self, alloc: Global) -> Result<bool, Memory> {
+        let words = words_of(alloc, self.words)?;
+        let Some(said) = read_account(alloc, &words)? else {
+            return Ok(false);
+        };
+        let password = said.password.as_ref().map(|octets| octets.as_slice());
+        Ok(said.address.local.as_slice() == self.local && password == self.password)
+    }
+}
+
+const SAID: [(&str, &[Said]); 2] = [
+    (
+        "a password is a word",
+        &[Said {
+            words: &["account", "ann@x.org", "secret"],
+            local: b"ann",
+            password: Some(b"secret"),
+        }],
+    ),
+    (
+        "or isn't said",
+        &[Said {
+            words: &["account", "ann@x.org"],
+            local: b"ann",
+            password: None,
+        }],
+    ),
+];
+
+#[test]
+fn a_password_may_be_left_out(rt: HostRuntime) -> Result<(), Fail> {
+    all_hold(rt.alloc(), &SAID)
+}
+
 const HELP: &str = "dervlask 0.9.0\n\
         A mail server over standard input and output, or over a port\n\
         \n\
@@ -118,7 +157,7 @@ const HELP: &str = "dervlask 0.9.0\n\
         \x20 smtp       Serve one SMTP session\n\
         \x20 imap       Serve one IMAP session\n\
         \x20 serve      Serve ROLE (pop, smtp or imap) on PORT of 127.0.0.1, N connections\n\
-        \x20 account    Add the account of the words ADDRESS and PASSWORD\n\
+        \x20 account    Add the account ADDRESS with PASSWORD, or with the first line of the input\n\
         \x20 domain     Make the domain of the word DOMAIN local\n\
         \x20 relay      Send the queue to the next server HOST (host or host:port)\n\
         \x20 gen        Make N messages and serve them to two clients\n\
