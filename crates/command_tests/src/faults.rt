@@ -20,7 +20,7 @@ type WireFault = (
     &'static [u8],
 );
 
-const WIRE_FAULTS: [WireFault; 5] = [
+const WIRE_FAULTS: [WireFault; 7] = [
     (&["pop"], b"", &[], 0, 0, b""),
     (&["pop"], b"", &[], 0, 8, b"+OK read"),
     // The greeting, a take, and two replies go before.
@@ -34,6 +34,17 @@ const WIRE_FAULTS: [WireFault; 5] = [
     ),
     (&["gen", "1"], b"", &[], 0, 9, b"messages "),
     (&["relay", "x"], b"", &[], 0, 4, b"sent"),
+    // A part of the password is taken before.
+    (
+        &["account", "bob@example.org"],
+        b"secret\r\n",
+        &[3],
+        1,
+        0,
+        b"",
+    ),
+    // The line is taken, and is no password.
+    (&["account", "bob@example.org"], b"\n", &[], 1, 5, b"words"),
 ];
 
 #[test]

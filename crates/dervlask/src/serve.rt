@@ -6,13 +6,13 @@ ghost use Rattle.session_core.specs.declared.desk.TheConstants.{LIMITS};
 use crate::telling::{CUT, JOURNAL, tell, tell_connection, tell_cut, tell_failure, tell_served};
 use journal_file::FileKeeper;
 use mail_command::{
-    DONE, Desk, LIMITS, OpenFault, Role, Served, WIRE_FAULT, open_desk, serve_next, status_after,
-    tell_unopened,
+    DONE, Desk, KEEPER_FAULT, LIMITS, OpenFault, Role, Served, WIRE_FAULT, has_domain, open_desk,
+    serve_next, status_after, tell_unopened,
 };
 use mail_wire::{StdWire, SystemClock};
 use std::alloc::{Alloc, Global};
-use std::fs::{File, Files};
-use std::io::{self, Eprint, Input, Print};
+use std::fs::{self, File, Files};
+use std::io::{self, Eprint, ErrorKind, Input, Print};
 use std::net::{Net, TcpListener, TcpStream};
 use std::rt::Clock;
 use std::time::Duration;
@@ -33,6 +33,21 @@ where
 fn tell_port<T: Eprint + Alloc<A = Global>>(rt: &T, port: u16, error: io::Error) -> io::Result<()> {
     let place = format!(in rt.alloc(); "127.0.0.1, port {port}")?;
     tell(rt, place.as_str(), error)
+}
+
+// Whether there is no journal. One that is opened to be served from is made where there is none.
+fn lacks_journal<F: Files<File = File>>(files: &F) -> bool {
+    match fs::symlink_metadata(files, JOURNAL) {
+        Ok(_) => false,
+        Err(error) => error.kind() == ErrorKind::NotFound,
+    }
+}
+
+// Says that the journal has no domain. The status that the program ends with.
+fn refuse_journal<T: Eprint>(rt: &T) -> u8 {
+    let _told =
+        eprintln!(rt; "dervlask: {JOURNAL}: no domain: add one by 'dervlask domain NAME'");
+    KEEPER_FAULT
 }
 
 // How a session came to its end: all that was given is to go out, unless it failed before.
@@ -87,8 +102,17 @@ fn serve_all<T>(
 where
     T: Files<File = File> + Clock + Eprint + Alloc<A = Global>,
 {
-    let mut kept = Some(open_desk(rt.alloc(), keeper, LIMITS)?);
+    if lacks_journal(rt) {
+        return Ok(refuse_journal(rt));
+    }
+    let desk = open_desk(rt.alloc(), keeper, LIMITS)?;
     let _cut = tell_cut(rt, keeper);
+    match has_domain(&desk) {
+        Ok(true) => {}
+        Ok(false) => return Ok(refuse_journal(rt)),
+        Err(_) => return Err(OpenFault::Memory),
+    }
+    let mut kept = Some(desk);
     keeper.release();
     for number in 1..=connections {
         let stream = match listener.accept() {
@@ -106,7 +130,7 @@ where
 }
 
 /// Serves so many connections to this port of 127.0.0.1, each by one session of the role, and answers the status that the program ends
-/// with. The journal is this program's alone while a connection is served, and anyone's in between.
+/// with. A journal without a domain isn't served from. The journal is this program's alone while a connection is served, and anyone's in between.
 pub fn serve<T>(rt: &T, role: Role, port: u16, connections: u32) -> u8
 where
     T: Net<Listener = TcpListener, Stream = TcpStream>

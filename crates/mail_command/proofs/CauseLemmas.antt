@@ -23,11 +23,12 @@ use Rattle.session_core.specs.declared.serving.Served.TheVariants as ended_as
 use Rattle.session_core.proofs.MeaningLemmas.{oracles_given}
 use Rattle.setup_command.specs.AddingRuns.{RunsAdding, Added, Refused, Unopened as NotAdded, Broken as AddingBroken}
 use Rattle.setup_command.specs.Running.{BreaksSessionOff, HasStatusCause, IsBrokenOff, IsToldBy}
-use Rattle.setup_command.specs.WordForms.{IsAccountCommand, IsDomainCommand}
+use Rattle.setup_command.specs.WordForms.{IsAccountByInput, IsAccountCommand, IsDomainCommand}
 use Rattle.mail_command.specs.Causes.{HasStatusWords, IsAdding, IsCompleteRun, IsCompleteSession}
+use Rattle.mail_command.specs.Passwords.{RunsByInput, OfPassword, OfNone, OfLong, Untaken}
 use Rattle.mail_command.specs.RelayRuns.{OutsideState, RunsRelay, Relayed, Unopened as NotRelayed, Broken as RelayBroken, relay_status}
 use Rattle.mail_command.specs.Running.{GivesHelp, RefusesWords, RunsStandalone, RunsGen, RunsSession, RunsTask, Told, BrokenOff, Unmade, Ended, Limit, Unopened, Broken}
-use Rattle.mail_command.specs.Words.{IsStandalone, IsCheck, IsDowngrade, IsNoCommand, IsRelayCommand, IsSession, OpensJournal, OfSession, OfAccount, OfDomain, OfRelay}
+use Rattle.mail_command.specs.Words.{IsStandalone, IsCheck, IsDowngrade, IsNoCommand, IsRelayCommand, IsSession, OpensJournal, TakesPassword, OfSession, OfAccount, OfDomain, OfRelay}
 use Rattle.mail_command.specs.declared.standalone.Standalone.{Standalone}
 use Rattle.mail_command.specs.declared.standalone.Standalone.TheVariants as standalone
 use Rattle.mail_command.specs.declared.roles.Role.{Role}
@@ -92,9 +93,9 @@ pub session_words : (protocol : Protocol) (reading : Option ℕ) (words : List (
 session_words protocol reading words role limits old new a b status is runs =
     let ends = session_ends _ limits old new a b status (runs.holds oracles_given.0 oracles_given.1 []) in
     record {
-      keeper = λ at. OfSession role is;
+      keeper = λ at. inl (OfSession role is);
       refused = λ at. absurd (ends_not status 6 4 ends at (omega arith) (inl (omega arith)) (inl (omega arith)));
-      journal = λ at. OfSession role is;
+      journal = λ at. inl (OfSession role is);
       limit = λ at. (role, is);
       message = λ at. absurd (ends_not status 6 7 ends at (omega arith) (inr (omega arith)) (inr (omega arith)));
       left = λ at. absurd (ends_not status 6 8 ends at (omega arith) (inr (omega arith)) (inr (omega arith)));
@@ -104,9 +105,9 @@ session_words protocol reading words role limits old new a b status is runs =
 
 adding_words : (words : List (List ℕ)) (status : ℕ) → OpensJournal words → IsAdding words → Ends status 9 → HasStatusWords words status
 adding_words words status opens is ends = record {
-  keeper = λ at. opens;
+  keeper = λ at. inl opens;
   refused = λ at. absurd (ends_not status 9 4 ends at (omega arith) (inl (omega arith)) (inl (omega arith)));
-  journal = λ at. opens;
+  journal = λ at. inl opens;
   limit = λ at. absurd (ends_not status 9 6 ends at (omega arith) (inr (omega arith)) (inl (omega arith)));
   message = λ at. absurd (ends_not status 9 7 ends at (omega arith) (inr (omega arith)) (inl (omega arith)));
   left = λ at. absurd (ends_not status 9 8 ends at (omega arith) (inr (omega arith)) (inl (omega arith)));
@@ -122,16 +123,52 @@ account_words refusal one words address password old new a b status is runs =
 pub domain_words : (refusal : Kept → Option StoreFault) (one : Record) (words : List (List ℕ)) (name : List ℕ) (old new : Option (List ℕ)) (a b : WireState) (status : ℕ)
     → IsDomainCommand words name → RunsAdding refusal one old new a b status → HasStatusWords words status
 domain_words refusal one words name old new a b status is runs =
-    adding_words words status (OfDomain name is) (inr (name, is)) (adding_ends refusal one old new a b status runs)
+    adding_words words status (OfDomain name is) (inr (inl (name, is))) (adding_ends refusal one old new a b status runs)
+
+-- the input has no password, or it ends as the adding of an account does
+by_input_ends : (refusal : Kept → Option StoreFault) (one : List ℕ → Record) (old new : Option (List ℕ)) (a b : WireState) (status : ℕ) → RunsByInput refusal one old new a b status
+    → (status ≡ 4) ⊎ Ends status 9
+by_input_ends refusal one old new a b status (OfPassword between password takes is runs) = inr (adding_ends refusal (one password) old new between b status runs)
+by_input_ends refusal one old new a b status (OfNone between line takes never (Told gives is) same) = inl is
+by_input_ends refusal one old new a b status (OfNone between line takes never (BrokenOff part broken) same) = inr (ends_broken status 9 (inl broken))
+by_input_ends refusal one old new a b status (OfLong between takes (Told gives is) same) = inl is
+by_input_ends refusal one old new a b status (OfLong between takes (BrokenOff part broken) same) = inr (ends_broken status 9 (inl broken))
+by_input_ends refusal one old new a b status (Untaken some broken same) = inr (ends_broken status 9 (inl broken))
+
+input_words : (words : List (List ℕ)) (status : ℕ) → TakesPassword words → (status ≡ 4) ⊎ Ends status 9 → HasStatusWords words status
+input_words words status is (inl refused) = record {
+  keeper = λ at. inr is;
+  refused = λ at. inr is;
+  journal = λ at. inr is;
+  limit = λ at. absurd (omega (arith, refused, at));
+  message = λ at. absurd (omega (arith, refused, at));
+  left = λ at. absurd (omega (arith, refused, at));
+  adding = λ at. inr (inr is);
+  known = omega (arith, refused);
+}
+input_words words status is (inr ends) = record {
+  keeper = λ at. inr is;
+  refused = λ at. inr is;
+  journal = λ at. inr is;
+  limit = λ at. absurd (ends_not status 9 6 ends at (omega arith) (inr (omega arith)) (inl (omega arith)));
+  message = λ at. absurd (ends_not status 9 7 ends at (omega arith) (inr (omega arith)) (inl (omega arith)));
+  left = λ at. absurd (ends_not status 9 8 ends at (omega arith) (inr (omega arith)) (inl (omega arith)));
+  adding = λ at. inr (inr is);
+  known = ends_known status 9 ends (omega arith);
+}
+
+pub by_input_words : (refusal : Kept → Option StoreFault) (one : List ℕ → Record) (words : List (List ℕ)) (address : Address) (old new : Option (List ℕ)) (a b : WireState) (status : ℕ)
+    → IsAccountByInput words address → RunsByInput refusal one old new a b status → HasStatusWords words status
+by_input_words refusal one words address old new a b status is runs = input_words words status (address, is) (by_input_ends refusal one old new a b status runs)
 
 pub relay_words : (words : List (List ℕ)) (limits : Limits) (host : List ℕ) (before now : OutsideState) (status : ℕ) → IsRelayCommand words host → RunsRelay limits host before now status
     → HasStatusWords words status
 relay_words words limits host before now status is runs =
     let ends = relay_ends limits host before now status runs in
     record {
-      keeper = λ at. OfRelay host is;
+      keeper = λ at. inl (OfRelay host is);
       refused = λ at. absurd (ends_not status 8 4 ends at (omega arith) (inl (omega arith)) (inl (omega arith)));
-      journal = λ at. OfRelay host is;
+      journal = λ at. inl (OfRelay host is);
       limit = λ at. absurd (ends_not status 8 6 ends at (omega arith) (inr (omega arith)) (inl (omega arith)));
       message = λ at. absurd (ends_not status 8 7 ends at (omega arith) (inr (omega arith)) (inl (omega arith)));
       left = λ at. (host, is);
@@ -242,7 +279,7 @@ no_words words a b status is runs =
     let ends = refused_ends a b status runs in
     record {
       keeper = λ at. absurd (standalone_not status 4 2 ends at (inl refl) (inl (omega arith)));
-      refused = λ at. is;
+      refused = λ at. inl is;
       journal = λ at. absurd (standalone_not status 4 5 ends at (inr (omega arith)) (inr (omega arith)));
       limit = λ at. absurd (standalone_not status 4 6 ends at (inr (omega arith)) (inr (omega arith)));
       message = λ at. absurd (standalone_not status 4 7 ends at (inr (omega arith)) (inr (omega arith)));

@@ -6,6 +6,8 @@ pub mod FigureLemmas
 pub mod OutcomeLemmas
 pub mod GivingLemmas
 pub mod RunLemmas
+pub mod PasswordLemmas
+pub mod DomainLemmas
 pub mod AccountLemmas
 pub mod MadeLemmas
 pub mod GeneratingLemmas

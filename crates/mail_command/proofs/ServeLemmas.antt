@@ -51,6 +51,7 @@ no_command words role port connections is = record {
   check = λ one. fewer words (codes "check" ∷ []) _ one is.words_are (omega arith);
   session = λ other one. fewer words (role_word other ∷ []) _ one is.words_are (omega arith);
   account = λ address password one. fewer words (codes "account" ∷ one.text ∷ password ∷ []) _ one.words_are is.words_are (omega arith);
+  by_input = λ address one. fewer words (codes "account" ∷ one.text ∷ []) _ one.words_are is.words_are (omega arith);
   domain = λ name one. fewer words (codes "domain" ∷ name ∷ []) _ one.words_are is.words_are (omega arith);
   help = λ one. fewer words (codes "help" ∷ []) _ one is.words_are (omega arith);
   gen = λ number one. fewer words (codes "gen" ∷ one.text ∷ []) _ one.words_are is.words_are (omega arith);

@@ -9,7 +9,7 @@ use Rattle.mail_command.specs.declared.roles.Role.{Role}
 use Rattle.mail_command.specs.declared.roles.Role.TheVariants as role
 use Rattle.mail_command.specs.declared.tasks.Task.TheVariants as task
 use Rattle.mail_command.specs.Running.{GivesHelp, RunsStandalone, RunsCheck, RunsDowngrade, RunsGen}
-use Rattle.mail_command.specs.Words.{IsStandalone, IsCheck, IsDowngrade, IsGen, IsNoCommand, IsSession, OpensJournal, OfSession, OfAccount, OfDomain, OfRelay}
+use Rattle.mail_command.specs.Words.{IsStandalone, IsCheck, IsDowngrade, IsGen, IsNoCommand, IsSession, OpensJournal, TakesPassword, OfSession, OfAccount, OfDomain, OfRelay}
 use Rattle.mail_command.specs.private.Few.{MakesFew}
 use Rattle.mail_command.proofs.WordsLemmas.{differ_first, fewer}
 
@@ -66,6 +66,12 @@ standalone_opens words (standalone.Message task.Downgrade) is (OfRelay host also
 standalone_opens words (standalone.Message task.Check) is (OfRelay host also) = fewer words _ _ is also.words_are (omega arith)
 standalone_opens words (standalone.Gen number) is (OfRelay host also) = differ_first words _ _ is.words_are also.words_are (omega arith)
 standalone_opens words standalone.Help is (OfRelay host also) = fewer words _ _ is also.words_are (omega arith)
+
+pub standalone_takes : (words : List (List ℕ)) (one : Standalone) → IsStandalone words one → TakesPassword words → ⊥
+standalone_takes words (standalone.Message task.Downgrade) is also = fewer words _ _ is also.1.words_are (omega arith)
+standalone_takes words (standalone.Message task.Check) is also = fewer words _ _ is also.1.words_are (omega arith)
+standalone_takes words (standalone.Gen number) is also = differ_first words _ _ also.1.words_are is.words_are (omega arith)
+standalone_takes words standalone.Help is also = fewer words _ _ is also.1.words_are (omega arith)
 
 -- ---- what the words say was run
 

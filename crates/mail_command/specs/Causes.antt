@@ -10,18 +10,18 @@ use Rattle.session_core.specs.declared.serving.Served.TheVariants as ended_as
 use Rattle.setup_command.specs.Running.{BreaksSessionOff}
 use Rattle.setup_command.specs.WordForms.{IsAccountCommand, IsDomainCommand}
 use Rattle.setup_command.specs.declared.statuses.TheConstants.{KEEPER_FAULT, WANT_OF_MEMORY, WORDS_REFUSED, BAD_JOURNAL, LIMIT_REACHED, MESSAGE_REFUSED, LEFT_QUEUED, ADDING_REFUSED}
-use Rattle.mail_command.specs.Words.{IsCheck, IsDowngrade, IsNoCommand, IsRelayCommand, IsSession, OpensJournal}
+use Rattle.mail_command.specs.Words.{IsCheck, IsDowngrade, IsNoCommand, IsRelayCommand, IsSession, MayOpenJournal, TakesPassword}
 use Rattle.mail_command.specs.declared.roles.Role.{Role}
 
--- the words of `account` or of `domain`
+-- the words of `account`, with a password or without, or of `domain`
 abbrev pub IsAdding : List (List ℕ) → Type 0
-IsAdding words = ((address : Address) × (password : List ℕ) × IsAccountCommand words address password) ⊎ ((name : List ℕ) × IsDomainCommand words name)
+IsAdding words = ((address : Address) × (password : List ℕ) × IsAccountCommand words address password) ⊎ (((name : List ℕ) × IsDomainCommand words name) ⊎ TakesPassword words)
 
 -- A status comes only for words of a command that may end so.
 pub record HasStatusWords (words : List (List ℕ)) (status : ℕ) : Type 0 where
-  pub keeper : status ≡ KEEPER_FAULT → OpensJournal words
-  pub refused : status ≡ WORDS_REFUSED → IsNoCommand words
-  pub journal : status ≡ BAD_JOURNAL → OpensJournal words
+  pub keeper : status ≡ KEEPER_FAULT → MayOpenJournal words
+  pub refused : status ≡ WORDS_REFUSED → IsNoCommand words ⊎ TakesPassword words
+  pub journal : status ≡ BAD_JOURNAL → MayOpenJournal words
   pub limit : status ≡ LIMIT_REACHED → (role : Role) × IsSession words role
   pub message : status ≡ MESSAGE_REFUSED → IsDowngrade words ⊎ IsCheck words
   pub left : status ≡ LEFT_QUEUED → (host : List ℕ) × IsRelayCommand words host

@@ -7,6 +7,7 @@ pub mod Generating
 pub mod Giving
 pub mod Outcome
 pub mod Running
+pub mod Passwords
 pub mod RelayRuns
 pub mod Causes
 pub mod Begun

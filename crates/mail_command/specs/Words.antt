@@ -1,8 +1,8 @@
 -- The words of the commands.
-use Rattle.std.specs.Prelude.{◌≡◌, ℕ, ◌<◌, ◌≤◌, List, [], ◌∷◌, codes, decimal, string_bytes, true, Option, Some, None}
+use Rattle.std.specs.Prelude.{◌≡◌, ◌⊎◌, ℕ, ◌<◌, ◌≤◌, List, [], ◌∷◌, codes, decimal, string_bytes, true, Option, Some, None}
 use Rattle.address_grammar.specs.declared.Address.{Address}
 use Rattle.setup_command.specs.PlainWords.{is_plain_word}
-use Rattle.setup_command.specs.WordForms.{IsAccountCommand, IsDomainCommand, IsHelpCommand}
+use Rattle.setup_command.specs.WordForms.{IsAccountByInput, IsAccountCommand, IsDomainCommand, IsHelpCommand}
 use Rattle.mail_command.specs.declared.standalone.Standalone.{Standalone}
 use Rattle.mail_command.specs.declared.standalone.Standalone.TheVariants as standalone
 use Rattle.mail_command.specs.declared.command.Command.{Command}
@@ -60,6 +60,7 @@ pub record IsNoCommand (words : List (List ℕ)) : Type 0 where
   pub check : ¬ IsCheck words
   pub session : (role : Role) → ¬ IsSession words role
   pub account : (address : Address) (password : List ℕ) → ¬ IsAccountCommand words address password
+  pub by_input : (address : Address) → ¬ IsAccountByInput words address
   pub domain : (name : List ℕ) → ¬ IsDomainCommand words name
   pub help : ¬ IsHelpCommand words
   pub gen : (number : ℕ) → ¬ IsGen words number
@@ -71,6 +72,14 @@ pub data OpensJournal (words : List (List ℕ)) : Type 0 where
   OfAccount : (address : Address) (password : List ℕ) → IsAccountCommand words address password → OpensJournal words
   OfDomain : (name : List ℕ) → IsDomainCommand words name → OpensJournal words
   OfRelay : (host : List ℕ) → IsRelayCommand words host → OpensJournal words
+
+-- the words of `account` whose password is the first line of the input
+abbrev pub TakesPassword : List (List ℕ) → Type 0
+TakesPassword words = (address : Address) × IsAccountByInput words address
+
+-- the words of the commands that open the journal, the one among them that does so once it has taken a password
+abbrev pub MayOpenJournal : List (List ℕ) → Type 0
+MayOpenJournal words = OpensJournal words ⊎ TakesPassword words
 
 -- the words of a command that leaves the keeper alone
 abbrev pub IsStandalone : List (List ℕ) → Standalone → Type 0
@@ -84,6 +93,7 @@ abbrev pub Names : List (List ℕ) → Option Command → Type 0
 Names words None = IsNoCommand words
 Names words (Some (command.Standalone one)) = IsStandalone words one
 Names words (Some (command.Session role)) = IsSession words role
-Names words (Some (command.Account said)) = IsAccountCommand words said.address said.password
+Names words (Some (command.Account address password)) = IsAccountCommand words address password
+Names words (Some (command.AccountByInput address)) = IsAccountByInput words address
 Names words (Some (command.Domain name)) = IsDomainCommand words (string_bytes name)
 Names words (Some (command.Relay host)) = IsRelayCommand words (string_bytes host)

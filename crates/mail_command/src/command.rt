@@ -1,5 +1,5 @@
 //! Runs a command over a wire, a keeper and a dial.
-ghost use Rattle.std.specs.Prelude.{◌≡◌, ◌≢◌, ℕ, List, [], ◌∷◌, Err, IfOk, IfErr, IfSome};
+ghost use Rattle.std.specs.Prelude.{◌≡◌, ◌≢◌, ℕ, List, [], ◌∷◌, Some, Err, IfOk, IfErr, IfSome};
 ghost use Rattle.mail_wire.specs.Moves.{HasWireCause};
 ghost use Rattle.ace_domains.specs.Domains.{compared_form};
 ghost use Rattle.address_grammar.specs.Addresses.{address_text};
@@ -12,21 +12,24 @@ ghost use Rattle.session_core.specs.declared.desk.TheConstants.{LIMITS};
 ghost use Rattle.setup_command.specs.AddingRuns.{RunsAdding, IsExactAdding};
 ghost use Rattle.setup_command.specs.Running.{IsExactJournal, HasStatusCause};
 ghost use Rattle.setup_command.specs.Statuses.{status_of};
-ghost use Rattle.setup_command.specs.WordForms.{IsAccountCommand, IsDomainCommand, IsHelpCommand};
+ghost use Rattle.setup_command.specs.WordForms.{IsAccountByInput, IsAccountCommand, IsDomainCommand, IsHelpCommand, SaysAccount};
 ghost use Rattle.mail_command.specs.Causes.{HasStatusWords, IsCompleteRun};
+ghost use Rattle.mail_command.specs.Passwords.{IsExactByInput, RunsByInput};
 ghost use Rattle.mail_command.specs.Protocols.{protocol_for};
-ghost use Rattle.mail_command.specs.Words.{Names, IsNoCommand, IsDowngrade, IsCheck, IsGen, IsRelayCommand, IsSession, OpensJournal};
+ghost use Rattle.mail_command.specs.Words.{Names, IsNoCommand, IsDowngrade, IsCheck, IsGen, IsRelayCommand, IsSession, MayOpenJournal, OpensJournal};
 ghost use Rattle.mail_command.specs.RelayRuns.{RunsRelay};
 ghost use Rattle.mail_command.specs.Running.{RefusesWords, RunsDowngrade, RunsCheck, RunsGen, RunsSession, GivesHelp};
 ghost use Rattle.mail_command.specs.declared.roles.Role.{Role as RoleValue};
 
+use crate::passwords::run_account_by_input;
 use crate::relaying::run_relay;
 use crate::roles::{Role, role_named};
 use crate::serving_words::{gen_words, relay_words};
 use crate::sessions::run_session;
 use crate::standalone::{Standalone, run_standalone};
 use crate::tasks::Task;
-use mail_wire::{Clock, Dial, Fault, Keeper, Memory, Wire, Words, give_all};
+use address_grammar::Address;
+use mail_wire::{Clock, Dial, Fault, Keeper, Memory, Octets, Wire, Words, give_all};
 use setup_command::{
     AccountWords, KEEPER_FAULT, WANT_OF_MEMORY, WIRE_FAULT, WORDS_REFUSED, read_account,
     read_domain, run_account, run_domain,
@@ -38,7 +41,10 @@ use std::alloc::Global;
 pub enum Command {
     Standalone(Standalone),
     Session(Role),
-    Account(AccountWords),
+    /// The address and the password of an account.
+    Account(Address, Octets),
+    /// The password is the first line of the input.
+    AccountByInput(Address),
     Domain(String),
     /// The queue is sent to the server that this host names.
     Relay(String),
@@ -59,13 +65,24 @@ fn command_named(word: &str) -> Option<Command>
     }
 }
 
+// The command of the words of `account`.
+fn account_command(said: AccountWords) -> Command
+    ensures { (words : List (List ℕ)) → SaysAccount words said.address said.password → Names words (Some result) }
+{
+    let AccountWords { address, password } = said;
+    match password {
+        Some(password) => Command::Account(address, password),
+        None => Command::AccountByInput(address),
+    }
+}
+
 // The command of fewer words or of more.
 fn command_with_values(alloc: Global, words: &Words) -> Result<Option<Command>, Memory>
     requires { (word : List ℕ) → words.now ≢ word ∷ [] }
     ensures { IfOk result (Names words.now) }
 {
     if let Some(said) = read_account(alloc, words)? {
-        return Ok(Some(Command::Account(said)));
+        return Ok(Some(account_command(said)));
     }
     if let Some(name) = read_domain(alloc, words)? {
         return Ok(Some(Command::Domain(name)));
@@ -91,7 +108,7 @@ fn command_of(alloc: Global, words: &Words) -> Result<Option<Command>, Memory>
 }
 
 // Tells that the words are those of no command.
-fn refuse_words<W: Wire>(wire: &mut W) -> Result<u8, Fault>
+pub(crate) fn refuse_words<W: Wire>(wire: &mut W) -> Result<u8, Fault>
     ensures refuses { RefusesWords (W.observed wire.old) (W.observed wire.new) (status_of result) }
     ensures fine { IfOk result (λ status. status ≡ 4) }
     ensures cause { HasWireCause (W.observed wire.old) (W.observed wire.new) result Fault.Wire }
@@ -121,6 +138,11 @@ fn work<W: Wire, J: Keeper, L: Dial, C: Clock>(
         (J.observed keeper.old).octets (J.observed keeper.new).octets (W.observed wire.old) (W.observed wire.new) (status_of result)) }
     ensures account_exact { (address : AddressValue) (password : List ℕ) → IsAccountCommand words.now address password → WithPaths (λ path_of.
         IfSome (J.observed keeper.old).octets (λ octets. IsExactAdding (λ kept. account_refusal path_of kept address) octets (status_of result))) }
+    ensures account_by_input { (address : AddressValue) → IsAccountByInput words.now address → WithPaths (λ path_of.
+        RunsByInput (λ kept. account_refusal path_of kept address) (λ password. records.Account (address_text address) password)
+        (J.observed keeper.old).octets (J.observed keeper.new).octets (W.observed wire.old) (W.observed wire.new) (status_of result)) }
+    ensures account_by_input_exact { (address : AddressValue) → IsAccountByInput words.now address → WithPaths (λ path_of.
+        IfSome (J.observed keeper.old).octets (λ octets. IsExactByInput (λ kept. account_refusal path_of kept address) octets (status_of result))) }
     ensures domain { (name : List ℕ) → IsDomainCommand words.now name → RunsAdding (λ kept. domain_refusal kept name) (records.Domain (compared_form name))
         (J.observed keeper.old).octets (J.observed keeper.new).octets (W.observed wire.old) (W.observed wire.new) (status_of result) }
     ensures domain_exact { (name : List ℕ) → IsDomainCommand words.now name
@@ -130,7 +152,7 @@ fn work<W: Wire, J: Keeper, L: Dial, C: Clock>(
         (record { wire = W.observed wire.old; keeper = J.observed keeper.old; dial = L.observed dial.old; clock = C.observed clock.old })
         (record { wire = W.observed wire.new; keeper = J.observed keeper.new; dial = L.observed dial.new; clock = C.observed clock.new }) (status_of result) }
     ensures journal { OpensJournal words.now → IfSome (J.observed keeper.old).octets (λ octets. IsExactJournal octets (status_of result)) }
-    ensures untouched { ¬ OpensJournal words.now → J.observed keeper.new ≡ J.observed keeper.old }
+    ensures untouched { ¬ MayOpenJournal words.now → J.observed keeper.new ≡ J.observed keeper.old }
     ensures undialled { ((host : List ℕ) → ¬ IsRelayCommand words.now host) → L.observed dial.new ≡ L.observed dial.old }
     ensures cause { HasStatusCause (W.observed wire.old) (W.observed wire.new) (J.observed keeper.old) (J.observed keeper.new) (status_of result) }
     ensures statuses { HasStatusWords words.now (status_of result) }
@@ -138,13 +160,12 @@ fn work<W: Wire, J: Keeper, L: Dial, C: Clock>(
     match command_of(alloc, words)? {
         Some(Command::Standalone(command)) => run_standalone(alloc, command, wire),
         Some(Command::Session(role)) => run_session(alloc, role, wire, keeper, clock),
-        Some(Command::Account(said)) => run_account(
-            alloc,
-            &said.address,
-            said.password.as_slice(),
-            wire,
-            keeper,
-        ),
+        Some(Command::Account(address, password)) => {
+            run_account(alloc, &address, password.as_slice(), wire, keeper)
+        }
+        Some(Command::AccountByInput(address)) => {
+            run_account_by_input(alloc, &address, wire, keeper)
+        }
         Some(Command::Domain(name)) => run_domain(alloc, &name, wire, keeper),
         Some(Command::Relay(host)) => run_relay(alloc, &host, wire, keeper, dial, clock),
         None => refuse_words(wire),
@@ -164,7 +185,7 @@ pub fn status_after(answer: Result<u8, Fault>) -> u8
 }
 
 /// Runs the command that the words name, and answers its status: 0 where the work is done, 1 after a fault of the wire,
-/// 2 after one of the keeper, 3 for want of memory, 4 where the words are those of no command, 5 where the journal is bad,
+/// 2 after one of the keeper, 3 for want of memory, 4 where the words are those of no command or the input has no password, 5 where the journal is bad,
 /// 6 where a session took 1 GiB without an end, 7 where the octets are no message or are more than 32 MiB, 8 where somebody is
 /// left in the queue, 9 where the store refuses an account or a domain.
 pub fn run<W: Wire, J: Keeper, L: Dial, C: Clock>(
@@ -186,6 +207,11 @@ pub fn run<W: Wire, J: Keeper, L: Dial, C: Clock>(
         (J.observed keeper.old).octets (J.observed keeper.new).octets (W.observed wire.old) (W.observed wire.new) result) }
     ensures account_exact { (address : AddressValue) (password : List ℕ) → IsAccountCommand words.now address password → WithPaths (λ path_of.
         IfSome (J.observed keeper.old).octets (λ octets. IsExactAdding (λ kept. account_refusal path_of kept address) octets result)) }
+    ensures account_by_input { (address : AddressValue) → IsAccountByInput words.now address → WithPaths (λ path_of.
+        RunsByInput (λ kept. account_refusal path_of kept address) (λ password. records.Account (address_text address) password)
+        (J.observed keeper.old).octets (J.observed keeper.new).octets (W.observed wire.old) (W.observed wire.new) result) }
+    ensures account_by_input_exact { (address : AddressValue) → IsAccountByInput words.now address → WithPaths (λ path_of.
+        IfSome (J.observed keeper.old).octets (λ octets. IsExactByInput (λ kept. account_refusal path_of kept address) octets result)) }
     ensures domain { (name : List ℕ) → IsDomainCommand words.now name → RunsAdding (λ kept. domain_refusal kept name) (records.Domain (compared_form name))
         (J.observed keeper.old).octets (J.observed keeper.new).octets (W.observed wire.old) (W.observed wire.new) result }
     ensures domain_exact { (name : List ℕ) → IsDomainCommand words.now name
@@ -197,7 +223,7 @@ pub fn run<W: Wire, J: Keeper, L: Dial, C: Clock>(
     // A bad journal is told.
     ensures journal { OpensJournal words.now → IfSome (J.observed keeper.old).octets (λ octets. IsExactJournal octets result) }
     // Other words leave the journal, and `relay` alone dials.
-    ensures untouched { ¬ OpensJournal words.now → J.observed keeper.new ≡ J.observed keeper.old }
+    ensures untouched { ¬ MayOpenJournal words.now → J.observed keeper.new ≡ J.observed keeper.old }
     ensures undialled { ((host : List ℕ) → ¬ IsRelayCommand words.now host) → L.observed dial.new ≡ L.observed dial.old }
     ensures cause { HasStatusCause (W.observed wire.old) (W.observed wire.new) (J.observed keeper.old) (J.observed keeper.new) result }
     // A status comes only for words of a command that may end so.

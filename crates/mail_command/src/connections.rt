@@ -1,5 +1,5 @@
 //! Serves the connections of a program, one after the other, from one desk.
-ghost use Rattle.std.specs.Prelude.{◌≡◌, ◌↔◌, IfErr, IfOk, IfSome, IsNone, OnErr};
+ghost use Rattle.std.specs.Prelude.{◌≡◌, ◌≢◌, ◌↔◌, [], IfErr, IfOk, IfSome, IsNone, IsTrue, OnErr};
 ghost use Rattle.mail_wire.specs.Keeping.{HasKeeperCause};
 ghost use Rattle.mail_store.specs.Answers.{IsJournalFault, LeavesRecords};
 ghost use Rattle.session_core.specs.Desks.{WorksWithin};
@@ -13,9 +13,23 @@ ghost use Rattle.mail_command.specs.Running.{status_of_served};
 
 use crate::roles::{Role, serve_one};
 use mail_store::OpenFault;
-use mail_wire::{Clock, Keeper, Wire};
+use mail_wire::{Clock, Keeper, Memory, Wire};
 use session_core::{Desk, LIMITS, Outside, Served, next_desk};
 use std::alloc::Global;
+
+// The name of a store without a domain.
+const LOCALHOST: &str = "localhost";
+
+/// Whether the desk's store has a domain.
+pub fn has_domain(desk: &Desk) -> Result<bool, Memory>
+    ensures { IfOk result (λ has. IsTrue has ↔ (desk.now.store.kept.domains ≢ [])) }
+{
+    // A domain may have this name, too.
+    if desk.store.name() != LOCALHOST {
+        return Ok(true);
+    }
+    desk.store.is_local(LOCALHOST)
+}
 
 /// Serves the next connection: the desk that was kept catches up with the journal or is opened anew, and serves one session. It
 /// says how that ended, and gives the desk for the next one, unless the keeper failed.

@@ -7,6 +7,7 @@ mod figures;
 mod generating;
 pub mod laws;
 mod lines;
+mod passwords;
 mod relaying;
 mod roles;
 mod serving_words;
@@ -16,7 +17,7 @@ mod taking;
 mod tasks;
 
 pub use command::{run, status_after};
-pub use connections::serve_next;
+pub use connections::{has_domain, serve_next};
 pub use mail_store::OpenFault;
 pub use roles::{Role, serve_one};
 pub use serving_words::serve_words;

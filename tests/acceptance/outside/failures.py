@@ -1,6 +1,6 @@
 """Failures of the outside: the status that the program ends with, and the one line that it says on standard error.
 
-Where no command has the words it says there how to list the commands, and with every other status nothing. What it says on standard output is
+Where no command has the words, or the input has no password, it says there how to list the commands, and with every other status nothing. What it says on standard output is
 the same whether standard error takes anything."""
 
 import os
@@ -21,12 +21,14 @@ QUIT = b"QUIT\r\n"
 SENDS = b"EHLO x\r\nMAIL FROM:<>\r\nRCPT TO:<a@x.org>\r\nDATA\r\nSubject: a\r\n\r\nb\r\n.\r\nQUIT\r\n"
 DELETES = b"USER a@x.org\r\nPASS p\r\nDELE 1\r\nQUIT\r\n"
 DOMAIN, ACCOUNT, EXISTS = [b"domain", b"y.org"], [b"account", b"b@x.org", b"p"], [b"domain", b"x.org"]
+# the password is the first line of the input
+BY_INPUT, LINE = [b"account", b"c@x.org"], b"p\n"
 # nothing waits in the queue, so nobody is called
 RELAY, NOTHING = [b"relay", b"next.invalid"], b"sent 0, reported 0, left 0\r\n"
 # each command that opens the journal, with the octets that it takes
 OF_SESSIONS = [([b"pop"], QUIT), ([b"smtp"], QUIT), ([b"imap"], b"a LOGOUT\r\n")]
-WITH_JOURNAL = [*OF_SESSIONS, (RELAY, b""), (DOMAIN, b""), (ACCOUNT, b"")]
-WITH_INPUT = [[b"downgrade"], *(words for words, _ in OF_SESSIONS)]
+WITH_JOURNAL = [*OF_SESSIONS, (RELAY, b""), (DOMAIN, b""), (ACCOUNT, b""), (BY_INPUT, LINE)]
+WITH_INPUT = [[b"downgrade"], BY_INPUT, *(words for words, _ in OF_SESSIONS)]
 OUTPUT, INPUT, KEPT = b"standard output", b"standard input", JOURNAL.encode()
 NO_ROOM, IS_FOLDER, DENIED, BROKEN = b"No space left on device", b"Is a directory", b"Permission denied", b"Broken pipe"
 NOT_REGULAR = b"not a regular file"
@@ -136,7 +138,7 @@ def of_the_journal(program, tally):
                 faults = ended(place.run(words, octets), 2, line(KEPT, NOT_REGULAR), b"")
                 faults += differs("files", sorted(os.listdir(place.path)), [JOURNAL, "other"]) + differs("the other file", read_journal(other), STORE)
                 tally.note(name_of(words, f"the journal is {what}"), faults)
-    for words, octets in [([b"smtp"], SENDS), (DOMAIN, b""), (ACCOUNT, b"")]:
+    for words, octets in [([b"smtp"], SENDS), (DOMAIN, b""), (ACCOUNT, b""), (BY_INPUT, LINE)]:
         with Place(program, STORE) as place:
             found = place.run(words, octets, before=little_room(len(STORE) + 3))
             tally.note(name_of(words, "a file may not be so large"), ended(found, 2, line(KEPT, b"File too large")))
@@ -205,7 +207,7 @@ def of_others(program, tally):
     bad, full = FIRST_OCTETS + b"\0\0\0\x01\x09", b"bad journal at 8\r\n"
     cases = [
         ([b"downgrade"], CAFE, STORE, 0, None), ([b"help"], b"", STORE, 0, None), *((words, octets, STORE, 0, None) for words, octets in OF_SESSIONS), ([b"smtp"], SENDS, STORE, 0, None),
-        (DOMAIN, b"", STORE, 0, b""), (ACCOUNT, b"", STORE, 0, b""), (RELAY, b"", STORE, 0, NOTHING),
+        (DOMAIN, b"", STORE, 0, b""), (ACCOUNT, b"", STORE, 0, b""), (BY_INPUT, LINE, STORE, 0, b""), (RELAY, b"", STORE, 0, NOTHING),
         *((words, octets, bad, 5, full) for words, octets in WITH_JOURNAL), ([b"downgrade"], b"x", STORE, 7, b"refused at 0: not a field\r\n"),
         (EXISTS, b"", STORE, 9, b"exists\r\n"), ([b"account", b"b@y.org", b"p"], b"", STORE, 9, b"no such domain\r\n"),
     ]
@@ -219,6 +221,9 @@ def of_words(program, tally):
     for words in ([], [b"post"], [b"--help"], [b"-h"], [b"--version"], [b"help", b"me"], [b"HELP"], [b"serve", b"pop", b"110"], [b"domain", b"\xff"]):
         with Place(program, STORE) as place:
             tally.note(f"{words} are the words of no command", ended(place.run(words, CAFE), *WRONG) + place.changes())
+    for octets in (b"", b"\n", b"x" * 65_537 + b"\n"):
+        with Place(program, STORE) as place:
+            tally.note(f"{len(octets)} octets have no password", ended(place.run(BY_INPUT, octets), *WRONG) + place.changes())
     with Place(program, STORE) as place:
         found = place.run([b"help"])
         tally.note("the command of the hint lists the commands", ended(found, 0, b"") + differs("lists relay", b"\n  relay " in found[1], True))

@@ -23,6 +23,8 @@ STORE = journal(domain(b"x.org"), account(b"a@x.org", b"p"))
 BAD = FIRST_OCTETS + b"\0\0\0\x01\x09"
 # a record that was broken off
 BROKEN_OFF = b"\0\0\0\x20\x02\0\0"
+LONELY = journal(account(b"a@x.org", b"p"))
+NO_DOMAIN = f"dervlask: {JOURNAL}: no domain: add one by 'dervlask domain NAME'"
 LOGS_IN = b"USER a@x.org\r\nPASS p\r\n"
 COUNTS = LOGS_IN + b"STAT\r\nQUIT\r\n"
 SENDS = b"EHLO x\r\nMAIL FROM:<>\r\nRCPT TO:<a@x.org>\r\nDATA\r\nSubject: a\r\n\r\nb\r\n.\r\n"
@@ -167,6 +169,24 @@ def of_bad_journals(program, tally, folder):
     tally.note("serve: a record that is cut off", faults + service.faults(said=[f"dervlask: {JOURNAL}: {what} in {JOURNAL}.cut" for what in told]))
 
 
+def of_no_domain(program, tally, folder):
+    """Nobody is served from a journal without a domain, which stays as it is, and isn't made where there is none."""
+    cases = (("no journal", None, None), ("an empty file", b"", FIRST_OCTETS), ("no record", FIRST_OCTETS, FIRST_OCTETS), ("an account alone", LONELY, LONELY))
+    for word in ("pop", "smtp", "imap"):
+        for name, before, after in cases:
+            path = place_journal(folder, before)
+            with Service(program.path, folder, word) as service:
+                status = service.end()
+            faults = differs("status", status, 2) + service.faults(2, said=[NO_DOMAIN]) + differs("journal", read_journal(path), after)
+            tally.note(f"serve {word}: {name}", faults)
+            if after is not None:
+                os.remove(path)
+    path = place_journal(folder, journal(domain(b"localhost")))
+    with Service(program.path, folder, "smtp", connections=1) as service:
+        told, status = talk(service, b"QUIT\r\n"), service.end()
+    tally.note("serve: the domain localhost", differs("told", told, b"220 localhost ESMTP\r\n" + SMTP_BYE) + differs("status", status, 0) + service.faults(0))
+
+
 def of_failures(program, tally, folder):
     """The journal fails, or memory is wanting."""
     # so long that what is said on standard error, which goes to a file too, has room
@@ -254,7 +274,7 @@ def of_modes(program, tally, folder):
         os.chmod(place.path, 0o555)
         with Service(path, place.path, preexec=change) as service:
             status = service.end()
-        tally.note("serve: the folder is read-only", differs("status", status, 2) + service.faults(2, said=denied))
+        tally.note("serve: the folder is read-only", differs("status", status, 2) + service.faults(2, said=[NO_DOMAIN]))
 
 
 def of_signals(program, tally, folder):
@@ -269,6 +289,6 @@ def of_signals(program, tally, folder):
 
 
 def check(program, tally):
-    for checks in (of_clients, of_the_count, of_ports, of_others, of_bad_journals, of_failures, of_streams, of_modes, of_signals):
+    for checks in (of_clients, of_the_count, of_ports, of_others, of_bad_journals, of_no_domain, of_failures, of_streams, of_modes, of_signals):
         with tempfile.TemporaryDirectory(dir=program.folder.name) as folder:
             checks(program, tally, folder)

@@ -1,13 +1,14 @@
 """Rows of the words that keep domains and accounts, and of `help`: a journal and words in, status, line and journal out."""
 
 import os
+import subprocess
 import tempfile
 
 from journal import FIRST_OCTETS, account, domain, journal
 from oracle.pop_store import open_journal
 from rows.downgrade_rows import WORDS_REFUSED
-from support.harness import differs
-from support.talk import place_journal, read_journal
+from support.harness import SECONDS, differs
+from support.talk import JOURNAL, place_journal, read_journal
 
 X_ORG = bytes.fromhex("4D41494C4A4E4C31" "0000000A0200000005782E6F7267")
 BAD = bytes.fromhex("4D41494C4A4E4C310000000109")
@@ -59,12 +60,26 @@ def of_accounts():
     ]
 
 
+def of_first_lines():
+    """Name, and the input and the password that it has, or None where it has none."""
+    longest = b"x" * TEXT_MAX
+    return [
+        ("LF", b"secret\n", b"secret"), ("CRLF", b"secret\r\n", b"secret"), ("no end", b"secret", b"secret"), ("a second line", b"secret\r\nother\r\n", b"secret"),
+        ("white", b" p w\t\r\n", b" p w\t"), ("a dash", b"-p\n", b"-p"), ("other octets", b"\xff\0\x7f\n", b"\xff\0\x7f"), ("UTF-8", "pässword\n".encode(), "pässword".encode()),
+        ("CR inside", b"a\rb\r\r\n", b"a\rb\r"), ("CR at the end", b"secret\r", b"secret\r"), ("CRLF alone", b"\r\n", None), ("CR alone", b"\r", b"\r"),
+        *((f"{len(end)} octets of its end behind one piece", b"x" * count + end, b"x" * count) for count in (4094, 4095, 4096) for end in (b"\n", b"\r\n", b"\r\ny")),
+        *((f"the longest, {end}", longest + end, longest) for end in (b"", b"\n", b"\r\n", b"\ny")), ("the longest, CR", longest + b"\r", None),
+        *((f"longer, {end}", longest + b"y" + end, None) for end in (b"", b"\n", b"\r\n")), ("endless", longest * 20, None),
+        ("nothing", b"", None), ("an empty line", b"\n", None), ("an empty line first", b"\nsecret\n", None),
+    ]
+
+
 def refused_words():
     """Words in no form."""
     domains = ["", "-", "-x.org", "a_b", "a..b", "x.org.", "a@b", "[1.2.3.4]", " x.org", "x.org ", "a b", "x\n", "a" * 64, "a." * 127]
     addresses = ["", "a", "@x.org", "a@", "a@b_c", "a@[1.2.3.4]", "<a@x.org>", "a@x.org,b@x.org", "a@x.org,", "@y:a@x.org", "-a@x.org", "a(@x.org",
         "a" * (TEXT_MAX - 5) + "@x.org"]
-    others = [["domain"], ["domain", "x.org", "y.org"], ["DOMAIN", "x.org"], ["account"], ["account", "a@x.org"], ["account", "a@x.org", ""],
+    others = [["domain"], ["domain", "x.org", "y.org"], ["DOMAIN", "x.org"], ["account"], ["account", "a@x.org", ""],
         ["account", "a@x.org", "-p"], ["account", "a@x.org", "p", "q"], ["account", "a@x.org", "p", "--help"], ["account", "a@x.org", "x" * (TEXT_MAX + 1)], ["Account", "a@x.org", "p"],
         ["relay"], ["relay", ""], ["relay", "-x"], ["relay", "a", "b"], ["relay", "a", "25"], ["RELAY", "a"], ["relay", "a", ""],
         [], ["post"], ["post", "0"], ["pop", "1"], ["smtp", "-1"], ["imap", "1"], ["IMAP"], ["help", "x"], ["help", ""], ["--help"], ["-h"], ["HELP"],
@@ -121,6 +136,39 @@ def check_refusals(program, tally):
             tally.note(f"the words {words}"[:100], differs("answer", answer, WORDS_REFUSED) + differs("journal", left, before))
 
 
+def check_first_lines(program, tally):
+    """Without a second word the first line is the password, where the journal takes the account; one that is none leaves the journal alone."""
+    words, there = ["account", "a@x.org"], journal(account(b"a@x.org", b"p"))
+    for name, octets, password in of_first_lines():
+        answer, left = run_on(program, X_ORG, words, octets)
+        wanted, after = (WORDS_REFUSED, X_ORG) if password is None else (DONE, X_ORG + account(b"a@x.org", password))
+        tally.note(f"a password on the first line: {name}", differs("answer", answer, wanted) + differs("journal", left, after))
+        for before, told, then in ((None, NO_DOMAIN, FIRST_OCTETS), (BAD, (5, b"bad journal at 8\r\n"), BAD), (there, EXISTS, there)):
+            answer, left = run_on(program, before, words, octets)
+            wanted, after = (WORDS_REFUSED, before) if password is None else (told, then)
+            tally.note(f"no account for the first line: {name}", differs("answer", answer, wanted) + differs("journal", left, after))
+
+
+def check_open_input(program, tally):
+    """It ends with the first line, whatever may come behind it, and leaves the journal to others until then."""
+    with tempfile.TemporaryDirectory(dir=program.folder.name) as folder:
+        with subprocess.Popen([program.path, "account", "a@x.org"], stdin=subprocess.PIPE, stdout=subprocess.PIPE, cwd=folder) as running:
+            running.stdin.write(b"sec")
+            running.stdin.flush()
+            other = program.run(words_of("domain", "x.org"), b"", cwd=folder)
+            kept = read_journal(os.path.join(folder, JOURNAL))
+            running.stdin.write(b"ret\r\n")
+            running.stdin.flush()
+            try:
+                status = running.wait(SECONDS)
+            except subprocess.TimeoutExpired:
+                running.kill()
+                status = "it waits for more"
+        left = read_journal(os.path.join(folder, JOURNAL))
+    faults = differs("domain meanwhile", other, DONE) + differs("journal meanwhile", kept, X_ORG) + differs("status", status, 0)
+    tally.note("a password while the input stays open", faults + differs("journal", left, X_ORG + account(b"a@x.org", b"secret")))
+
+
 def check_help(program, tally):
     """It names every command and the license, and leaves the journal alone, a bad one too."""
     for before in (None, BAD):
@@ -153,5 +201,7 @@ def check(program, tally):
     for name, before, words, wanted, after in of_journals():
         check_row(program, tally, name, before, words, wanted, after)
     check_refusals(program, tally)
+    check_first_lines(program, tally)
+    check_open_input(program, tally)
     check_help(program, tally)
     check_use(program, tally)

@@ -13,6 +13,12 @@ returns-clause-account g c = rw c.status_after.ensures c.work.ensures.account
 pub returns-clause-account_exact : goal.returns-clause-account_exact
 returns-clause-account_exact g c = rw c.status_after.ensures c.work.ensures.account_exact
 
+pub returns-clause-account_by_input : goal.returns-clause-account_by_input
+returns-clause-account_by_input g c = rw c.status_after.ensures c.work.ensures.account_by_input
+
+pub returns-clause-account_by_input_exact : goal.returns-clause-account_by_input_exact
+returns-clause-account_by_input_exact g c = rw c.status_after.ensures c.work.ensures.account_by_input_exact
+
 pub returns-clause-domain : goal.returns-clause-domain
 returns-clause-domain g c = rw c.status_after.ensures c.work.ensures.domain
 
