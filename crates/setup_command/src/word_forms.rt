@@ -7,7 +7,7 @@ ghost use Rattle.address_grammar.specs.Paths.{ComesInPath};
 ghost use Rattle.address_grammar.specs.declared.Address.{Address as AddressValue};
 ghost use Rattle.journal_records.specs.Addresses.{IsTextOfAddress};
 ghost use Rattle.setup_command.specs.PlainWords.{IsCalled, is_plain_word as is_plain_word};
-ghost use Rattle.setup_command.specs.private.Passwords.{IsWithin};
+ghost use Rattle.setup_command.specs.private.Passwords.{IsShortPassword};
 ghost use Rattle.setup_command.specs.WordForms.{IsAccountByInput, IsAccountCommand, IsAccountText, IsDomainCommand, SaysAccount};
 
 use crate::values::{account_values, one_value};
@@ -100,7 +100,7 @@ fn account_address(alloc: Global, text: &[u8]) -> Result<Option<Address>, Memory
 
 // Whether the password is within the limit, or there is none.
 fn is_within(password: Option<&str>) -> bool
-    ensures { IsTrue result ↔ IsWithin (option_map (λ s. s.now) password.entry) }
+    ensures { IsTrue result ↔ IsShortPassword (option_map (λ s. s.now) password.entry) }
 {
     match password {
         Some(word) => word.len() <= TEXT_MAX,
