@@ -45,8 +45,7 @@ fn lacks_journal<F: Files<File = File>>(files: &F) -> bool {
 
 // Says that the journal has no domain. The status that the program ends with.
 fn refuse_journal<T: Eprint>(rt: &T) -> u8 {
-    let _told =
-        eprintln!(rt; "dervlask: {JOURNAL}: no domain: add one by 'dervlask domain NAME'");
+    let _told = eprintln!(rt; "dervlask: {JOURNAL}: no domain: add one by 'dervlask domain NAME'");
     KEEPER_FAULT
 }
 
