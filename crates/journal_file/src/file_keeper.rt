@@ -91,6 +91,16 @@ fn lock(file: &File) -> io::Result<()> {
     Err(io::Error::from(io::ErrorKind::Interrupted))
 }
 
+// Has the file be its owner's alone, and its name stay.
+fn make_safe<F: Files<File = File>>(files: &F, path: &str, file: &File) -> io::Result<()> {
+    shut_others_out(file)?;
+    // whoever made it may not have come to this
+    if file.metadata()?.len() == 0 {
+        sync_name(files, path)?;
+    }
+    Ok(())
+}
+
 // The file, which is this program's alone from here on, and has to be the one that was opened before.
 fn open<F: Files<File = File>>(files: &F, path: &str, node: &mut Option<Node>) -> io::Result<File> {
     let file = open_or_make(files, path, node.is_none())?;
@@ -100,11 +110,7 @@ fn open<F: Files<File = File>>(files: &F, path: &str, node: &mut Option<Node>) -
     if before.is_some_and(|before| before != found) {
         return Err(replaced());
     }
-    shut_others_out(&file)?;
-    // whoever made it may not have come to this
-    if file.metadata()?.len() == 0 {
-        sync_name(files, path)?;
-    }
+    make_safe(files, path, &file)?;
     Ok(file)
 }
 
