@@ -14,6 +14,7 @@ use Rattle.mail_command.specs.Passwords.{RunsByInput, Untaken}
 use Rattle.mail_command.specs.Running.{BrokenOff, RefusesWords, words_refused}
 use Rattle.mail_command.proofs.TakingLemmas.{Takes-nil}
 use Rattle.mail_command.specs.Words.{IsNoCommand, IsRelayCommand, OpensJournal, OfSession, OfAccount, OfDomain, OfRelay}
+use Rattle.mail_command.proofs.WordsLemmas.{differ_first, fewer}
 
 third_same : (s t p q : List ℕ) → codes "account" ∷ s ∷ p ∷ [] ≡ codes "account" ∷ t ∷ q ∷ [] → p ≡ q
 third_same s t p q same = cc
@@ -45,6 +46,13 @@ none_opens words none (OfSession role is) = none.session role is
 none_opens words none (OfAccount address password is) = none.account address password is
 none_opens words none (OfDomain name is) = none.domain name is
 none_opens words none (OfRelay host is) = none.relay host is
+
+-- nor do those of `account` without a password, before they have it
+pub by_input_opens : (words : List (List ℕ)) (address : Address) → IsAccountByInput words address → OpensJournal words → ⊥
+by_input_opens words address one (OfSession role is) = fewer words _ _ is one.words_are (omega arith)
+by_input_opens words address one (OfAccount other password is) = fewer words _ _ one.words_are is.words_are (omega arith)
+by_input_opens words address one (OfDomain name is) = differ_first words _ _ one.words_are is.words_are (omega arith)
+by_input_opens words address one (OfRelay host is) = differ_first words _ _ one.words_are is.words_are (omega arith)
 
 -- memory was wanting for the words
 pub not_begun : (refusal : Kept → Option StoreFault) (one : Record) (octets : Option (List ℕ)) (a : WireState) → RunsAdding refusal one octets octets a a 3

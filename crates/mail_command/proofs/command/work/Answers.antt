@@ -19,7 +19,7 @@ use Rattle.mail_command.specs.Words.{OfSession, OfAccount, OfDomain, OfRelay}
 use Rattle.mail_command.proofs.PasswordLemmas.{by_input_exact}
 use Rattle.mail_command.proofs.StandaloneLemmas.{standalone_check, standalone_downgrade, standalone_few, standalone_gen, standalone_help, standalone_names, standalone_opens, standalone_takes}
 use Rattle.mail_command.proofs.CauseLemmas.{account_words, by_input_words, standalone_words, domain_words, no_words, relay_words, session_words, unread_words}
-use Rattle.mail_command.proofs.CommandLemmas.{account_at, by_input_at, by_input_unbegun, domain_at, none_opens, not_begun, refusal_unbegun, relay_at}
+use Rattle.mail_command.proofs.CommandLemmas.{account_at, by_input_at, by_input_opens, by_input_unbegun, domain_at, none_opens, not_begun, refusal_unbegun, relay_at}
 use Rattle.mail_command.proofs.RelayLemmas.{relay_unbegun}
 use Rattle.mail_command.proofs.WordsLemmas.{session_once}
 use Rattle.mail_command.proofs.command.work.Goals as goal
@@ -129,40 +129,44 @@ returns-in-Some-Account-clause-account g c address password is path_of reads =
     (λ x y. RunsAdding (λ kept. account_refusal path_of kept x) (records.Account (address_text x) y) (g.J.Keeper.observed c.args.keeper.now).octets (g.J.Keeper.observed c.run_account.new.keeper).octets
     (g.W.Wire.observed c.args.wire.now) (g.W.Wire.observed c.run_account.new.wire) (status_of c.run_account.result))
     c.args.words.now c.in-Some-Account.address address c.in-Some-Account.password password
-    (rw c.in-Some-Account.is at c.in_ok-command.ensures.names) is (rw c.as_slice.ensures at (c.run_account.ensures.runs path_of reads))
+    (rw (c.in-Some-Account.is, c.in-Some-Account.field-0-is) at c.in_ok-command.ensures.names) is (rw c.as_slice.ensures at (c.run_account.ensures.runs path_of reads))
 
 pub returns-in-Some-Account-clause-account_exact : goal.returns-in-Some-Account-clause-account_exact
 returns-in-Some-Account-clause-account_exact g c address password is path_of reads =
     account_at
     (λ x y. IfSome (g.J.Keeper.observed c.args.keeper.now).octets (λ octets. IsExactAdding (λ kept. account_refusal path_of kept x) octets (status_of c.run_account.result)))
     c.args.words.now c.in-Some-Account.address address c.in-Some-Account.password password
-    (rw c.in-Some-Account.is at c.in_ok-command.ensures.names) is (c.run_account.ensures.exact path_of reads)
+    (rw (c.in-Some-Account.is, c.in-Some-Account.field-0-is) at c.in_ok-command.ensures.names) is (c.run_account.ensures.exact path_of reads)
 
 pub returns-in-Some-Account-clause-untouched : goal.returns-in-Some-Account-clause-untouched
 returns-in-Some-Account-clause-untouched g c never =
-    absurd (never (inl (OfAccount c.in-Some-Account.address c.in-Some-Account.password (rw c.in-Some-Account.is at c.in_ok-command.ensures.names))))
+    absurd (never (inl (OfAccount c.in-Some-Account.address c.in-Some-Account.password (rw (c.in-Some-Account.is, c.in-Some-Account.field-0-is) at c.in_ok-command.ensures.names))))
 
 pub returns-in-Some-AccountByInput-clause-account_by_input : goal.returns-in-Some-AccountByInput-clause-account_by_input
 returns-in-Some-AccountByInput-clause-account_by_input g c address is path_of reads =
     by_input_at
     (λ x. RunsByInput (λ kept. account_refusal path_of kept x) (λ password. records.Account (address_text x) password) (g.J.Keeper.observed c.args.keeper.now).octets
     (g.J.Keeper.observed c.run_account_by_input.new.keeper).octets (g.W.Wire.observed c.args.wire.now) (g.W.Wire.observed c.run_account_by_input.new.wire) (status_of c.run_account_by_input.result))
-    c.args.words.now c.in-Some-AccountByInput.address address (rw c.in-Some-AccountByInput.is at c.in_ok-command.ensures.names) is (c.run_account_by_input.ensures.runs path_of reads)
+    c.args.words.now c.in-Some-AccountByInput.address address (rw (c.in-Some-AccountByInput.is, c.in-Some-AccountByInput.field-0-is) at c.in_ok-command.ensures.names) is (c.run_account_by_input.ensures.runs path_of reads)
 
 pub returns-in-Some-AccountByInput-clause-account_by_input_exact : goal.returns-in-Some-AccountByInput-clause-account_by_input_exact
 returns-in-Some-AccountByInput-clause-account_by_input_exact g c address is path_of reads =
     by_input_at
     (λ x. IfSome (g.J.Keeper.observed c.args.keeper.now).octets (λ octets. IsExactByInput (λ kept. account_refusal path_of kept x) octets (status_of c.run_account_by_input.result)))
-    c.args.words.now c.in-Some-AccountByInput.address address (rw c.in-Some-AccountByInput.is at c.in_ok-command.ensures.names) is (c.run_account_by_input.ensures.exact path_of reads)
+    c.args.words.now c.in-Some-AccountByInput.address address (rw (c.in-Some-AccountByInput.is, c.in-Some-AccountByInput.field-0-is) at c.in_ok-command.ensures.names) is (c.run_account_by_input.ensures.exact path_of reads)
 
 pub returns-in-Some-AccountByInput-clause-untouched : goal.returns-in-Some-AccountByInput-clause-untouched
 returns-in-Some-AccountByInput-clause-untouched g c never =
-    absurd (never (inr (c.in-Some-AccountByInput.address, rw c.in-Some-AccountByInput.is at c.in_ok-command.ensures.names)))
+    absurd (never (inr (c.in-Some-AccountByInput.address, rw (c.in-Some-AccountByInput.is, c.in-Some-AccountByInput.field-0-is) at c.in_ok-command.ensures.names)))
+
+pub returns-in-Some-AccountByInput-clause-journal : goal.returns-in-Some-AccountByInput-clause-journal
+returns-in-Some-AccountByInput-clause-journal g c opens =
+    absurd (by_input_opens c.args.words.now c.in-Some-AccountByInput.address (rw (c.in-Some-AccountByInput.is, c.in-Some-AccountByInput.field-0-is) at c.in_ok-command.ensures.names) opens)
 
 pub returns-in-Some-AccountByInput-clause-statuses : goal.returns-in-Some-AccountByInput-clause-statuses
 returns-in-Some-AccountByInput-clause-statuses g c =
     by_input_words _ _ c.args.words.now c.in-Some-AccountByInput.address _ _ _ _ _
-    (rw c.in-Some-AccountByInput.is at c.in_ok-command.ensures.names) (c.run_account_by_input.ensures.runs oracles_given.0.path_of oracles_given.1.paths)
+    (rw (c.in-Some-AccountByInput.is, c.in-Some-AccountByInput.field-0-is) at c.in_ok-command.ensures.names) (c.run_account_by_input.ensures.runs oracles_given.0.path_of oracles_given.1.paths)
 
 pub returns-in-Some-Domain-clause-domain : goal.returns-in-Some-Domain-clause-domain
 returns-in-Some-Domain-clause-domain g c name is =
@@ -230,7 +234,7 @@ returns-in-Some-Session-clause-statuses g c =
 pub returns-in-Some-Account-clause-statuses : goal.returns-in-Some-Account-clause-statuses
 returns-in-Some-Account-clause-statuses g c =
     account_words _ _ c.args.words.now c.in-Some-Account.address c.in-Some-Account.password _ _ _ _ _
-    (rw c.in-Some-Account.is at c.in_ok-command.ensures.names) (c.run_account.ensures.runs oracles_given.0.path_of oracles_given.1.paths)
+    (rw (c.in-Some-Account.is, c.in-Some-Account.field-0-is) at c.in_ok-command.ensures.names) (c.run_account.ensures.runs oracles_given.0.path_of oracles_given.1.paths)
 
 pub returns-in-Some-Domain-clause-statuses : goal.returns-in-Some-Domain-clause-statuses
 returns-in-Some-Domain-clause-statuses g c =
