@@ -1,5 +1,5 @@
 -- The first line of what was taken, and the command that has it as a password.
-use Rattle.std.proofs.Common.{◌≡◌, ℕ, ◌<◌, ◌+◌, ◌≤◌, List, [], ◌∷◌, ◌++◌, length, take, Bool, true, false, not, Option, Some, None, Result, Ok, Err, refl, sym, ap, ◌∙◌, inl, inr, arith, append-nil, append_assoc, length-append, Bor}
+use Rattle.std.proofs.Common.{◌≡◌, ℕ, ◌<◌, ◌+◌, ◌≤◌, List, [], ◌∷◌, ◌++◌, length, take, true, not, Option, Some, None, Result, Ok, Err, refl, sym, ap, ◌∙◌, inl, inr, arith, append-nil, append_assoc, length-append, Bor}
 use Rattle.std.specs.Prelude.{◌⊎◌, IfSome, IfOk, MatchOption, ◌==◌}
 use Rattle.std.specs.Option.{unwrap_or}
 use Rattle.std.specs.Io.KnownBytes.{Consumes, IsAtEnd}
@@ -7,7 +7,6 @@ use Rattle.std.proofs.lemmas.Bool.{cases_lt}
 use Rattle.encoded_words.specs.private.Parts.{lacks}
 use Rattle.encoded_words.proofs.Cuts.{rest_lacks}
 use Rattle.journal_records.specs.declared.records.Record.{Record}
-use Rattle.journal_records.specs.declared.limits.TheConstants.{TEXT_MAX}
 use Rattle.kept_mail.specs.Kept.{Kept}
 use Rattle.mail_store.proofs.ChangeLemmas.{and_left}
 use Rattle.mail_store.specs.declared.changing.StoreFault.{StoreFault}
@@ -18,13 +17,13 @@ use Rattle.mail_wire.specs.declared.outside.Fault.{Fault}
 use Rattle.mail_wire.specs.declared.outside.Fault.TheVariants as fault
 use Rattle.mail_wire.specs.declared.traffic.TheConstants.{PIECE}
 use Rattle.mail_wire.proofs.Moving.{Rose-earlier}
-use Rattle.setup_command.specs.AddingRuns.{IsExactAdding, RunsAdding}
-use Rattle.setup_command.specs.Running.{HasStatusCause, IsBrokenOff, IsExactJournal}
+use Rattle.setup_command.specs.AddingRuns.{RunsAdding}
+use Rattle.setup_command.specs.Running.{HasStatusCause}
 use Rattle.setup_command.specs.Statuses.{status_of}
 use Rattle.setup_command.proofs.AddingLemmas.{broken_answer, exact_adding, exact_journal}
-use Rattle.mail_command.specs.Passwords.{IsExactByInput, IsFirstLine, OfLf, OfCrlf, OfEnd, IsPassword, RunsByInput, OfPassword, OfNone, OfLong, Untaken, TakesFirstLine, TakesUpToLine, TakesLongLine, line_max}
+use Rattle.mail_command.specs.Passwords.{IsExactByInput, IsFirstLine, OfLf, OfCrlf, OfEnd, IsPassword, RunsByInput, OfPassword, OfNone, OfLong, Untaken, TakesFirstLine, TakesUpToLine, line_max}
 use Rattle.mail_command.specs.Running.{RefusesWords, Told, BrokenOff}
-use Rattle.mail_command.specs.Taking.{Takes, TakesSome}
+use Rattle.mail_command.specs.Taking.{Takes}
 use Rattle.mail_command.proofs.TakingLemmas.{Takes-piece, Takes-few}
 
 -- ---- octets without an octet

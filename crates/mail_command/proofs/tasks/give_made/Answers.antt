@@ -2,7 +2,7 @@ use Rattle.surrogate_rope.specs.Ropes.{octets_of}
 use Rattle.surrogate_rope.proofs.SurrogateBlocks.{rope_surrogate}
 use Rattle.mail_command.specs.declared.tasks.Task.TheVariants.{Downgrade, Check}
 use Rattle.mail_command.specs.Outcome.{IsGivenBy}
-use Rattle.mail_command.proofs.GivingLemmas.{begins_one, gives_one}
+use Rattle.mail_command.proofs.GivingLemmas.{begins_one}
 use Rattle.mail_command.proofs.tasks.give_made.Goals as goal
 
 pub returns-in-Downgrade-clause-begun : goal.returns-in-Downgrade-clause-begun

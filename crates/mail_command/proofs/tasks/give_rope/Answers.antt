@@ -1,4 +1,4 @@
-use Rattle.std.proofs.Common.{◌≡◌, arith, length}
+use Rattle.std.proofs.Common.{arith}
 use Rattle.surrogate_rope.specs.Ropes.{octets_of}
 use Rattle.surrogate_rope.proofs.RopeSizes.{rope_size}
 use Rattle.mail_command.proofs.GivingLemmas.{gives_whole}
