@@ -24,27 +24,27 @@ ENDED = octets_of([BYE, DONE])
 
 
 def of_a_full_journal(program, tally):
-    """A journal without room for a change has a prefix of its record, which the next session cuts off."""
+    """A journal without room for a change stays as it was, and the next session makes the change."""
     record = flags(0, DELETED)
     stores = SELECTS + sent("a STORE 1 +FLAGS \\Deleted") + ENDS
     told = octets_of(["* 1 FETCH (FLAGS (\\Deleted))", DONE]) + ENDED
     for room in (0, 1, 4, len(record) - 1):
         found = run_whole(program, CAFE_BAR, stores, IMAP, preexec=little_room(len(CAFE_BAR) + room))
-        tally.note(f"IMAP: a journal with room for {room} octets", answer_faults(found, (2, IS_SELECTED, CAFE_BAR + record[:room])))
+        tally.note(f"IMAP: a journal with room for {room} octets", answer_faults(found, (2, IS_SELECTED, CAFE_BAR)))
         again = run_whole(program, found[2], stores, IMAP)
         tally.note(f"IMAP: the session behind it, {room}", answer_faults(again, (0, IS_SELECTED + told, CAFE_BAR + record)))
 
 
 def of_full_appends(program, tally):
-    """A journal without room for a message has a prefix of its record, which the next session cuts off; APPEND isn't answered."""
+    """A journal without room for a message stays as it was; APPEND isn't answered, and that of the next session is."""
     data = b"A: b\r\n\r\nx\r\n"
     appends, record = LOGS_IN + f"a APPEND INBOX {{{len(data)}}}\r\n".encode() + data + b"\r\n" + ENDS, message(0, data)
     heard = octets_of([READY, DONE, GO])
     for room in (0, 1, 4, 20, len(record) - 1):
         moments = Moments(ANN, 0, (IN_RECORD,))
         status, given, after = run_whole(program, ANN, appends, IMAP, preexec=little_room(len(ANN) + room))
-        faults = differs("status", status, 2) + differs("replies", given, heard) + differs("size of the journal", len(after), len(ANN) + room)
-        tally.note(f"IMAP: APPEND to a journal with room for {room} octets", faults + differs("its old octets", after[: len(ANN)], ANN))
+        faults = differs("status", status, 2) + differs("replies", given, heard) + differs("journal", after, ANN)
+        tally.note(f"IMAP: APPEND to a journal with room for {room} octets", faults)
         status, given, again = run_whole(program, after, appends, IMAP)
         wanted = 0, heard + octets_of([DONE]) + ENDED, ANN + record
         tally.note(f"IMAP: the session behind APPEND, {room}", answer_faults((status, given, moments.seen(again)), wanted))

@@ -50,13 +50,13 @@ class Talk:
             pass
 
     def wait(self, count):
-        """What was heard, once it has so many octets, or the program ended, or it took too long."""
+        """What was heard, but for what standard error says of a cut, once it has so many octets, or the program ended, or it took too long."""
         with self.changed:
             is_there = self.changed.wait_for(lambda: len(self.heard) >= count or self.is_over, timeout=self.program.patience)
             if not is_there:
                 # one that is late once may be late always, and there are thousands of replies
                 self.program.patience = 0.2
-            return bytes(self.heard)
+            return CUT.sub(b"", bytes(self.heard))
 
     def end(self):
         """Ends the input. Status, what was heard, but for what standard error says of a cut, and the journal then."""
