@@ -1,6 +1,8 @@
 """Writes journals: the file that `dervlask pop` serves. `tools/write_journal` is the command over it."""
 
+# what a journal of version 1 begins with, and one of version 2
 FIRST_OCTETS = b"MAILJNL1"
+SECOND_OCTETS = b"MAILJNL2"
 DATE = b"01-Jan-1970 00:00:00 +0000"
 
 
@@ -51,6 +53,21 @@ def queue(path, addresses, octets):
 def settle(entry, place):
     """One of an entry's addresses, counted from 0, doesn't wait any more."""
     return record(8, number(entry), number(place))
+
+
+def marked_message(folder_number, octets, mark, flags=0, date=DATE):
+    """A message in a folder, in version 2: its mark is 1 where a header block is high, and 2 where any octet is, or both."""
+    return record(9, number(folder_number), bytes([flags, mark]), text(date), text(octets))
+
+
+def marked_queue(path, addresses, octets, mark):
+    """A message to these addresses, in version 2."""
+    return record(10, text(path), number(len(addresses)), *map(text, addresses), bytes([mark]), text(octets))
+
+
+def version():
+    """Version 2 begins here, in a journal of version 1."""
+    return record(11)
 
 
 def journal(*records):

@@ -8,3 +8,4 @@ pub mod WritingLemmas
 pub mod AddressLemmas
 pub mod AddressTexts
 pub mod KeyLemmas
+pub mod MarkLemmas

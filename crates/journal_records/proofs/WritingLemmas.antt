@@ -1,6 +1,7 @@
 -- Texts put last, one after the other.
-use Rattle.std.proofs.Common.{◌≡◌, ℕ, ◌+◌, ◌<◌, ◌≤◌, List, [], ◌∷◌, ◌++◌, length, subst, min, take, drop, get_or, Result, Ok, Err, arith, sym, ap, ◌∙◌, append_assoc, append-nil, length-append}
+use Rattle.std.proofs.Common.{◌≡◌, ℕ, ◌+◌, ◌<◌, ◌≤◌, List, [], ◌∷◌, ◌++◌, length, subst, min, take, drop, get_or, Option, Some, None, Result, Ok, Err, arith, refl, sym, ap, ◌∙◌, append_assoc, append-nil, length-append}
 use Rattle.std.specs.List.{flat_map}
+use Rattle.std.specs.Option.{option_to_list}
 use Rattle.std.proofs.Math.Seq.{take-append-add, take-append_seam}
 use Rattle.std.proofs.lemmas.Grind.{flat_map-append}
 use Rattle.std.proofs.lemmas.List.Folds.{length-flat_map-take}
@@ -9,6 +10,7 @@ use Rattle.mail_wire.specs.declared.values.Memory.{Memory}
 use Rattle.journal_records.specs.declared.records.Record.TheVariants as records
 use Rattle.journal_records.specs.Spelling.{number, octet_list, fields_of}
 use Rattle.journal_records.specs.Writing.{PutsText}
+use Rattle.journal_records.specs.private.Heads.{message_head, queue_head, queue_kind}
 
 -- a first part of the text was put last
 abbrev pub PutsFirst : List ℕ → List ℕ → List ℕ → Type 0
@@ -61,24 +63,64 @@ next_within lists list i within is =
     let same : length (octet_list (get_or lists i list)) ≡ 4 + length list = ap (λ l. length (octet_list l)) (sym is) ∙ omega arith in
     omega (arith, sum, same)
 
--- a waiting message: what stands before its addresses, the addresses and what follows them
-pub queue_text : (path : List ℕ) (count : ℕ) (rest : List ℕ) → (7 ∷ (octet_list path ++ number count)) ++ rest ≡ 7 ∷ (octet_list path ++ (number count ++ rest))
-queue_text path count rest = ap (λ l. 7 ∷ l) (append_assoc (octet_list path) (number count) rest)
+-- a message: what stands before its date, and its date and its octets
+message_head_then : (folder flags : ℕ) (mark : Option ℕ) (date octets : List ℕ)
+    → message_head folder flags mark ++ (octet_list date ++ octet_list octets) ≡ fields_of (records.Message folder flags mark date octets)
+message_head_then folder flags None date octets = ap (λ l. 4 ∷ l) (append_assoc (number folder) (flags ∷ []) (octet_list date ++ octet_list octets))
+message_head_then folder flags (Some mark) date octets = ap (λ l. 9 ∷ l) (append_assoc (number folder) (flags ∷ mark ∷ []) (octet_list date ++ octet_list octets))
 
 -- a message: what stands before its octets, and they
-pub message_after : (folder flags : ℕ) (date octets : List ℕ)
-    → (4 ∷ (number folder ++ flags ∷ (octet_list date ++ number (length octets)))) ++ octets ≡ fields_of (records.Message folder flags date octets)
-message_after folder flags date octets =
-    ap (λ l. 4 ∷ l) (append_assoc (number folder) (flags ∷ (octet_list date ++ number (length octets))) octets
-    ∙ ap (λ l. number folder ++ flags ∷ l) (append_assoc (octet_list date) (number (length octets)) octets))
+pub message_after : (folder flags : ℕ) (mark : Option ℕ) (date octets : List ℕ)
+    → (message_head folder flags mark ++ (octet_list date ++ number (length octets))) ++ octets ≡ fields_of (records.Message folder flags mark date octets)
+message_after folder flags mark date octets =
+    append_assoc (message_head folder flags mark) (octet_list date ++ number (length octets)) octets
+    ∙ ap (λ l. message_head folder flags mark ++ l) (append_assoc (octet_list date) (number (length octets)) octets) ∙ message_head_then folder flags mark date octets
 
--- a waiting message: what stands before its octets, and they
-pub queue_following : (path : List ℕ) (addresses : List (List ℕ)) (octets : List ℕ)
-    → (7 ∷ (octet_list path ++ (number (length addresses) ++ (flat_map octet_list addresses ++ number (length octets))))) ++ octets
-    ≡ fields_of (records.Queue path addresses octets)
-queue_following path addresses octets =
+-- a waiting message: what stands before its octets, part by part
+queue_head_then : (path : List ℕ) (addresses : List (List ℕ)) (mark : Option ℕ) (rest : List ℕ)
+    → queue_head path addresses mark ++ rest
+    ≡ queue_kind mark ∷ (octet_list path ++ (number (length addresses) ++ (flat_map octet_list addresses ++ (option_to_list mark ++ rest))))
+queue_head_then path addresses mark rest =
     let count = number (length addresses) in
     let lists = flat_map octet_list addresses in
-    let len = number (length octets) in
-    ap (λ l. 7 ∷ l) (append_assoc (octet_list path) (count ++ (lists ++ len)) octets
-    ∙ ap (λ l. octet_list path ++ l) (append_assoc count (lists ++ len) octets ∙ ap (λ l. count ++ l) (append_assoc lists len octets)))
+    let own = option_to_list mark in
+    ap (λ l. queue_kind mark ∷ l) (append_assoc (octet_list path) (count ++ (lists ++ own)) rest
+    ∙ ap (λ l. octet_list path ++ l) (append_assoc count (lists ++ own) rest ∙ ap (λ l. count ++ l) (append_assoc lists own rest)))
+
+-- a waiting message: what stands before its addresses, they, and what follows them
+pub queue_text : (path : List ℕ) (addresses : List (List ℕ)) (mark : Option ℕ) (rest : List ℕ)
+    → (queue_kind mark ∷ (octet_list path ++ number (length addresses))) ++ (flat_map octet_list addresses ++ (option_to_list mark ++ rest))
+    ≡ queue_head path addresses mark ++ rest
+queue_text path addresses mark rest =
+    ap (λ l. queue_kind mark ∷ l) (append_assoc (octet_list path) (number (length addresses)) (flat_map octet_list addresses ++ (option_to_list mark ++ rest)))
+    ∙ sym (queue_head_then path addresses mark rest)
+
+queue_spelled : (path : List ℕ) (addresses : List (List ℕ)) (mark : Option ℕ) (octets : List ℕ)
+    → queue_kind mark ∷ (octet_list path ++ (number (length addresses) ++ (flat_map octet_list addresses ++ (option_to_list mark ++ octet_list octets))))
+    ≡ fields_of (records.Queue path addresses mark octets)
+queue_spelled path addresses None octets = refl
+queue_spelled path addresses (Some mark) octets = refl
+
+-- a waiting message: what stands before its octets, and they
+pub queue_following : (path : List ℕ) (addresses : List (List ℕ)) (mark : Option ℕ) (octets : List ℕ)
+    → (queue_head path addresses mark ++ number (length octets)) ++ octets ≡ fields_of (records.Queue path addresses mark octets)
+queue_following path addresses mark octets =
+    append_assoc (queue_head path addresses mark) (number (length octets)) octets
+    ∙ queue_head_then path addresses mark (octet_list octets) ∙ queue_spelled path addresses mark octets
+
+-- how many octets the kind and the fields of a message have
+pub message_size : (folder flags : ℕ) (mark : Option ℕ) (date octets : List ℕ)
+    → length (fields_of (records.Message folder flags mark date octets)) ≡ 14 + length (option_to_list mark) + length date + length octets
+message_size folder flags None date octets = omega (arith, length-append (octet_list date) (octet_list octets), length-append (number (length date)) date, length-append (number (length octets)) octets)
+message_size folder flags (Some mark) date octets =
+    omega (arith, length-append (octet_list date) (octet_list octets), length-append (number (length date)) date, length-append (number (length octets)) octets)
+
+-- how many those of a waiting message have
+pub queue_size : (path : List ℕ) (addresses : List (List ℕ)) (mark : Option ℕ) (octets : List ℕ)
+    → length (fields_of (records.Queue path addresses mark octets)) ≡ 13 + length path + length (flat_map octet_list addresses) + length (option_to_list mark) + length octets
+queue_size path addresses None octets =
+    let lists = flat_map octet_list addresses in
+    omega (arith, length-append (octet_list path) (number (length addresses) ++ (lists ++ octet_list octets)), length-append lists (octet_list octets))
+queue_size path addresses (Some mark) octets =
+    let lists = flat_map octet_list addresses in
+    omega (arith, length-append (octet_list path) (number (length addresses) ++ (lists ++ mark ∷ octet_list octets)), length-append lists (mark ∷ octet_list octets))

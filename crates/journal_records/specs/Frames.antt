@@ -3,6 +3,7 @@ use Rattle.std.specs.Prelude.{◌≡◌, ◌≢◌, ◌⊎◌, ℕ, ◌+◌, ◌
 use Rattle.journal_records.specs.declared.limits.TheConstants.{RECORD_MAX}
 use Rattle.journal_records.specs.declared.frames.Frame.{Frame}
 use Rattle.journal_records.specs.declared.frames.Frame.TheVariants as frames
+use Rattle.journal_records.specs.declared.versions.Version.{Version}
 use Rattle.journal_records.specs.declared.frames.Beginning.{Beginning}
 use Rattle.journal_records.specs.declared.frames.Beginning.TheVariants as beginnings
 use Rattle.journal_records.specs.Spelling.{number, octet_list, first_octets}
@@ -44,16 +45,17 @@ FitsIn (frames.Whole n) left = (0 < n) × (n ≤ RECORD_MAX) × (4 + n ≤ left)
 -- fewer octets than a journal begins with, and all of them such
 pub record IsBeginning (octets : List ℕ) : Type 0 where
   pub shorter : length octets < 8
-  pub same : octets ≡ take (length octets) first_octets
+  pub version : Version
+  pub same : octets ≡ take (length octets) (first_octets version)
 
--- How octets begin: with fewer than a journal begins with, all of them such; with a journal's first octets; or otherwise.
+-- How octets begin: with fewer than a journal begins with, all of them such; with the first octets of a journal of a version; or otherwise.
 abbrev pub IsBeginningOf : Beginning → List ℕ → Type 0
 IsBeginningOf beginnings.Prefix octets = IsBeginning octets
-IsBeginningOf beginnings.Journal octets = octets ≡ first_octets ++ drop 8 octets
-IsBeginningOf beginnings.Other octets = (IsBeginning octets → ⊥) × ((rest : List ℕ) → octets ≢ first_octets ++ rest)
+IsBeginningOf (beginnings.Journal version) octets = octets ≡ first_octets version ++ drop 8 octets
+IsBeginningOf beginnings.Other octets = (IsBeginning octets → ⊥) × ((version : Version) (rest : List ℕ) → octets ≢ first_octets version ++ rest)
 
 -- only a journal has eight octets or more
 abbrev pub IsLong : Beginning → ℕ → Type 0
 IsLong beginnings.Prefix len = Unit {0}
-IsLong beginnings.Journal len = 8 ≤ len
+IsLong (beginnings.Journal version) len = 8 ≤ len
 IsLong beginnings.Other len = Unit {0}

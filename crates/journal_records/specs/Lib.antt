@@ -3,6 +3,7 @@ pub mod Addresses
 pub mod Grammar
 pub mod Stored
 pub mod Spelling
+pub mod Versions
 pub mod Writing
 pub mod Frames
 pub mod private

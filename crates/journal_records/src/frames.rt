@@ -3,9 +3,13 @@ ghost use Rattle.std.specs.Prelude.{◌≡◌, ◌≤◌, ℕ, List, length, tak
 ghost use Rattle.journal_records.specs.Frames.{IsFrame, FitsIn, IsBeginningOf, IsLong};
 
 use crate::limits::RECORD_MAX;
+use crate::versions::Version;
 
-/// What a journal begins with.
-pub const FIRST_OCTETS: [u8; 8] = *b"MAILJNL1";
+/// What a journal of version 2 begins with.
+pub const FIRST_OCTETS: [u8; 8] = *b"MAILJNL2";
+
+// What one of version 1 begins with.
+const FIRST_OCTETS_OF_ONE: [u8; 8] = *b"MAILJNL1";
 
 /// What octets begin with.
 #[derive(Clone, Copy, Debug, PartialEq, Eq)]
@@ -23,8 +27,8 @@ pub enum Frame {
 pub enum Beginning {
     /// Fewer octets than a journal begins with.
     Prefix,
-    /// Those of a journal.
-    Journal,
+    /// Those of a journal that begins in this version.
+    Journal(Version),
     Other,
 }
 
@@ -57,7 +61,9 @@ pub fn beginning_of(front: &[u8]) -> Beginning
             Beginning::Other
         }
     } else if front == FIRST_OCTETS.as_slice() {
-        Beginning::Journal
+        Beginning::Journal(Version::Two)
+    } else if front == FIRST_OCTETS_OF_ONE.as_slice() {
+        Beginning::Journal(Version::One)
     } else {
         Beginning::Other
     }

@@ -9,6 +9,7 @@ mod limits;
 mod reading;
 mod records;
 mod stored;
+mod versions;
 mod writing;
 
 pub use addresses::{
@@ -20,7 +21,8 @@ pub use grammar::{is_date, is_folder_name, kept_name, may_name_folder};
 pub use limits::{NAME_MAX, RECORD_MAX, TEXT_MAX};
 pub use reading::{ReadFault, read_record};
 pub use records::{Record, Texts};
-pub use stored::is_stored;
+pub use stored::{StoredOctets, is_stored, mark_in, mark_of};
+pub use versions::{Version, is_of_version, version_after};
 pub use writing::{
     account_text, domain_text, expunge_text, flags_text, folder_text, message_front, push_record,
     queue_front, record_text,

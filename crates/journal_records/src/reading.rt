@@ -3,7 +3,7 @@ ghost use Rattle.std.specs.Prelude.{◌≡◌, ◌≢◌, IfOk, Err};
 ghost use Rattle.journal_records.specs.declared.reading.ReadFault.TheVariants.{Memory};
 ghost use Rattle.journal_records.specs.declared.records.Record.{Record as RecordValue};
 ghost use Rattle.journal_records.specs.Spelling.{Fits, fields_of};
-ghost use Rattle.journal_records.specs.private.Reading.{ReadsInto, number_at, octet_at, list_at, lists_at, ended_fields, account_at, domain_at, folder_at, message_at, flags_at, expunge_at, queue_at, settle_at, kind_at, record_at};
+ghost use Rattle.journal_records.specs.private.Reading.{ReadsInto, number_at, octet_at, list_at, lists_at, ended_fields, account_at, domain_at, folder_at, message_at, marked_message_at, flags_at, expunge_at, queue_at, marked_queue_at, settle_at, kind_at, record_at};
 
 use crate::records::{Record, Texts};
 use mail_wire::{Memory as OutOfMemory, Octets};
@@ -136,6 +136,28 @@ fn message_of(alloc: Global, octets: &[u8]) -> Result<Record, ReadFault>
         Record::Message {
             folder,
             flags,
+            mark: None,
+            date,
+            octets,
+        },
+        rest,
+    )
+}
+
+#[tactic(auto, unfolding(crate::specs::private::Reading::marked_message_at))]
+fn marked_message_of(alloc: Global, octets: &[u8]) -> Result<Record, ReadFault>
+    ensures { ReadsInto (λ x. x) result (marked_message_at octets.now) }
+{
+    let (folder, rest) = number_of(octets)?;
+    let (flags, rest) = octet_of(rest)?;
+    let (mark, rest) = octet_of(rest)?;
+    let (date, rest) = list_of(alloc, rest)?;
+    let (octets, rest) = list_of(alloc, rest)?;
+    ended(
+        Record::Message {
+            folder,
+            flags,
+            mark: Some(mark),
             date,
             octets,
         },
@@ -172,6 +194,27 @@ fn queue_of(alloc: Global, octets: &[u8]) -> Result<Record, ReadFault>
         Record::Queue {
             path,
             addresses,
+            mark: None,
+            octets,
+        },
+        rest,
+    )
+}
+
+#[tactic(auto, unfolding(crate::specs::private::Reading::marked_queue_at))]
+fn marked_queue_of(alloc: Global, octets: &[u8]) -> Result<Record, ReadFault>
+    ensures { ReadsInto (λ x. x) result (marked_queue_at octets.now) }
+{
+    let (path, rest) = list_of(alloc, octets)?;
+    let (count, rest) = number_of(rest)?;
+    let (addresses, rest) = lists_of(alloc, count, rest)?;
+    let (mark, rest) = octet_of(rest)?;
+    let (octets, rest) = list_of(alloc, rest)?;
+    ended(
+        Record::Queue {
+            path,
+            addresses,
+            mark: Some(mark),
             octets,
         },
         rest,
@@ -200,6 +243,9 @@ fn kind_of(alloc: Global, kind: u8, octets: &[u8]) -> Result<Record, ReadFault>
         6 => expunge_of(octets),
         7 => queue_of(alloc, octets),
         8 => settle_of(octets),
+        9 => marked_message_of(alloc, octets),
+        10 => marked_queue_of(alloc, octets),
+        11 => ended(Record::Version, octets),
         _ => Err(ReadFault::NoRecord),
     }
 }

@@ -20,9 +20,11 @@ pub enum Record {
         account: u32,
         name: Octets,
     },
+    /// A message, with the mark of its octets where the record has one.
     Message {
         folder: u32,
         flags: u8,
+        mark: Option<u8>,
         date: Octets,
         octets: Octets,
     },
@@ -35,10 +37,11 @@ pub enum Record {
     Expunge {
         message: u32,
     },
-    /// A message waits for these recipients. An empty path is the null path.
+    /// A message waits for these recipients. An empty path is the null path. The mark, where the record has one, is that of the octets.
     Queue {
         path: Octets,
         addresses: Texts,
+        mark: Option<u8>,
         octets: Octets,
     },
     /// A recipient of the queue is done with.
@@ -46,4 +49,6 @@ pub enum Record {
         entry: u32,
         index: u32,
     },
+    /// The journal has version 2 from now on.
+    Version,
 }

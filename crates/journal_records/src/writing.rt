@@ -1,12 +1,14 @@
 //! Records written as octets.
-ghost use Rattle.std.specs.Prelude.{◌≡◌, ◌+◌, ◌∷◌, ◌++◌, ◌<◌, ◌≤◌, ◌^◌, IfOk, length, map};
+ghost use Rattle.std.specs.Prelude.{◌≡◌, ◌+◌, ◌∷◌, ◌++◌, ◌<◌, ◌≤◌, ◌^◌, IfOk, Some, length, map};
 ghost use Rattle.std.specs.List.{flat_map, AllByRecursion};
+ghost use Rattle.std.specs.Option.{option_to_list};
 ghost use Rattle.address_grammar.specs.Addresses.{address_text};
 ghost use Rattle.journal_records.specs.declared.limits.TheConstants.{RECORD_MAX, TEXT_MAX};
 ghost use Rattle.journal_records.specs.declared.records.Record.TheVariants as records;
 ghost use Rattle.journal_records.specs.Addresses.{IsSendable};
 ghost use Rattle.journal_records.specs.Spelling.{number as number_octets, octet_list, fields_of, record_text, HasLength, Fits, IsWritableRecord};
 ghost use Rattle.journal_records.specs.Writing.{PutsText};
+ghost use Rattle.journal_records.specs.private.Heads.{message_head, queue_head, queue_kind};
 
 use crate::records::Record;
 use address_grammar::{Address, write_address};
@@ -66,20 +68,30 @@ fn lists_len(lists: &[Octets]) -> usize
     len
 }
 
-// How many octets the kind and the fields of a message have.
-fn message_len(date: &[u8], octets: &[u8]) -> usize
-    requires { length date.now + length octets.now + 14 ≤ RECORD_MAX }
-    ensures { result ≡ 14 + length date.now + length octets.now }
+// How many octets a mark takes.
+fn mark_len(mark: Option<u8>) -> usize
+    ensures { result ≡ length (option_to_list mark) }
 {
-    14 + date.len() + octets.len()
+    match mark {
+        Some(_) => 1,
+        None => 0,
+    }
+}
+
+// How many octets the kind and the fields of a message have.
+fn message_len(mark: Option<u8>, date: &[u8], octets: &[u8]) -> usize
+    requires { length (option_to_list mark) + length date.now + length octets.now + 14 ≤ RECORD_MAX }
+    ensures { result ≡ 14 + length (option_to_list mark) + length date.now + length octets.now }
+{
+    14 + mark_len(mark) + date.len() + octets.len()
 }
 
 // How many octets the kind and the fields of a waiting message have.
-fn queue_len(path: &[u8], addresses: &[Octets], octets: &[u8]) -> usize
-    requires { length (fields_of (records.Queue path.now addresses.now octets.now)) ≤ RECORD_MAX }
-    ensures { result ≡ length (fields_of (records.Queue path.now addresses.now octets.now)) }
+fn queue_len(path: &[u8], addresses: &[Octets], mark: Option<u8>, octets: &[u8]) -> usize
+    requires { length (fields_of (records.Queue path.now addresses.now mark octets.now)) ≤ RECORD_MAX }
+    ensures { result ≡ length (fields_of (records.Queue path.now addresses.now mark octets.now)) }
 {
-    13 + path.len() + lists_len(addresses) + octets.len()
+    13 + path.len() + lists_len(addresses) + mark_len(mark) + octets.len()
 }
 
 // How many octets the kind and the fields of a record have.
@@ -92,15 +104,27 @@ fn fields_len(one: &Record) -> usize
         Record::Account { address, password } => 9 + address.len() + password.len(),
         Record::Domain { name } => 5 + name.len(),
         Record::Folder { name, .. } => 9 + name.len(),
-        Record::Message { date, octets, .. } => message_len(date.as_slice(), octets.as_slice()),
+        Record::Message {
+            mark,
+            date,
+            octets,
+            ..
+        } => message_len(*mark, date.as_slice(), octets.as_slice()),
         Record::Flags { .. } => 6,
         Record::Expunge { .. } => 5,
         Record::Queue {
             path,
             addresses,
+            mark,
             octets,
-        } => queue_len(path.as_slice(), addresses.as_slice(), octets.as_slice()),
+        } => queue_len(
+            path.as_slice(),
+            addresses.as_slice(),
+            *mark,
+            octets.as_slice(),
+        ),
         Record::Settle { .. } => 9,
+        Record::Version => 1,
     }
 }
 
@@ -131,54 +155,80 @@ fn push_folder(journal: &mut Octets, account: u32, name: &[u8]) -> Result<(), Me
     )
 }
 
+// The kind of a message, and what stands before its date.
+fn push_message_head(
+    journal: &mut Octets,
+    folder: u32,
+    flags: u8,
+    mark: Option<u8>,
+) -> Result<(), Memory>
+    ensures { PutsText journal.old journal.new result (message_head folder flags mark) }
+{
+    match mark {
+        None => push_parts(journal, &[&[4], &folder.to_be_bytes(), &[flags]]),
+        Some(mark) => push_parts(journal, &[&[9], &folder.to_be_bytes(), &[flags, mark]]),
+    }
+}
+
 // What stands before the octets of a message, which are so many.
 fn push_message_front(
     journal: &mut Octets,
     folder: u32,
     flags: u8,
+    mark: Option<u8>,
     date: &[u8],
     len: usize,
 ) -> Result<(), Memory>
     requires date { HasLength date.now }
     requires len { len < 2 ^ 32 }
-    ensures { PutsText journal.old journal.new result (4 ∷ (number_octets folder ++ flags ∷ (octet_list date.now ++ number_octets len))) }
+    ensures { PutsText journal.old journal.new result (message_head folder flags mark ++ (octet_list date.now ++ number_octets len)) }
 {
-    push_parts(
-        journal,
-        &[
-            &[4],
-            &folder.to_be_bytes(),
-            &[flags],
-            &number(date.len()),
-            date,
-            &number(len),
-        ],
-    )
+    push_message_head(journal, folder, flags, mark)?;
+    push_parts(journal, &[&number(date.len()), date, &number(len)])
 }
 
 fn push_message(
     journal: &mut Octets,
     folder: u32,
     flags: u8,
+    mark: Option<u8>,
     date: &[u8],
     octets: &[u8],
 ) -> Result<(), Memory>
     requires date { HasLength date.now }
     requires octets { HasLength octets.now }
-    ensures { PutsText journal.old journal.new result
-        (4 ∷ (number_octets folder ++ flags ∷ (octet_list date.now ++ octet_list octets.now))) }
+    ensures { PutsText journal.old journal.new result (fields_of (records.Message folder flags mark date.now octets.now)) }
 {
-    push_message_front(journal, folder, flags, date, octets.len())?;
+    push_message_front(journal, folder, flags, mark, date, octets.len())?;
     push_parts(journal, &[octets])
 }
 
-// What stands before the addresses of a waiting message.
-fn push_path(journal: &mut Octets, path: &[u8], count: usize) -> Result<(), Memory>
+// The kind of a waiting message, and what stands before its addresses.
+fn push_path(
+    journal: &mut Octets,
+    path: &[u8],
+    mark: Option<u8>,
+    count: usize,
+) -> Result<(), Memory>
     requires path { HasLength path.now }
     requires count { count < 2 ^ 32 }
-    ensures { PutsText journal.old journal.new result (7 ∷ (octet_list path.now ++ number_octets count)) }
+    ensures { PutsText journal.old journal.new result (queue_kind mark ∷ (octet_list path.now ++ number_octets count)) }
 {
-    push_parts(journal, &[&[7], &number(path.len()), path, &number(count)])
+    match mark {
+        None => push_parts(journal, &[&[7], &number(path.len()), path, &number(count)]),
+        Some(_) => push_parts(journal, &[&[10], &number(path.len()), path, &number(count)]),
+    }
+}
+
+// The mark, where there is one, and how many octets follow.
+fn push_mark(journal: &mut Octets, mark: Option<u8>, len: usize) -> Result<(), Memory>
+    requires { len < 2 ^ 32 }
+    ensures { PutsText journal.old journal.new result (option_to_list mark ++ number_octets len) }
+{
+    match mark {
+        None => push_number(journal, len),
+        Some(mark) => push_parts(journal, &[&[mark], &number(len)]),
+    }
 }
 
 // What stands before the octets of a waiting message, which are so many.
@@ -186,34 +236,34 @@ fn push_queue_front(
     journal: &mut Octets,
     path: &[u8],
     addresses: &[Octets],
+    mark: Option<u8>,
     len: usize,
 ) -> Result<(), Memory>
     requires path { HasLength path.now }
     requires count { length addresses.now < 2 ^ 32 }
     requires addresses { AllByRecursion HasLength addresses.now }
     requires len { len < 2 ^ 32 }
-    ensures { PutsText journal.old journal.new result
-        (7 ∷ (octet_list path.now ++ (number_octets (length addresses.now) ++ (flat_map octet_list addresses.now ++ number_octets len)))) }
+    ensures { PutsText journal.old journal.new result (queue_head path.now addresses.now mark ++ number_octets len) }
 {
-    push_path(journal, path, addresses.len())?;
+    push_path(journal, path, mark, addresses.len())?;
     push_lists(journal, addresses)?;
-    push_number(journal, len)
+    push_mark(journal, mark, len)
 }
 
 fn push_queue(
     journal: &mut Octets,
     path: &[u8],
     addresses: &[Octets],
+    mark: Option<u8>,
     octets: &[u8],
 ) -> Result<(), Memory>
     requires path { HasLength path.now }
     requires count { length addresses.now < 2 ^ 32 }
     requires addresses { AllByRecursion HasLength addresses.now }
     requires octets { HasLength octets.now }
-    ensures { PutsText journal.old journal.new result
-        (7 ∷ (octet_list path.now ++ (number_octets (length addresses.now) ++ (flat_map octet_list addresses.now ++ octet_list octets.now)))) }
+    ensures { PutsText journal.old journal.new result (fields_of (records.Queue path.now addresses.now mark octets.now)) }
 {
-    push_queue_front(journal, path, addresses, octets.len())?;
+    push_queue_front(journal, path, addresses, mark, octets.len())?;
     push_parts(journal, &[octets])
 }
 
@@ -233,9 +283,17 @@ fn push_fields(journal: &mut Octets, one: &Record) -> Result<(), Memory>
         Record::Message {
             folder,
             flags,
+            mark,
             date,
             octets,
-        } => push_message(journal, *folder, *flags, date.as_slice(), octets.as_slice()),
+        } => push_message(
+            journal,
+            *folder,
+            *flags,
+            *mark,
+            date.as_slice(),
+            octets.as_slice(),
+        ),
         Record::Flags { message, flags } => {
             push_parts(journal, &[&[5], &message.to_be_bytes(), &[*flags]])
         }
@@ -243,17 +301,20 @@ fn push_fields(journal: &mut Octets, one: &Record) -> Result<(), Memory>
         Record::Queue {
             path,
             addresses,
+            mark,
             octets,
         } => push_queue(
             journal,
             path.as_slice(),
             addresses.as_slice(),
+            *mark,
             octets.as_slice(),
         ),
         Record::Settle { entry, index } => push_parts(
             journal,
             &[&[8], &entry.to_be_bytes(), &index.to_be_bytes()],
         ),
+        Record::Version => push_parts(journal, &[&[11]]),
     }
 }
 
@@ -268,38 +329,40 @@ pub fn push_record(journal: &mut Octets, one: &Record) -> Result<(), Memory>
 }
 
 // How many octets stand there, where the date has 26: room that is made at once.
-const FRONT: usize = 44;
+const FRONT: usize = 45;
 
-/// What stands before the octets in the text of a record of a message.
+/// What stands before the octets in the text of a record of a message with a mark.
 pub fn message_front(
     alloc: Global,
     folder: u32,
     flags: u8,
+    mark: u8,
     date: &[u8],
     octets: &[u8],
 ) -> Result<Octets, Memory>
-    requires { length date.now + length octets.now + 14 ≤ RECORD_MAX }
-    ensures { IfOk result (λ front. front ++ octets.now ≡ record_text (records.Message folder flags date.now octets.now)) }
+    requires { length date.now + length octets.now + 15 ≤ RECORD_MAX }
+    ensures { IfOk result (λ front. front ++ octets.now ≡ record_text (records.Message folder flags (Some mark) date.now octets.now)) }
 {
     let mut front = Octets::from_vec(Vec::with_capacity(alloc, FRONT)?);
-    push_number(&mut front, message_len(date, octets))?;
-    push_message_front(&mut front, folder, flags, date, octets.len())?;
+    push_number(&mut front, message_len(Some(mark), date, octets))?;
+    push_message_front(&mut front, folder, flags, Some(mark), date, octets.len())?;
     Ok(front)
 }
 
-/// What stands before the octets in the text of a record of a waiting message.
+/// What stands before the octets in the text of a record of a waiting message with a mark.
 pub fn queue_front(
     alloc: Global,
     path: &[u8],
     addresses: &[Octets],
+    mark: u8,
     octets: &[u8],
 ) -> Result<Octets, Memory>
-    requires { IsWritableRecord (records.Queue path.now addresses.now octets.now) }
-    ensures { IfOk result (λ front. front ++ octets.now ≡ record_text (records.Queue path.now addresses.now octets.now)) }
+    requires { IsWritableRecord (records.Queue path.now addresses.now (Some mark) octets.now) }
+    ensures { IfOk result (λ front. front ++ octets.now ≡ record_text (records.Queue path.now addresses.now (Some mark) octets.now)) }
 {
     let mut front = Octets::new(alloc);
-    push_number(&mut front, queue_len(path, addresses, octets))?;
-    push_queue_front(&mut front, path, addresses, octets.len())?;
+    push_number(&mut front, queue_len(path, addresses, Some(mark), octets))?;
+    push_queue_front(&mut front, path, addresses, Some(mark), octets.len())?;
     Ok(front)
 }
 

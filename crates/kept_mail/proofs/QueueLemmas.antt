@@ -1,18 +1,13 @@
 -- Recipients of the queue who aren't settled.
-use Rattle.std.proofs.Common.{◌≡◌, ℕ, ◌+◌, ◌<◌, ◌≤◌, Bool, true, false, List, [], length, get_or, set, Option, Some, Result, Ok, Err, sym, ap, subst, ◌∙◌, inl, inr}
-use Rattle.std.specs.Prelude.{◌⊎◌, ◌↔◌, IfOk, IsTrue, slice_get}
-use Rattle.std.specs.List.{All}
+use Rattle.std.proofs.Common.{◌≡◌, ℕ, ◌+◌, ◌<◌, ◌≤◌, Bool, true, false, List, length, get_or, set, Option, Some, sym, ap, subst, ◌∙◌, inl, inr}
+use Rattle.std.specs.Prelude.{slice_get}
 use Rattle.std.proofs.lemmas.Bool.{cases_lt, ltb-false}
 use Rattle.std.proofs.lemmas.Option.{slice_get-get_or, slice_get_past}
-use Rattle.mail_wire.specs.declared.values.Memory.{Memory}
-use Rattle.journal_records.specs.declared.records.Record.TheVariants as records
-use Rattle.journal_records.specs.Addresses.{IsKeptAddress}
-use Rattle.journal_records.specs.Stored.{IsStored}
 use Rattle.kept_mail.specs.declared.limits.TheConstants.{THINGS_MAX}
 use Rattle.kept_mail.specs.declared.kept.Recipient.{Recipient}
 use Rattle.kept_mail.specs.declared.kept.Entry.{Entry}
-use Rattle.kept_mail.specs.Records.{are_too_many, IsInOrder, IsWaiting, IsUnsettled, recipient_count}
-use Rattle.kept_mail.specs.Kept.{Kept, change_at, without}
+use Rattle.kept_mail.specs.Records.{are_too_many, IsWaiting, IsUnsettled}
+use Rattle.kept_mail.specs.Kept.{change_at, without}
 use Rattle.kept_mail.proofs.Places.{set-change_at}
 
 waiting_within : (rs : List Recipient) (index : ℕ) → IsWaiting (slice_get rs index) → index < length rs
@@ -41,11 +36,3 @@ refutes e h = cc
 
 pub few_enough : (b : Bool) (count more : ℕ) → b ≡ are_too_many count more → b ≡ false → count + more ≤ THINGS_MAX
 few_enough b count more is e = ltb-false THINGS_MAX (count + more) (sym is ∙ e)
-
--- ---- the record of a message that waits
-
-pub waits : (result : Result Bool Memory) (kept : Kept) (path : List ℕ) (addresses : List (List ℕ)) (octets : List ℕ) → (path ≡ []) ⊎ IsKeptAddress path → All IsKeptAddress addresses
-    → length kept.entries < THINGS_MAX → recipient_count kept.entries + length addresses ≤ THINGS_MAX → IfOk result (λ is. IsTrue is ↔ IsStored octets)
-    → IfOk result (λ can. IsTrue can ↔ IsInOrder kept (records.Queue path addresses octets))
-waits (Ok is) kept path addresses octets is_path are room few stored = (λ t. (is_path, are, stored.0 t, room, few), λ h. stored.1 h.2)
-waits (Err memory) kept path addresses octets is_path are room few stored = tt

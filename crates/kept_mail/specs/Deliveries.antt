@@ -1,5 +1,5 @@
 -- The records of a delivery (RFC 5321, 4.4), and when they pass a limit.
-use Rattle.std.specs.Prelude.{ℕ, List, [], ◌∷◌, ◌++◌, length, map, Bool, ◌||◌, ◌&&◌, ◌==◌, not, nat_lt, unwrap_or, if◌then◌else◌}
+use Rattle.std.specs.Prelude.{ℕ, List, [], ◌∷◌, ◌++◌, length, map, Bool, ◌||◌, ◌&&◌, ◌==◌, not, nat_lt, Some, unwrap_or, if◌then◌else◌}
 use Rattle.address_grammar.specs.Addresses.{address_text}
 use Rattle.journal_records.specs.declared.records.Record.{Record}
 use Rattle.journal_records.specs.declared.records.Record.TheVariants as records
@@ -8,9 +8,9 @@ use Rattle.kept_mail.specs.declared.delivery.Delivery.{Delivery}
 use Rattle.kept_mail.specs.Kept.{Kept, inbox_of}
 use Rattle.kept_mail.specs.Records.{are_too_many, recipient_count}
 
--- a message without flags for a folder
-abbrev pub copy_for : List ℕ → List ℕ → ℕ → Record
-copy_for date octets folder = records.Message folder 0 date octets
+-- a message without flags for a folder, with its mark
+abbrev pub copy_for : List ℕ → ℕ → List ℕ → ℕ → Record
+copy_for date mark octets folder = records.Message folder 0 (Some mark) date octets
 
 -- The folders INBOX of these accounts.
 abbrev pub inboxes_of : Kept → List ℕ → List ℕ
@@ -20,11 +20,11 @@ inboxes_of kept accounts = map (λ account. unwrap_or (inbox_of kept account) 0)
 abbrev pub queued : Delivery → List Record
 queued delivery =
     if length delivery.remote == 0 then []
-    else records.Queue (path_text delivery.path) (map address_text delivery.remote) delivery.remote_octets ∷ []
+    else records.Queue (path_text delivery.path) (map address_text delivery.remote) (Some delivery.remote_mark) delivery.remote_octets ∷ []
 
 -- one message for the INBOX of each local account, in order, and then one for the queue
 abbrev pub delivered : Kept → Delivery → List Record
-delivered kept delivery = map (copy_for delivery.date delivery.local_octets) (inboxes_of kept delivery.local) ++ queued delivery
+delivered kept delivery = map (copy_for delivery.date delivery.local_mark delivery.local_octets) (inboxes_of kept delivery.local) ++ queued delivery
 
 -- octets that are to be kept are more than the limit
 abbrev pub has_large_octets : ℕ → Delivery → Bool

@@ -54,7 +54,7 @@ settled recipient = record recipient { waits = false }
 abbrev pub without : ℕ → Entry → Entry
 without index entry = record entry { recipients = change_at settled entry.recipients index }
 
--- what is kept after a record. An account brings its INBOX.
+-- what is kept after a record. An account brings its INBOX. Marks are of the octets, and change nothing; neither does a new version.
 abbrev pub after_record : Kept → Record → Kept
 after_record kept (records.Account address password) = record kept {
   accounts = kept.accounts ++ record { address = address; password = password } ∷ [];
@@ -62,15 +62,16 @@ after_record kept (records.Account address password) = record kept {
 }
 after_record kept (records.Domain name) = record kept { domains = kept.domains ++ name ∷ [] }
 after_record kept (records.Folder account name) = record kept { folders = kept.folders ++ record { account = account; name = name } ∷ [] }
-after_record kept (records.Message folder flags date octets) = record kept {
+after_record kept (records.Message folder flags mark date octets) = record kept {
   messages = kept.messages ++ record { folder = folder; flags = flags; live = true; date = date; octets = octets } ∷ [];
 }
 after_record kept (records.Flags message flags) = record kept { messages = change_at (with_flags flags) kept.messages message }
 after_record kept (records.Expunge message) = record kept { messages = change_at gone kept.messages message }
-after_record kept (records.Queue path addresses octets) = record kept {
+after_record kept (records.Queue path addresses mark octets) = record kept {
   entries = kept.entries ++ record { path = path; recipients = map waiting addresses; octets = octets } ∷ [];
 }
 after_record kept (records.Settle entry index) = record kept { entries = change_at (without index) kept.entries entry }
+after_record kept records.Version = kept
 
 -- what is kept after these records, the first of them first
 abbrev pub after_all : Kept → List Record → Kept

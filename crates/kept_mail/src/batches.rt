@@ -4,17 +4,18 @@ ghost use Rattle.std.specs.List.{All, AllByRecursion, flat_map};
 ghost use Rattle.std.specs.Option.{option_to_list};
 ghost use Rattle.address_grammar.specs.Paths.{ComesInPath};
 ghost use Rattle.journal_records.specs.Spelling.{IsWritableRecord, record_text};
+ghost use Rattle.journal_records.specs.Stored.{HasMark};
 ghost use Rattle.kept_mail.specs.declared.limits.TheConstants.{THINGS_MAX};
 ghost use Rattle.kept_mail.specs.Deliveries.{queued as queued_of};
 ghost use Rattle.kept_mail.specs.Kept.{change_at, without};
 ghost use Rattle.kept_mail.specs.Records.{IsUnsettled, recipient_count};
 ghost use Rattle.kept_mail.specs.private.Chains.{AreChained};
-ghost use Rattle.kept_mail.specs.private.Delivering.{entry_of as entry_for, IsEntryOf, IsFrontOf, fronts_text, delivery_text};
+ghost use Rattle.kept_mail.specs.private.Delivering.{entry_of as entry_for, HasOwnMark, IsEntryOf, IsFrontOf, fronts_text, delivery_text};
 
 use crate::contents::{Content, push_reserved, put_messages};
 use crate::delivery::Delivery;
 use crate::kept::{Entry, Message, waiting_entry};
-use journal_records::{Record, address_texts, path_text, queue_front};
+use journal_records::{Record, StoredOctets, address_texts, path_text, queue_front};
 use mail_wire::{Memory as OutOfMemory, Octets};
 use std::alloc::Global;
 
@@ -30,12 +31,14 @@ fn queued(alloc: Global, delivery: &Delivery) -> Result<Option<Record>, OutOfMem
     Ok(Some(Record::Queue {
         path: path_text(alloc, &delivery.path)?,
         addresses: address_texts(alloc, delivery.remote.as_slice())?,
+        mark: Some(delivery.remote_mark),
         octets: Octets::from_slice(alloc, delivery.remote_octets.as_slice())?,
     }))
 }
 
 // The entry of a record of the queue.
 fn entry_of(alloc: Global, queued: Option<Record>) -> Result<Option<Entry>, OutOfMemory>
+    requires { IfSome queued HasOwnMark }
     ensures { IfOk result (λ entry. entry ≡ option_and_then entry_for queued) }
 {
     match queued {
@@ -43,16 +46,24 @@ fn entry_of(alloc: Global, queued: Option<Record>) -> Result<Option<Entry>, OutO
             Record::Queue {
                 path,
                 addresses,
+                mark,
                 octets,
             },
-        ) => Ok(Some(waiting_entry(alloc, path, addresses, octets)?)),
+        ) => {
+            let Some(mark) = mark else {
+                unreachable!();
+            };
+            let stored = StoredOctets::new(octets, mark);
+            Ok(Some(waiting_entry(alloc, path, addresses, stored)?))
+        }
         _ => Ok(None),
     }
 }
 
 // What stands before the octets of a record of the queue.
 fn queued_front(alloc: Global, queued: &Option<Record>) -> Result<Option<Octets>, OutOfMemory>
-    requires { IfSome queued.now IsWritableRecord }
+    requires writable { IfSome queued.now IsWritableRecord }
+    requires mark { IfSome queued.now HasOwnMark }
     ensures { IfOk result (λ front. IsFrontOf front queued.now) }
 {
     match queued {
@@ -60,14 +71,21 @@ fn queued_front(alloc: Global, queued: &Option<Record>) -> Result<Option<Octets>
             Record::Queue {
                 path,
                 addresses,
+                mark,
                 octets,
             },
-        ) => Ok(Some(queue_front(
-            alloc,
-            path.as_slice(),
-            addresses.as_slice(),
-            octets.as_slice(),
-        )?)),
+        ) => {
+            let Some(mark) = *mark else {
+                unreachable!();
+            };
+            Ok(Some(queue_front(
+                alloc,
+                path.as_slice(),
+                addresses.as_slice(),
+                mark,
+                octets.as_slice(),
+            )?))
+        }
         _ => Ok(None),
     }
 }
@@ -85,6 +103,7 @@ pub fn waiting_of(alloc: Global, delivery: &Delivery) -> Result<Waiting, OutOfMe
     requires path { IfSome delivery.now.path ComesInPath }
     requires addresses { All ComesInPath delivery.now.remote }
     requires writable { AllByRecursion IsWritableRecord (queued_of delivery.now) }
+    requires mark { 0 < length delivery.now.remote → HasMark delivery.now.remote_octets delivery.now.remote_mark }
     ensures front { IfOk result (λ waiting. fronts_text (option_to_list waiting.front) delivery.now.remote_octets ≡ flat_map record_text (queued_of delivery.now)) }
     ensures entry { IfOk result (λ waiting. IsEntryOf waiting.entry (queued_of delivery.now)) }
 {

@@ -10,14 +10,16 @@ use mail_wire::{Items, Octets};
 pub type Addresses = Items<Address>;
 
 /// A message that came from a path: what is kept of it for local accounts, and what waits for remote recipients. Without a
-/// path it came from the null path.
+/// path it came from the null path. Octets come with their marks.
 #[derive(Debug, Drop)]
 pub struct Delivery {
     pub path: Option<Address>,
     pub local: Numbers,
     pub local_octets: Octets,
+    pub local_mark: u8,
     pub remote: Addresses,
     pub remote_octets: Octets,
+    pub remote_mark: u8,
     /// A date-time (RFC 3501), such as `01-Jan-1970 00:00:00 +0000`.
     pub date: Octets,
 }

@@ -3,7 +3,7 @@ ghost use Rattle.std.specs.Prelude.{◌≡◌, ◌<◌, ◌↔◌, IfOk, IsTrue,
 ghost use Rattle.kept_mail.specs.Kept.{waiting, change_at, settled};
 ghost use Rattle.kept_mail.specs.Records.{IsWaiting};
 
-use journal_records::Texts;
+use journal_records::{StoredOctets, Texts};
 use mail_wire::{Items, Memory, Octets};
 use std::alloc::Global;
 use std::marker::Model;
@@ -32,7 +32,7 @@ pub struct Message {
     pub live: bool,
     /// A date-time (RFC 3501), such as `01-Jan-1970 00:00:00 +0000`.
     pub date: Octets,
-    pub octets: Octets,
+    pub octets: StoredOctets,
 }
 
 /// A recipient of the queue: the text `local@domain` of the address, and whether the recipient waits.
@@ -105,7 +105,7 @@ impl Recipients {
 pub struct Entry {
     pub path: Octets,
     pub recipients: Recipients,
-    pub octets: Octets,
+    pub octets: StoredOctets,
 }
 
 /// An entry whose recipients at these addresses all wait.
@@ -113,7 +113,7 @@ pub fn waiting_entry(
     alloc: Global,
     path: Octets,
     addresses: Texts,
-    octets: Octets,
+    octets: StoredOctets,
 ) -> Result<Entry, Memory>
     ensures { IfOk result (λ entry. entry ≡ record { path = path; recipients = map waiting addresses; octets = octets }) }
 {

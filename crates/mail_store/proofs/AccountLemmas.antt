@@ -1,4 +1,5 @@
 -- One more account.
+use Rattle.journal_records.specs.declared.versions.Version.TheVariants as versions
 use Rattle.std.proofs.Common.{◌≡◌, ℕ, ◌<◌, ◌≤◌, Bool, true, false, not, cond, List, [], ◌∷◌, ◌++◌, length, Option, Some, None, Err, refl, sym, ap, ap₂, ◌∙◌, arith, inl, inr, length-append}
 use Rattle.std.specs.Prelude.{is_some}
 use Rattle.std.proofs.lemmas.Bool.{cases_Bool, or_parts}
@@ -83,13 +84,14 @@ room_for kept domain none =
     (has_room (length kept.accounts) few.0, has_room (length kept.folders) few.1)
 
 pub AreRecords-account : (kept : Kept) (address : Address) (password : List ℕ) → IsSendable address → length password ≤ TEXT_MAX
-    → length kept.accounts < THINGS_MAX → length kept.folders < THINGS_MAX → AreRecords kept (records.Account (address_text address) password ∷ [])
+    → length kept.accounts < THINGS_MAX → length kept.folders < THINGS_MAX → AreRecords versions.Two kept (records.Account (address_text address) password ∷ [])
 AreRecords-account kept address password sendable short more room =
     let text = address_text address in
     let len = length-append text (octet_list password) in (
       record {
         fits = (omega (arith, sendable.1), omega (arith, short));
         short = omega (arith, sendable.1, short, len);
+        of_version = tt;
         in_order = (((address, path_again address sendable.0), sendable.1), short, more, room);
       },
       tt,

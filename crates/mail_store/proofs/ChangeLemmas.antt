@@ -1,4 +1,5 @@
 -- What the calls that change a store have in common.
+use Rattle.journal_records.specs.declared.versions.Version.TheVariants as versions
 use Rattle.std.proofs.Common.{◌≡◌, ◌≢◌, ℕ, zero, suc, ◌+◌, ◌<◌, Bool, true, false, ◌&&◌, List, [], ◌∷◌, ◌++◌, length, take, get_or, Option, Some, None, Err, refl, sym, ap, subst, ◌∙◌, arith, append-nil, length-append}
 use Rattle.std.specs.Prelude.{slice_get}
 use Rattle.std.specs.List.{flat_map}
@@ -81,7 +82,7 @@ with_progress store progress = record store { failed = progress.failed; end = pr
 
 -- what a call leaves where its text wasn't written
 unwritten : (T : Type 0) (old : StoreState) (progress : Progress) (had has : Option (List ℕ)) (fault : StoreFault) (all : List Record) (text : List ℕ)
-    → AreRecords old.kept all → text ≡ flat_map record_text all → Writes {T = Unit {0}} (progress_of old) progress had has (Err fault) text
+    → AreRecords versions.Two old.kept all → text ≡ flat_map record_text all → Writes {T = Unit {0}} (progress_of old) progress had has (Err fault) text
     → Changes {T = T} old (with_progress old progress) had has (Err fault) all
 unwritten T old progress had has faults.Exists all text r t w = absurd w
 unwritten T old progress had has faults.NoSuch all text r t w = absurd w
@@ -91,7 +92,7 @@ unwritten T old progress had has faults.Keeper all text r t w =
     (r, ap (with_progress old) w.0, w.1, w.2 ∙ ap (λ l. with_last had (take w.1 l)) t)
 
 pub changes-unwritten : (T : Type 0) (now old new : StoreState) (progress : Progress) (had has : Option (List ℕ)) (fault : StoreFault) (all : List Record) (text : List ℕ) → old ≡ now
-    → AreRecords old.kept all → text ≡ flat_map record_text all → new ≡ record old { failed = progress.failed; end = progress.end }
+    → AreRecords versions.Two old.kept all → text ≡ flat_map record_text all → new ≡ record old { failed = progress.failed; end = progress.end }
     → Writes {T = Unit {0}} (progress_of old) progress had has (Err fault) text → Changes {T = T} now new had has (Err fault) all
 changes-unwritten T now old new progress had has fault all text view r t n w =
     subst (λ s. Changes {T = T} now s had has (Err fault) all) (sym n)
@@ -108,12 +109,12 @@ refused-unwritten T was progress had has faults.Keeper text refusal none w = non
 
 -- what a call leaves where its text was written, and its records were put last
 pub changes-written : (now old : StoreState) (progress : Progress) (new : StoreState) (had has : Option (List ℕ)) (all : List Record) (text : List ℕ) → old ≡ now
-    → AreRecords old.kept all → text ≡ flat_map record_text all → progress ≡ record (progress_of old) { end = old.end + length text } → has ≡ with_last had text
+    → AreRecords versions.Two old.kept all → text ≡ flat_map record_text all → progress ≡ record (progress_of old) { end = old.end + length text } → has ≡ with_last had text
     → new ≡ keeping (record old { failed = progress.failed; end = progress.end }) all
-    → AreRecords now.kept all × (new ≡ with_records now all) × (has ≡ with_last had (flat_map record_text all))
+    → AreRecords versions.Two now.kept all × (new ≡ with_records now all) × (has ≡ with_last had (flat_map record_text all))
 changes-written now old progress new had has all text view r t p h n =
     let end : old.end + length text ≡ end_after old.end all = ap (λ (l : List ℕ). old.end + length l) t ∙ sym (end_after-is old.end all) in (
-      subst (λ s. AreRecords s.kept all) view r,
+      subst (λ s. AreRecords versions.Two s.kept all) view r,
       n ∙ ap (λ (q : Progress). keeping (with_progress old q) all) p ∙ ap (λ (e : ℕ). let s : StoreState = record old { kept = after_all old.kept all; end = e } in s) end
           ∙ ap (λ s. with_records s all) view,
       h ∙ ap (with_last had) t,

@@ -1,4 +1,5 @@
 -- One more domain, and a name that is taken back.
+use Rattle.journal_records.specs.declared.versions.Version.TheVariants as versions
 use Rattle.std.proofs.Common.{◌≡◌, ◌≢◌, ℕ, ◌<◌, ◌≤◌, Bool, true, false, cond, List, [], ◌∷◌, length, Option, Some, None, refl, sym, ap, subst, ◌∙◌, arith, inl, inr}
 use Rattle.std.specs.Prelude.{is_some}
 use Rattle.std.specs.Str.{bytes_eq}
@@ -36,10 +37,10 @@ writable-domain domain name some is =
     let short : length name ≤ 253 = subst (λ l. length l ≤ 253) (sym is) (form_short domain some) in
     (omega (arith, short), omega (arith, short))
 
-pub AreRecords-domain : (kept : Kept) (domain : List ℕ) → normal_form domain ≢ None → length kept.domains < THINGS_MAX → AreRecords kept (records.Domain (compared_form domain) ∷ [])
+pub AreRecords-domain : (kept : Kept) (domain : List ℕ) → normal_form domain ≢ None → length kept.domains < THINGS_MAX → AreRecords versions.Two kept (records.Domain (compared_form domain) ∷ [])
 AreRecords-domain kept domain some room =
     let writable = writable-domain domain (compared_form domain) some refl in
-    (record { fits = writable.0; short = writable.1; in_order = (form_text domain some, room) }, tt)
+    (record { fits = writable.0; short = writable.1; of_version = tt; in_order = (form_text domain some, room) }, tt)
 
 -- ---- refusals
 

@@ -1,4 +1,5 @@
 -- What is kept after a delivery.
+use Rattle.journal_records.specs.declared.versions.Version.TheVariants as versions
 use Rattle.std.proofs.Common.{◌≡◌, ◌⊎◌, ℕ, suc, ◌+◌, ◌<◌, ◌≤◌, Bool, true, false, cond, ◌||◌, ◌&&◌, eqb, List, [], ◌∷◌, ◌++◌, length, map, Option, Some, None, refl, sym, ap, subst, ◌∙◌, arith, inl, inr, append-nil}
 use Rattle.std.specs.List.{flat_map}
 use Rattle.std.specs.Prelude.{IfSome}
@@ -21,7 +22,8 @@ use Rattle.journal_records.specs.Addresses.{IsKeptAddress, path_text}
 use Rattle.kept_mail.specs.Deliveries.{delivered, queued, copy_for, inboxes_of, has_large_octets, has_many_things}
 use Rattle.kept_mail.specs.private.Delivering.{copied, entry_of}
 use Rattle.kept_mail.specs.Kept.{Kept, after_all, waiting}
-use Rattle.kept_mail.specs.Records.{AreRecords, IsInOrder, recipient_count}
+use Rattle.kept_mail.specs.Records.{AreRecords, recipient_count}
+use Rattle.mail_store.specs.private.Adding.{CanWait}
 use Rattle.journal_records.specs.Grammar.{IsDate}
 use Rattle.journal_records.specs.Spelling.{record_text}
 use Rattle.journal_records.specs.Stored.{IsStored}
@@ -35,34 +37,34 @@ use Rattle.mail_store.proofs.IndexLemmas.{AreIndexes-messages, AreIndexes-entry}
 
 -- ---- where nothing is written
 
-none_for : (kept : Kept) (date octets local : List ℕ) (none : Bool) (one : Record) → (eqb (length local) 0 && none) ≡ true
-    → map (copy_for date octets) (inboxes_of kept local) ++ cond none [] (one ∷ []) ≡ []
-none_for kept date octets [] true one e = refl
-none_for kept date octets [] false one e = absurd cc
-none_for kept date octets (x ∷ local) none one e =
+none_for : (kept : Kept) (date : List ℕ) (mark : ℕ) (octets local : List ℕ) (none : Bool) (one : Record) → (eqb (length local) 0 && none) ≡ true
+    → map (copy_for date mark octets) (inboxes_of kept local) ++ cond none [] (one ∷ []) ≡ []
+none_for kept date mark octets [] true one e = refl
+none_for kept date mark octets [] false one e = absurd cc
+none_for kept date mark octets (x ∷ local) none one e =
     let some : eqb (length (x ∷ local)) 0 ≡ false = ne_eqb (suc (length local)) 0 (λ e. omega (arith, e)) in
     absurd (false≢true (rw some at e))
 
-for_none : (kept : Kept) (date octets local : List ℕ) (none : Bool) (one : Record) → map (copy_for date octets) (inboxes_of kept local) ++ cond none [] (one ∷ []) ≡ []
+for_none : (kept : Kept) (date : List ℕ) (mark : ℕ) (octets local : List ℕ) (none : Bool) (one : Record) → map (copy_for date mark octets) (inboxes_of kept local) ++ cond none [] (one ∷ []) ≡ []
     → (eqb (length local) 0 && none) ≡ true
-for_none kept date octets [] true one e = refl
-for_none kept date octets [] false one e = absurd (cc e)
-for_none kept date octets (x ∷ local) none one e = absurd (cc e)
+for_none kept date mark octets [] true one e = refl
+for_none kept date mark octets [] false one e = absurd (cc e)
+for_none kept date mark octets (x ∷ local) none one e = absurd (cc e)
 
 -- exactly a delivery for nobody has no records
 pub for-nobody : (kept : Kept) (delivery : Delivery) → (eqb (length delivery.local) 0 && eqb (length delivery.remote) 0) ≡ true → delivered kept delivery ≡ []
 for-nobody kept delivery e =
-    none_for kept delivery.date delivery.local_octets delivery.local (eqb (length delivery.remote) 0)
-    (records.Queue (path_text delivery.path) (map address_text delivery.remote) delivery.remote_octets) e
+    none_for kept delivery.date delivery.local_mark delivery.local_octets delivery.local (eqb (length delivery.remote) 0)
+    (records.Queue (path_text delivery.path) (map address_text delivery.remote) (Some delivery.remote_mark) delivery.remote_octets) e
 
 pub nobody-of : (kept : Kept) (delivery : Delivery) → delivered kept delivery ≡ [] → (eqb (length delivery.local) 0 && eqb (length delivery.remote) 0) ≡ true
 nobody-of kept delivery e =
-    for_none kept delivery.date delivery.local_octets delivery.local (eqb (length delivery.remote) 0)
-    (records.Queue (path_text delivery.path) (map address_text delivery.remote) delivery.remote_octets) e
+    for_none kept delivery.date delivery.local_mark delivery.local_octets delivery.local (eqb (length delivery.remote) 0)
+    (records.Queue (path_text delivery.path) (map address_text delivery.remote) (Some delivery.remote_mark) delivery.remote_octets) e
 
 -- no records leave all as it is
 pub changes-nothing : (now : StoreState) (had : Option (List ℕ)) (all : List Record) → all ≡ []
-    → AreRecords now.kept all × (now ≡ with_records now all) × (had ≡ with_last had (flat_map record_text all))
+    → AreRecords versions.Two now.kept all × (now ≡ with_records now all) × (had ≡ with_last had (flat_map record_text all))
 changes-nothing now had all nobody = rw nobody (tt, refl, with_nothing had)
 
 -- ---- the entry
@@ -77,7 +79,7 @@ to_some (Some one) x e = cc
 
 -- the record of a message that waits, and its entry
 abbrev record_made : Delivery → Record
-record_made delivery = records.Queue (path_text delivery.path) (map address_text delivery.remote) delivery.remote_octets
+record_made delivery = records.Queue (path_text delivery.path) (map address_text delivery.remote) (Some delivery.remote_mark) delivery.remote_octets
 
 abbrev entry_made : Delivery → Entry
 entry_made delivery = record { path = path_text delivery.path; recipients = map waiting (map address_text delivery.remote); octets = delivery.remote_octets }
@@ -101,11 +103,11 @@ abbrev pub HasEntryRoom : Kept → Entry → Type 0
 HasEntryRoom kept entry = (length kept.entries < THINGS_MAX) × (recipient_count kept.entries + length entry.recipients ≤ THINGS_MAX)
 
 -- that of a record has, where it is in order
-pub recorded-room : (kept : Kept) (path : List ℕ) (addresses : List (List ℕ)) (octets : List ℕ) (entry : Entry) → IsInOrder kept (records.Queue path addresses octets)
+pub recorded-room : (kept : Kept) (path : List ℕ) (addresses : List (List ℕ)) (octets : List ℕ) (entry : Entry) → CanWait kept path addresses
     → entry ≡ record { path = path; recipients = map waiting addresses; octets = octets } → IfSome (Some entry) (HasEntryRoom kept)
 recorded-room kept path addresses octets entry order is =
     let count : length entry.recipients ≡ length addresses = ap (λ (e : Entry). length e.recipients) is ∙ length-map addresses waiting in
-    (order.3, omega (arith, order.4, count))
+    (order.2, omega (arith, order.3, count))
 
 entry-room : (kept : Kept) (max : ℕ) (delivery : Delivery) (one : Option Record) (entry : Option Entry) → (has_large_octets max delivery || has_many_things kept delivery) ≡ false
     → option_to_list one ≡ queued delivery → entry ≡ option_and_then entry_of one → IfSome entry (HasEntryRoom kept)
@@ -143,7 +145,7 @@ entry-kept store delivery one entry d is e =
             path = path-again delivery.path d.path;
             addresses = All-map (λ (recipient : Recipient). IsKeptAddress recipient.address) waiting (map address_text delivery.remote)
                 (All-map IsKeptAddress address_text delivery.remote (λ k a l. address-again _ (d.addresses k a l)));
-            stored = d.remote_tree;
+            stored = record { entities = d.remote_marked.entities; tree = d.remote_marked.tree };
           } in
           rw some.2 may
     ]
@@ -200,5 +202,5 @@ after-delivered kept delivery copies one entry messages entries c is e m n =
     let made : (let new : Kept = record kept { messages = messages; entries = entries } in new) ≡ (let new : Kept = record first { entries = first.entries ++ option_to_list entry } in new) =
     ap (λ l. let new : Kept = record kept { messages = l; entries = entries } in new) (m ∙ ap (λ l. kept.messages ++ l) c)
     ∙ ap (λ l. let new : Kept = record first { entries = l } in new) n in
-    made ∙ after-queued first delivery one entry is e ∙ ap (λ k. after_all k (queued delivery)) (sym (after-copies kept delivery.date delivery.local_octets folders))
-    ∙ sym (after_all-append kept (map (copy_for delivery.date delivery.local_octets) folders) (queued delivery))
+    made ∙ after-queued first delivery one entry is e ∙ ap (λ k. after_all k (queued delivery)) (sym (after-copies kept delivery.date delivery.local_mark delivery.local_octets folders))
+    ∙ sym (after_all-append kept (map (copy_for delivery.date delivery.local_mark delivery.local_octets) folders) (queued delivery))

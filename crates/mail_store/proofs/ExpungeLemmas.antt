@@ -1,4 +1,5 @@
 -- Messages that go, one after the other.
+use Rattle.journal_records.specs.declared.versions.Version.TheVariants as versions
 use Rattle.std.proofs.Common.{◌≡◌, ◌≢◌, ℕ, zero, suc, ◌+◌, ◌<◌, ◌≤◌, Bool, true, false, eqb, List, [], ◌∷◌, ◌++◌, length, take, get_or, Option, Some, None, refl, sym, ap, ◌∙◌, arith}
 use Rattle.std.specs.Prelude.{slice_get}
 use Rattle.std.specs.List.{All, IsDistinct, AllByRecursion, list_all}
@@ -48,14 +49,14 @@ others_live kept id (other ∷ ids) apart live =
 
 -- live messages that are distinct can go one after the other
 pub AreRecords-expunged : (kept : Kept) (ids : List ℕ) → length kept.messages ≤ THINGS_MAX → IsDistinct (λ a b. eqb a b) ids → list_all (is_live kept) ids ≡ true
-    → AreRecords kept (expunged ids)
+    → AreRecords versions.Two kept (expunged ids)
 unfolding IsDistinct
 AreRecords-expunged kept [] few distinct live = tt
 AreRecords-expunged kept (id ∷ ids) few distinct live =
     let first = and_left (is_live kept id) (list_all (is_live kept) ids) live in
     let within = live_within kept id first in
     let len = length-change_at gone kept.messages id in (
-      record { fits = omega (arith, within, few); short = omega arith; in_order = live_of (slice_get kept.messages id) first },
+      record { fits = omega (arith, within, few); short = omega arith; of_version = tt; in_order = live_of (slice_get kept.messages id) first },
       AreRecords-expunged (after_record kept (records.Expunge id)) ids (omega (arith, len, few)) distinct.1
           (others_live kept id ids distinct.0 (and_right (is_live kept id) (list_all (is_live kept) ids) live)),
     )

@@ -1,4 +1,5 @@
 -- A message that gets other flags.
+use Rattle.journal_records.specs.declared.versions.Version.TheVariants as versions
 use Rattle.std.proofs.Common.{◌≡◌, ℕ, ◌<◌, ◌≤◌, Bool, true, false, [], ◌∷◌, length, Option, Some, None, refl, arith}
 use Rattle.std.specs.Prelude.{slice_get}
 use Rattle.std.specs.Option.{option_map_or}
@@ -29,7 +30,7 @@ flags_free kept id live = rw (lives_is (slice_get kept.messages id) live) refl
 pub flags_refused : (kept : Kept) (id : ℕ) → (IsLive (slice_get kept.messages id) → ⊥) → flags_refusal kept id ≡ Some faults.NoSuch
 flags_refused kept id dead = rw (dead_is (slice_get kept.messages id) dead) refl
 
-pub AreRecords-flags : (kept : Kept) (id flags : ℕ) → IsLive (slice_get kept.messages id) → length kept.messages ≤ THINGS_MAX → flags < 32 → AreRecords kept (records.Flags id flags ∷ [])
+pub AreRecords-flags : (kept : Kept) (id flags : ℕ) → IsLive (slice_get kept.messages id) → length kept.messages ≤ THINGS_MAX → flags < 32 → AreRecords versions.Two kept (records.Flags id flags ∷ [])
 AreRecords-flags kept id flags live few small =
     let within = live_within kept id (lives_is (slice_get kept.messages id) live) in
-    (record { fits = omega (arith, within, few); short = omega arith; in_order = (live, small) }, tt)
+    (record { fits = omega (arith, within, few); short = omega arith; of_version = tt; in_order = (live, small) }, tt)

@@ -1,4 +1,5 @@
 -- Folders by their names.
+use Rattle.journal_records.specs.declared.versions.Version.TheVariants as versions
 use Rattle.std.proofs.Common.{◌≡◌, ◌≢◌, ℕ, suc, ◌+◌, ◌^◌, ◌<◌, ◌≤◌, Bool, true, false, ◌&&◌, cond, eqb, List, [], ◌∷◌, ◌++◌, length, Option, Some, None, refl, sym, ap, ap₂, ◌∙◌, subst, arith, inl, inr, eq-eqb, ◌==◌, IsUtf8}
 use Rattle.std.specs.Prelude.{IfSome, filter, is_some}
 use Rattle.std.specs.Char.{is_control}
@@ -165,10 +166,10 @@ pub writable-folder : (account : ℕ) (name : List ℕ) → account < 2 ^ 32 →
 writable-folder account name small named = ((small, omega (arith, named.short)), omega (arith, named.short))
 
 pub AreRecords-folder : (kept : Kept) (account : ℕ) (name : List ℕ) → account < length kept.accounts → account < 2 ^ 32 → IsFolderName name → length kept.folders < THINGS_MAX
-    → AreRecords kept (records.Folder account name ∷ [])
+    → AreRecords versions.Two kept (records.Folder account name ∷ [])
 AreRecords-folder kept account name known small named room =
     let writable = writable-folder account name small named in
-    (record { fits = writable.0; short = writable.1; in_order = (known, named, room) }, tt)
+    (record { fits = writable.0; short = writable.1; of_version = tt; in_order = (known, named, room) }, tt)
 
 -- ---- refusals
 

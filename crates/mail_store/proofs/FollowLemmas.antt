@@ -12,7 +12,8 @@ use Rattle.kept_mail.specs.Records.{AreRecords}
 use Rattle.journal_records.specs.Spelling.{record_text}
 use Rattle.mail_store.specs.StoreState.{StoreState, with_records}
 use Rattle.mail_store.proofs.ChangeLemmas.{after_all-append, end_after-append, with_nothing}
-use Rattle.mail_store.proofs.DeliveryLemmas.{AreRecords-append}
+use Rattle.mail_store.proofs.DeliveryLemmas.{AreRecords-more}
+use Rattle.journal_records.specs.declared.versions.Version.TheVariants.{Two}
 use Rattle.mail_store.proofs.LawLemmas.{grown, left_following}
 
 pub records_of-append : (a b : List (List Record)) → records_of (a ++ b) ≡ records_of a ++ records_of b
@@ -33,9 +34,9 @@ pub with_records-append : (old : StoreState) (all more : List Record) → with_r
 with_records-append old all more =
     ap₂ (λ (kept : Kept) (end : ℕ). (let new : StoreState = record old { kept = kept; end = end } in new)) (sym (after_all-append old.kept all more)) (sym (end_after-append old.end all more))
 
-records_on : (old mid : StoreState) (all more : List Record) → mid ≡ with_records old all → AreRecords old.kept all → AreRecords mid.kept more → AreRecords old.kept (all ++ more)
+records_on : (old mid : StoreState) (all more : List Record) → mid ≡ with_records old all → AreRecords Two old.kept all → AreRecords Two mid.kept more → AreRecords Two old.kept (all ++ more)
 records_on old mid all more is first second =
-    AreRecords-append old.kept all more first (subst (λ (k : Kept). AreRecords k more) (ap (λ (s : StoreState). s.kept) is) second)
+    AreRecords-more old.kept all more first (subst (λ (k : Kept). AreRecords Two k more) (ap (λ (s : StoreState). s.kept) is) second)
 
 -- calls, and more of them
 pub Follows-more : (old mid new : StoreState) (had has having : Option (List ℕ)) (all more : List Record) → Follows old mid had has all → Follows mid new has having more
@@ -57,7 +58,7 @@ Breaks-more old mid new had has having all made failing first breaks =
     let joined : front ++ (text ++ cut) ≡ flat_map record_text (all ++ made) ++ cut =
     sym (append_assoc front text cut) ∙ ap (λ (l : List ℕ). l ++ cut) (sym (flat_map-append record_text all made)) in
     record {
-      records = subst (AreRecords old.kept) (sym (append_assoc all made failing)) (records_on old mid all (made ++ failing) first.store first.records breaks.records);
+      records = subst (AreRecords Two old.kept) (sym (append_assoc all made failing)) (records_on old mid all (made ++ failing) first.store first.records breaks.records);
       store = breaks.store ∙ ap (λ (s : StoreState). (let broken : StoreState = record (with_records s made) { failed = true } in broken)) first.store
           ∙ ap (λ (s : StoreState). (let broken : StoreState = record s { failed = true } in broken)) (with_records-append old all made);
       count = breaks.count;
@@ -67,7 +68,7 @@ Breaks-more old mid new had has having all made failing first breaks =
 -- ---- one call
 
 pub Breaks-one : (old new : StoreState) (had has : Option (List ℕ)) (failing : List Record)
-    → AreRecords old.kept failing × (new ≡ record old { failed = true }) × (n : ℕ) × (has ≡ with_last had (take n (flat_map record_text failing))) → Breaks old new had has [] failing
+    → AreRecords Two old.kept failing × (new ≡ record old { failed = true }) × (n : ℕ) × (has ≡ with_last had (take n (flat_map record_text failing))) → Breaks old new had has [] failing
 Breaks-one old new had has failing (records, store, n, journal) = record { records = records; store = store; count = n; journal = journal }
 
 -- ---- the laws

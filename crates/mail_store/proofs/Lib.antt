@@ -22,3 +22,6 @@ pub mod DeliveryLemmas
 pub mod EntryLemmas
 pub mod AppendLemmas
 pub mod QueueCounts
+pub mod ZeroLemmas
+pub mod OpenLemmas
+pub mod SettleLemmas

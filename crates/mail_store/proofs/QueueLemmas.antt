@@ -1,4 +1,5 @@
 -- Which entries and recipients wait, and what is told of them.
+use Rattle.journal_records.specs.declared.versions.Version.TheVariants as versions
 use Rattle.std.proofs.Common.{◌≡◌, ℕ, zero, suc, ◌+◌, ◌<◌, ◌≤◌, Bool, cond, List, [], ◌∷◌, ◌++◌, length, take, map, get_or, Option, Some, None, Result, Ok, Err, sym, ap, subst, ◌∙◌, arith, inl, inr, append-nil, append_assoc, length-take-le}
 use Rattle.std.specs.Prelude.{slice_get, IfOk, IfSome, ◌^◌}
 use Rattle.std.specs.List.{All, AllZip, AllByRecursion}
@@ -15,7 +16,9 @@ use Rattle.journal_records.specs.Addresses.{IsKeptAddress}
 use Rattle.kept_mail.specs.declared.kept.Recipient.{Recipient}
 use Rattle.kept_mail.specs.declared.kept.Entry.{Entry}
 use Rattle.kept_mail.specs.Kept.{Kept, change_at, settled, waiting, without}
-use Rattle.kept_mail.specs.Records.{AreRecords, IsInOrder, IsUnsettled, recipient_count}
+use Rattle.journal_records.specs.Stored.{IsStored}
+use Rattle.kept_mail.specs.Records.{AreRecords, IsUnsettled, recipient_count}
+use Rattle.mail_store.specs.private.Adding.{CanWait}
 use Rattle.mail_store.specs.declared.queue.Queued.{Queued}
 use Rattle.mail_store.specs.declared.queue.Unsettled.{Unsettled}
 use Rattle.mail_store.specs.Queue.{HasPaths, IsKeptEntry, IsQueue, IsQueued, IsQueuedAt, IsTextOfPath, IsUnsettledAt, is_open, open_numbers, places_where, waits}
@@ -60,13 +63,13 @@ numbers_below es = places_below is_open (length es) 0 es (omega arith)
 
 -- ---- entries that may be kept
 
-pub kept-queued : (kept : Kept) (path : List ℕ) (addresses : List (List ℕ)) (octets : List ℕ) (entry : Entry) → IsInOrder kept (records.Queue path addresses octets)
+pub kept-queued : (kept : Kept) (path : List ℕ) (addresses : List (List ℕ)) (octets : List ℕ) (entry : Entry) → CanWait kept path addresses → IsStored octets
     → entry ≡ record { path = path; recipients = map waiting addresses; octets = octets } → IsKeptEntry entry
-kept-queued kept path addresses octets entry order is =
+kept-queued kept path addresses octets entry order stored is =
     subst IsKeptEntry (sym is) (record {
       path = order.0;
       addresses = All-map (λ (recipient : Recipient). IsKeptAddress recipient.address) waiting addresses order.1;
-      stored = order.2;
+      stored = stored;
     })
 
 abbrev has_address : Recipient → Type 0
@@ -210,5 +213,5 @@ told_paths (Err memory) es h = tt
 
 -- ---- the record of a recipient who is done with
 
-pub AreRecords-settle : (kept : Kept) (entry index : ℕ) → IsUnsettled (slice_get kept.entries entry) index → entry < 2 ^ 32 → index < 2 ^ 32 → AreRecords kept (records.Settle entry index ∷ [])
-AreRecords-settle kept entry index waits small few = (record { fits = (small, few); short = omega arith; in_order = waits }, tt)
+pub AreRecords-settle : (kept : Kept) (entry index : ℕ) → IsUnsettled (slice_get kept.entries entry) index → entry < 2 ^ 32 → index < 2 ^ 32 → AreRecords versions.Two kept (records.Settle entry index ∷ [])
+AreRecords-settle kept entry index waits small few = (record { fits = (small, few); short = omega arith; of_version = tt; in_order = waits }, tt)

@@ -131,11 +131,12 @@ kept_after : (kept : Kept) (one : Record) → AreKept kept.messages (after_recor
 kept_after kept (records.Account address password) = kept_same kept.messages
 kept_after kept (records.Domain name) = kept_same kept.messages
 kept_after kept (records.Folder account name) = kept_same kept.messages
-kept_after kept (records.Message folder flags date octets) = kept_more kept.messages _
+kept_after kept (records.Message folder flags mark date octets) = kept_more kept.messages _
 kept_after kept (records.Flags message flags) = kept_changed (with_flags flags) (λ m. refl) (λ m lives. lives) kept.messages message
 kept_after kept (records.Expunge message) = kept_changed gone (λ m. refl) (λ m lives. absurd cc) kept.messages message
-kept_after kept (records.Queue path addresses octets) = kept_same kept.messages
+kept_after kept (records.Queue path addresses mark octets) = kept_same kept.messages
 kept_after kept (records.Settle entry index) = kept_same kept.messages
+kept_after kept records.Version = kept_same kept.messages
 
 kept_after_all : (kept : Kept) (more : List Record) → AreKept kept.messages (after_all kept more).messages
 kept_after_all kept [] = kept_same kept.messages

@@ -14,6 +14,9 @@ use Rattle.kept_mail.specs.declared.kept.Recipient.{Recipient}
 use Rattle.kept_mail.specs.declared.limits.TheConstants.{RECIPIENTS_MAX}
 use Rattle.journal_records.specs.declared.records.Record.{Record}
 use Rattle.journal_records.specs.declared.records.Record.TheVariants as records
+use Rattle.journal_records.specs.declared.versions.Version.{Version}
+use Rattle.journal_records.specs.declared.versions.Version.TheVariants as versions
+use Rattle.journal_records.specs.Versions.{version_after_all}
 use Rattle.journal_records.specs.Addresses.{IsSendable}
 use Rattle.journal_records.specs.Grammar.{IsDate}
 use Rattle.kept_mail.specs.Kept.{Kept, nothing, store_of, find_account, find_folder, is_local}
@@ -21,7 +24,7 @@ use Rattle.mail_store.specs.Opening.{HasRecords}
 use Rattle.kept_mail.specs.Deliveries.{has_large_octets, has_many_things}
 use Rattle.kept_mail.specs.Records.{AreRecords, are_too_many}
 use Rattle.journal_records.specs.Spelling.{record_text, journal}
-use Rattle.journal_records.specs.Stored.{IsStored}
+use Rattle.journal_records.specs.Stored.{HasMark}
 use Rattle.mail_store.specs.StoreState.{StoreState, with_records}
 
 -- ---- every changing call
@@ -30,9 +33,9 @@ use Rattle.mail_store.specs.StoreState.{StoreState, with_records}
 -- store is as before, but that it has failed, and the keeper has a prefix of them, which are such. Else all is as before.
 abbrev pub Changes : {T : Type 0} → StoreState → StoreState → Option (List ℕ) → Option (List ℕ) → Result T StoreFault → List Record → Type 0
 Changes old new had has (Ok done) all =
-    AreRecords old.kept all × (new ≡ with_records old all) × (has ≡ with_last had (flat_map record_text all))
+    AreRecords versions.Two old.kept all × (new ≡ with_records old all) × (has ≡ with_last had (flat_map record_text all))
 Changes old new had has (Err faults.Keeper) all =
-    AreRecords old.kept all × (new ≡ record old { failed = true }) × (n : ℕ) × (has ≡ with_last had (take n (flat_map record_text all)))
+    AreRecords versions.Two old.kept all × (new ≡ record old { failed = true }) × (n : ℕ) × (has ≡ with_last had (take n (flat_map record_text all)))
 Changes old new had has (Err faults.TooLarge) all = (new ≡ old) × (has ≡ had)
 Changes old new had has (Err faults.Exists) all = (new ≡ old) × (has ≡ had)
 Changes old new had has (Err faults.NoSuch) all = (new ≡ old) × (has ≡ had)
@@ -62,11 +65,13 @@ IsRefusedAs (Err faults.Exists) refusal = refusal ≡ Some faults.Exists
 IsRefusedAs (Err faults.NoSuch) refusal = refusal ≡ Some faults.NoSuch
 IsRefusedAs (Err faults.TooLarge) refusal = refusal ≡ Some faults.TooLarge
 
--- the store is the fold of these records, and the keeper holds their journal
+-- the store is the fold of these records, and the keeper holds their journal, which goes on in version 2
 pub record IsStoreOf (store : StoreState) (octets : Option (List ℕ)) (all : List Record) : Type 0 where
-  pub records : AreRecords nothing all
+  pub version : Version
+  pub records : AreRecords version nothing all
+  pub last_version : version_after_all version all ≡ versions.Two
   pub kept_is : store.kept ≡ store_of all
-  pub holds : octets ≡ Some (journal all)
+  pub holds : octets ≡ Some (journal version all)
 
 -- the keeper has octets that open with all the old records and the first of the new ones
 pub record HoldsFirst (octets : Option (List ℕ)) (all more : List Record) : Type 0 where
@@ -101,12 +106,12 @@ folder_refusal kept account name =
 
 -- ---- deliver
 
--- the accounts are there, the date is one, the octets have trees, and the addresses are such and not too many
+-- the accounts are there, the date is one, the octets have trees and these marks, and the addresses are such and not too many
 pub record IsDeliverable (store : StoreState) (delivery : Delivery) : Type 0 where
   pub known : All (λ account. account < length store.kept.accounts) delivery.local
   pub dated : IsDate delivery.date
-  pub local_tree : IsStored delivery.local_octets
-  pub remote_tree : IsStored delivery.remote_octets
+  pub local_marked : HasMark delivery.local_octets delivery.local_mark
+  pub remote_marked : HasMark delivery.remote_octets delivery.remote_mark
   pub path : IfSome delivery.path IsSendable
   pub addresses : All IsSendable delivery.remote
   pub few : length delivery.remote ≤ RECIPIENTS_MAX
@@ -118,12 +123,12 @@ delivery_refusal store delivery =
 
 -- ---- append
 
--- the folder is there, the flags and the date are such, and the octets have a tree
-pub record IsAppendable (store : StoreState) (folder flags : ℕ) (date octets : List ℕ) : Type 0 where
+-- the folder is there, the flags and the date are such, and the octets have a tree and this mark
+pub record IsAppendable (store : StoreState) (folder flags mark : ℕ) (date octets : List ℕ) : Type 0 where
   pub known : folder < length store.kept.folders
   pub small : flags < 32
   pub dated : IsDate date
-  pub tree : IsStored octets
+  pub marked : HasMark octets mark
 
 -- the octets are more than the limit, or there would be too many messages
 abbrev pub append_refusal : StoreState → List ℕ → Option StoreFault

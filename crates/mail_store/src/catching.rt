@@ -1,34 +1,19 @@
 //! A store that catches up with what others wrote to its journal.
-ghost use Rattle.std.specs.Prelude.{◌≡◌, ◌≤◌, length, take, option_map, OnOk, OnErr, IfErr, IfSome, is_err};
+ghost use Rattle.std.specs.Prelude.{◌≡◌, length, OnOk, OnErr, IfErr, IfSome, is_err};
 ghost use Rattle.mail_wire.specs.Keeping.{HasKeeperCause};
 ghost use Rattle.mail_store.specs.Catching.{ReadsOn, CatchesUp, IsCatchFault};
-ghost use Rattle.mail_store.specs.private.Replaying.{IsOutside, IsReadTo};
+ghost use Rattle.mail_store.specs.private.Replaying.{ReadsTwo};
 
+use crate::frames::cut_after;
 use crate::opening::{OpenFault, read_on};
 use crate::storing::Store;
+use journal_records::Version;
 use mail_wire::Keeper;
 use std::alloc::Global;
 
-// Cuts off what stands after a place.
-fn cut_after<J: Keeper>(keeper: &mut J, had: u64, end: u64) -> Result<(), OpenFault>
-    requires had { IfSome (J.observed keeper.old).octets (λ octets. had ≡ length octets) }
-    requires within { end ≤ had }
-    ensures cut { OnOk result ((J.observed keeper.new).octets ≡ option_map (take end) (J.observed keeper.old).octets) }
-    ensures same { OnErr result ((J.observed keeper.new).octets ≡ (J.observed keeper.old).octets) }
-    ensures cause { HasKeeperCause (J.observed keeper.old) (J.observed keeper.new) result OpenFault.Keeper }
-    ensures unappended { (J.observed keeper.new).appends ≡ (J.observed keeper.old).appends }
-    ensures outside { IfErr result IsOutside }
-{
-    if had <= end {
-        return Ok(());
-    }
-    keeper.cut(end)?;
-    Ok(())
-}
-
-// Puts the records last that stand after those that the store has, and cuts off a prefix of one after them.
+// Puts the records last that stand after those that the store has, and cuts off what is broken off after them.
 fn read_after<J: Keeper>(alloc: Global, keeper: &mut J, store: &mut Store) -> Result<(), OpenFault>
-    ensures reads { IsReadTo (J.observed keeper.old).octets store.old store.new }
+    ensures reads { ReadsTwo (J.observed keeper.old).octets store.old store.new }
     ensures catches { OnOk result (IfSome (J.observed keeper.old).octets (λ old. CatchesUp store.old old (J.observed keeper.new).octets store.new.kept)) }
     ensures end { OnOk result (IfSome (J.observed keeper.new).octets (λ octets. store.new.end ≡ length octets)) }
     ensures same { OnErr result ((J.observed keeper.new).octets ≡ (J.observed keeper.old).octets) }
@@ -42,14 +27,15 @@ fn read_after<J: Keeper>(alloc: Global, keeper: &mut J, store: &mut Store) -> Re
         return Err(OpenFault::BadJournal { at: had });
     }
     let mut buffer = Vec::new(alloc);
-    read_on(alloc, keeper, store, had, &mut buffer)?;
+    let mut version = Version::Two;
+    read_on(alloc, keeper, store, &mut version, had, &mut buffer)?;
     cut_after(keeper, had, store.end())?;
     Ok(())
 }
 
 impl Store {
-    /// Puts the records last that others wrote to the keeper after those that the store has. A prefix of a record at its end is
-    /// cut off. Where this is refused, the store has the records before the fault and is marked as failed: it isn't to be
+    /// Puts the records last that others wrote to the keeper after those that the store has. What was broken off at its end is
+    /// cut. Where this is refused, the store has the records before the fault and is marked as failed: it isn't to be
     /// changed before it has caught up, which goes on where it stopped.
     pub fn catch_up<J: Keeper>(&mut self, keeper: &mut J) -> Result<(), OpenFault>
         // Whatever it answers, it goes on with the records that stand next, and reads none twice.
@@ -70,7 +56,7 @@ impl Store {
     {
         let alloc = self.alloc;
         let caught = read_after(alloc, keeper, self);
-        self.mark(caught.is_err());
+        self.note_failed(caught.is_err());
         caught
     }
 }

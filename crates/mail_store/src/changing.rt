@@ -14,6 +14,7 @@ ghost use Rattle.journal_records.specs.declared.limits.TheConstants.{TEXT_MAX};
 ghost use Rattle.journal_records.specs.declared.records.Record.TheVariants as records;
 ghost use Rattle.journal_records.specs.Addresses.{WithPaths, IsSendable, mailbox_key as mailbox_key_of};
 ghost use Rattle.journal_records.specs.Spelling.{record_text};
+ghost use Rattle.journal_records.specs.Stored.{HasMark};
 ghost use Rattle.mail_store.specs.Changing.{Changes, LeavesAll, LeavesKeeper, IsRefusedAs, IsDeliverable, domain_refusal, account_refusal, delivery_refusal, expunge_refusal, flags_refusal, expunged};
 ghost use Rattle.kept_mail.specs.Deliveries.{queued as queued_of, copy_for, inboxes_of, has_many_things, delivered, has_large_octets as has_large_octets_of};
 ghost use Rattle.mail_store.specs.declared.changing.StoreFault.TheVariants as faults;
@@ -24,7 +25,8 @@ use crate::storing::Store;
 use crate::writing::{Named, Progress, write, write_mailbox, write_named, write_parts};
 use address_grammar::{Address, write_address};
 use journal_records::{
-    account_text, domain_key, domain_text, expunge_text, flags_text, mailbox_key, message_front,
+    StoredOctets, account_text, domain_key, domain_text, expunge_text, flags_text, mailbox_key,
+    message_front,
 };
 use kept_mail::{
     Account, Batch, Delivery, Entry, Message, are_live, are_too_many, has_large_octets,
@@ -321,9 +323,19 @@ impl Store {
         }
     }
 
+    // What is kept of a delivery for a local account.
+    fn local_octets(&self, delivery: &Delivery) -> Result<StoredOctets, OutOfMemory>
+        requires { HasMark delivery.now.local_octets delivery.now.local_mark }
+        ensures { IfOk result (λ octets. octets ≡ delivery.now.local_octets) }
+    {
+        let octets = Octets::from_slice(self.alloc, delivery.local_octets.as_slice())?;
+        Ok(StoredOctets::new(octets, delivery.local_mark))
+    }
+
     // The messages that are kept for the local accounts.
     fn copies(&self, delivery: &Delivery) -> Result<Vec<Message>, OutOfMemory>
-        requires { All (λ account. account < length self.now.kept.accounts) delivery.now.local }
+        requires known { All (λ account. account < length self.now.kept.accounts) delivery.now.local }
+        requires marked { HasMark delivery.now.local_octets delivery.now.local_mark }
         ensures { IfOk result (λ copies. copies.items
             ≡ map (copied delivery.now.date delivery.now.local_octets) (inboxes_of self.now.kept delivery.now.local)) }
     {
@@ -334,7 +346,7 @@ impl Store {
                 flags: 0,
                 live: true,
                 date: Octets::from_slice(self.alloc, delivery.date.as_slice())?,
-                octets: Octets::from_slice(self.alloc, delivery.local_octets.as_slice())?,
+                octets: self.local_octets(delivery)?,
             })?;
         }
         Ok(copies)
@@ -345,7 +357,7 @@ impl Store {
         requires known { All (λ account. account < length self.now.kept.accounts) delivery.now.local }
         requires short { HasShortCopies delivery.now }
         ensures { IfOk result (λ fronts. fronts_text fronts.items delivery.now.local_octets
-            ≡ flat_map record_text (map (copy_for delivery.now.date delivery.now.local_octets) (inboxes_of self.now.kept delivery.now.local))) }
+            ≡ flat_map record_text (map (copy_for delivery.now.date delivery.now.local_mark delivery.now.local_octets) (inboxes_of self.now.kept delivery.now.local))) }
     {
         let mut fronts = Vec::new(self.alloc);
         for account in delivery.local.as_slice() {
@@ -354,6 +366,7 @@ impl Store {
                 self.alloc,
                 folder,
                 0,
+                delivery.local_mark,
                 delivery.date.as_slice(),
                 delivery.local_octets.as_slice(),
             )?)?;

@@ -1,5 +1,5 @@
 //! Laws of journals and stores.
-ghost use Rattle.std.specs.Prelude.{◌≡◌, ◌==◌, ◌<◌, ◌≤◌, ℕ, List, ◌++◌, length, map, slice_get, Option, Some, Ok, Err, IfSome};
+ghost use Rattle.std.specs.Prelude.{◌≡◌, ◌⊎◌, ◌==◌, ◌<◌, ◌≤◌, ℕ, List, ◌++◌, length, map, slice_get, Option, Some, Ok, Err, IfSome};
 ghost use Rattle.std.specs.List.{AllByRecursion, IsDistinct};
 ghost use Rattle.std.specs.List.Sorted.{IsStrictlyIncreasing};
 ghost use Rattle.mail_store.specs.declared.changing.StoreFault.{StoreFault};
@@ -10,15 +10,27 @@ ghost use Rattle.mail_store.specs.Catching.{HasReadFirst};
 ghost use Rattle.mail_store.specs.Changing.{IsStoreOf, Changes, HoldsFirst};
 ghost use Rattle.mail_store.specs.Following.{Follows, Breaks};
 ghost use Rattle.kept_mail.specs.Kept.{Kept, listed, uid_next, after_all, IsListedOrNew};
-ghost use Rattle.mail_store.specs.Opening.{HasRecords, IsBadAt};
+ghost use Rattle.mail_store.specs.Answers.{IsToBegin, LeavesRecords, OpensTo, upgraded};
+ghost use Rattle.mail_store.specs.Opening.{HasRecords, HasRecordsIn, IsBadAt};
+ghost use Rattle.journal_records.specs.declared.versions.Version.{Version};
 ghost use Rattle.kept_mail.specs.Records.{IsLive};
 ghost use Rattle.mail_store.specs.StoreState.{StoreState};
 
-/// Octets have their records in one way only, or are bad.
+/// Octets have their records in one way only, in one version, or are bad.
 pub fn one_reading()
     ensures same { (octets : List ℕ) (a b : List Record) → HasRecords octets a → HasRecords octets b → a ≡ b }
+    ensures version { (octets : List ℕ) (first second : Version) (a b : List Record) → HasRecordsIn first octets a → HasRecordsIn second octets b → first ≡ second }
     ensures not_bad { (octets : List ℕ) (a : List Record) (at : ℕ) → HasRecords octets a → IsBadAt octets at → ⊥ }
     ensures one_bad { (octets : List ℕ) (at place : ℕ) → IsBadAt octets at → IsBadAt octets place → at ≡ place }
+{}
+
+/// What opening leaves of octets has their records, after which the record of version 2 may stand; and it appends nothing to what it has opened.
+pub fn opening_settles()
+    ensures left { (old new : List ℕ) (version : Version) (all : List Record) → HasRecordsIn version old all → LeavesRecords (Some old) (Some new)
+        → HasRecordsIn version new all ⊎ HasRecordsIn version new (upgraded version all) }
+    ensures again { (old new : List ℕ) (kept other : Kept) (again : Option (List ℕ)) → OpensTo old (Some new) kept → OpensTo new again other → (again ≡ Some new) × (other ≡ kept) }
+    ensures begun { (old new : List ℕ) (kept : Kept) → OpensTo old (Some new) kept → IsToBegin new → ⊥ }
+    ensures store { (old : List ℕ) (new : Option (List ℕ)) (store : StoreState) → (opens : OpensTo old new store.kept) → IsStoreOf store new opens.all }
 {}
 
 /// After a call that changes a store, the store and the keeper have the new records too; where the keeper failed, it
@@ -56,10 +68,10 @@ pub fn uids_stay()
 /// A store that was opened or changed has what its keeper begins with, whatever others put after that, and also where the keeper
 /// failed in a change: so it catches up with the whole records that are there.
 pub fn stores_catch_up()
-    ensures changed { (old new : StoreState) (had has : Option (List ℕ)) (all more : List Record) → old.end ≡ length (journal all)
-        → Changes {T = Unit {0}} old new had has (Ok tt) more → new.end ≡ length (journal (all ++ more)) }
-    ensures following { (store : StoreState) (octets : List ℕ) (all : List Record) (more : List ℕ) → IsStoreOf store (Some octets) all → store.end ≡ length (journal all)
-        → HasReadFirst store (octets ++ more) all }
-    ensures failed { (old new : StoreState) (had has : Option (List ℕ)) (all more : List Record) → IsStoreOf old had all → old.end ≡ length (journal all)
+    ensures changed { (version : Version) (old new : StoreState) (had has : Option (List ℕ)) (all more : List Record) → old.end ≡ length (journal version all)
+        → Changes {T = Unit {0}} old new had has (Ok tt) more → new.end ≡ length (journal version (all ++ more)) }
+    ensures following { (version : Version) (store : StoreState) (octets : List ℕ) (all : List Record) (more : List ℕ) → IsStoreOf store (Some octets) all
+        → store.end ≡ length (journal version all) → HasReadFirst store (octets ++ more) all }
+    ensures failed { (version : Version) (old new : StoreState) (had has : Option (List ℕ)) (all more : List Record) → IsStoreOf old had all → old.end ≡ length (journal version all)
         → Changes {T = Unit {0}} old new had has (Err StoreFault.Keeper) more → IfSome has (λ octets. HasReadFirst new octets all) }
 {}

@@ -13,6 +13,7 @@ mod queue;
 mod storing;
 mod writing;
 
+pub use appending::Attributes;
 pub use changing::StoreFault;
 pub use opening::OpenFault;
 pub use queue::{Queued, Unsettled};

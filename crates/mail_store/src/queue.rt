@@ -1,5 +1,5 @@
 //! The queue: the entries with a recipient who waits, and recipients that are taken off.
-ghost use Rattle.std.specs.Prelude.{◌≡◌, ◌⊎◌, ◌≤◌, ◌<◌, ◌+◌, ◌∷◌, ◌++◌, [], length, slice_get, IfOk, OnOk, OnErr, IfErr, Some, false, option_map};
+ghost use Rattle.std.specs.Prelude.{◌≡◌, ◌⊎◌, ◌≤◌, ◌<◌, ◌+◌, ◌∷◌, ◌++◌, [], length, slice_get, IfOk, OnOk, OnErr, IfErr, IfSome, Some, false, option_map};
 ghost use Rattle.std.specs.List.{All, AllZip};
 ghost use Rattle.std.specs.Option.{option_to_list};
 ghost use Rattle.std.specs.BTreeMap.{is_at};
@@ -8,7 +8,7 @@ ghost use Rattle.std.specs.Ordering.{nat_cmp};
 ghost use Rattle.mail_wire.specs.Keeping.{HasKeeperCause, one_more};
 ghost use Rattle.journal_records.specs.Addresses.{IsAddressText, IsKeptAddress, IsTextOfAddress};
 ghost use Rattle.journal_records.specs.Spelling.{record_text as record_text_of};
-ghost use Rattle.journal_records.specs.Stored.{IsStored};
+ghost use Rattle.journal_records.specs.Stored.{HasMark, IsStored};
 ghost use Rattle.journal_records.specs.declared.records.Record.TheVariants as records;
 ghost use Rattle.kept_mail.specs.Kept.{change_at, without};
 ghost use Rattle.kept_mail.specs.Records.{IsUnsettled, recipient_count};
@@ -254,6 +254,15 @@ impl Store {
     {
         let entry = &self.entries[entry as usize];
         entry.octets.as_slice()
+    }
+
+    /// The mark of an entry's octets: 1 where an octet above 127 stands in a header block, and 2 where one stands anywhere.
+    pub fn queue_mark(&self, entry: u32) -> u8
+        requires { entry < length self.now.kept.entries }
+        ensures { IfSome (slice_get self.now.kept.entries entry) (λ one. HasMark one.octets result) }
+    {
+        let entry = &self.entries[entry as usize];
+        entry.octets.mark()
     }
 
     /// Takes a recipient off the queue.

@@ -4,19 +4,19 @@ ghost use Rattle.std.specs.List.{All};
 ghost use Rattle.address_grammar.specs.Paths.{ComesInPath};
 ghost use Rattle.kept_mail.specs.declared.limits.TheConstants.{MESSAGE_MAX, THINGS_MAX};
 ghost use Rattle.journal_records.specs.declared.records.Record.TheVariants as records;
-ghost use Rattle.mail_store.specs.private.Adding.{AddsRecord, IsKeyed, IsFolderKeyed, lengthened, marked};
+ghost use Rattle.mail_store.specs.private.Adding.{AddsRecord, CanWait, IsKeyed, IsFolderKeyed, lengthened, ended_at, noted};
 ghost use Rattle.journal_records.specs.Addresses.{WithPaths};
 ghost use Rattle.kept_mail.specs.Kept.{nothing, inbox_of, uid_next, listed, logged_in, find_account, is_local, name_of};
 ghost use Rattle.kept_mail.specs.Records.{IsInOrder};
-ghost use Rattle.journal_records.specs.Stored.{IsStored};
+ghost use Rattle.journal_records.specs.Stored.{HasMark, IsStored};
 
 use crate::names::{Mailboxes, mailbox_number, put_mailbox};
 use crate::queue::{put_next, settle_open};
 use crate::writing::Progress;
 use address_grammar::Address;
 use journal_records::{
-    ReadFault, Record, Texts, are_addresses, domain_key, is_domain_text, is_folder_name,
-    is_path_text, is_stored, mailbox_key, read_text,
+    ReadFault, Record, StoredOctets, Texts, are_addresses, domain_key, is_domain_text,
+    is_folder_name, is_path_text, mailbox_key, read_text,
 };
 use kept_mail::{
     Account, Content, Entry, Folder, Listed, Message, account_fits, are_too_many, folder_key,
@@ -204,14 +204,15 @@ impl Store {
         &mut self,
         folder: u32,
         flags: u8,
+        mark: Option<u8>,
         date: Octets,
         octets: Octets,
     ) -> Result<(), ReadFault>
-        ensures { AddsRecord self.old self.new result (records.Message folder flags date octets) }
+        ensures { AddsRecord self.old self.new result (records.Message folder flags mark date octets) }
     {
-        if !is_stored(self.alloc, octets.as_slice())? {
+        let Some(octets) = StoredOctets::read(self.alloc, octets, mark)? else {
             return Err(ReadFault::NoRecord);
-        }
+        };
         let count = self.messages.len();
         if !message_fits(folder, flags, date.as_slice(), self.folders.len(), count) {
             return Err(ReadFault::NoRecord);
@@ -256,9 +257,9 @@ impl Store {
         Ok(())
     }
 
-    // Whether the texts and the octets of a message that waits are in order, and there is room for it.
-    fn can_wait(&self, path: &[u8], addresses: &[Octets], octets: &[u8]) -> Result<bool, Memory>
-        ensures { IfOk result (λ can. IsTrue can ↔ IsInOrder self.now.kept (records.Queue path.now addresses.now octets.now)) }
+    // Whether the texts of a message that waits are in order, and there is room for it.
+    fn can_wait(&self, path: &[u8], addresses: &[Octets]) -> Result<bool, Memory>
+        ensures { IfOk result (λ can. IsTrue can ↔ CanWait self.now.kept path.now addresses.now) }
     {
         if !has_room(self.entries.len())
             || are_too_many(self.recipients, addresses.len())
@@ -267,7 +268,7 @@ impl Store {
         {
             return Ok(false);
         }
-        is_stored(self.alloc, octets)
+        Ok(true)
     }
 
     // The record of a message that waits is put last.
@@ -275,13 +276,17 @@ impl Store {
         &mut self,
         path: Octets,
         addresses: Texts,
+        mark: Option<u8>,
         octets: Octets,
     ) -> Result<(), ReadFault>
-        ensures { AddsRecord self.old self.new result (records.Queue path addresses octets) }
+        ensures { AddsRecord self.old self.new result (records.Queue path addresses mark octets) }
     {
-        if !self.can_wait(path.as_slice(), addresses.as_slice(), octets.as_slice())? {
+        if !self.can_wait(path.as_slice(), addresses.as_slice())? {
             return Err(ReadFault::NoRecord);
         }
+        let Some(octets) = StoredOctets::read(self.alloc, octets, mark)? else {
+            return Err(ReadFault::NoRecord);
+        };
         let entry = waiting_entry(self.alloc, path, addresses, octets)?;
         put_next(
             &mut self.entries,
@@ -314,17 +319,20 @@ impl Store {
             Record::Message {
                 folder,
                 flags,
+                mark,
                 date,
                 octets,
-            } => self.add_message_record(folder, flags, date, octets),
+            } => self.add_message_record(folder, flags, mark, date, octets),
             Record::Flags { message, flags } => self.add_flags_record(message, flags),
             Record::Expunge { message } => self.add_expunge_record(message),
             Record::Queue {
                 path,
                 addresses,
+                mark,
                 octets,
-            } => self.add_queue_record(path, addresses, octets),
+            } => self.add_queue_record(path, addresses, mark, octets),
             Record::Settle { entry, index } => self.add_settle_record(entry, index),
+            Record::Version => Ok(()),
         }
     }
 
@@ -351,9 +359,16 @@ impl Store {
         self.progress.end += len;
     }
 
+    /// The journal ends there.
+    pub(crate) fn end_at(&mut self, end: u64)
+        ensures { self.new ≡ ended_at self.old end }
+    {
+        self.progress.end = end;
+    }
+
     /// Notes whether the keeper may have other records than the store.
-    pub(crate) fn mark(&mut self, failed: bool)
-        ensures { self.new ≡ marked self.old failed }
+    pub(crate) fn note_failed(&mut self, failed: bool)
+        ensures { self.new ≡ noted self.old failed }
     {
         self.progress.failed = failed;
     }
@@ -428,6 +443,15 @@ impl Store {
     {
         let message = &self.messages[id as usize];
         message.octets.as_slice()
+    }
+
+    /// The mark of a message's octets: 1 where an octet above 127 stands in a header block, and 2 where one stands anywhere.
+    pub fn mark(&self, id: u32) -> u8
+        requires { id < length self.now.kept.messages }
+        ensures { IfSome (slice_get self.now.kept.messages id) (λ message. HasMark message.octets result) }
+    {
+        let message = &self.messages[id as usize];
+        message.octets.mark()
     }
 
     /// A message's date.

@@ -29,8 +29,8 @@ abbrev pub changes_of : StoreState → Delivery → List (List Record)
 changes_of store delivery = unless_refused (delivery_refusal store delivery) (delivered store.kept delivery)
 
 -- the change that puts a message last in a folder
-abbrev pub append_changes : StoreState → (folder flags : ℕ) → (date octets : List ℕ) → List (List Record)
-append_changes store folder flags date octets = unless_refused (append_refusal store octets) (records.Message folder flags date octets ∷ [])
+abbrev pub append_changes : StoreState → (folder flags mark : ℕ) → (date octets : List ℕ) → List (List Record)
+append_changes store folder flags mark date octets = unless_refused (append_refusal store octets) (records.Message folder flags (Some mark) date octets ∷ [])
 
 -- what came of a message that was refused so, or that wasn't
 abbrev pub advance_of : Option StoreFault → Delivered

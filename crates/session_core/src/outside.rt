@@ -19,7 +19,7 @@ ghost use Rattle.session_core.specs.Keeps.{Keeps, fault_of};
 use crate::desk::{Desk, Limits};
 use crate::giving::{Giving, ShownRange, StoredRange};
 use kept_mail::Delivery;
-use mail_store::{Store, StoreFault};
+use mail_store::{Attributes, Store, StoreFault};
 use mail_wire::{
     Clock, Fault, Keeper, Memory, Octets, Span, Wire, date_text, give_all, internal_date,
     take_piece,
@@ -165,18 +165,18 @@ fn append_to<J: Keeper>(
     store: &mut Store,
     keeper: &mut J,
     folder: u32,
-    flags: u8,
+    attributes: Attributes,
     date: &[u8],
     octets: &[u8],
 ) -> Result<Delivered, Fault>
     requires works { store.old.failed ≡ false }
-    requires appendable { IsAppendable store.old folder flags date.now octets.now }
+    requires appendable { IsAppendable store.old folder attributes.flags attributes.mark date.now octets.now }
     ensures advance { IfOk result (λ advance. advance ≡ advance_of (append_refusal store.old octets.now)) }
-    ensures changes { IsChanged store.old store.new (J.observed keeper.old).octets (J.observed keeper.new).octets (fault_of result) (append_changes store.old folder flags date.now octets.now) }
+    ensures changes { IsChanged store.old store.new (J.observed keeper.old).octets (J.observed keeper.new).octets (fault_of result) (append_changes store.old folder attributes.flags attributes.mark date.now octets.now) }
     ensures cause { HasKeeperCause (J.observed keeper.old) (J.observed keeper.new) result Fault.Keeper }
     ensures wire { ¬ (result ≡ Err Fault.Wire) }
 {
-    match store.append(keeper, folder, flags, date, octets) {
+    match store.append(keeper, folder, attributes, date, octets) {
         Ok(_) => Ok(Delivered::Stored),
         Err(StoreFault::TooLarge) => Ok(Delivered::TooLarge),
         Err(StoreFault::Keeper) => Err(Fault::Keeper),
@@ -450,25 +450,25 @@ impl<'w, 'k, 'c, W: Wire, J: Keeper, C: Clock> Outside<'w, 'k, 'c, W, J, C> {
         deliver_to(&mut self.desk.store, self.keeper, delivery)
     }
 
-    /// Puts a message with these flags and this date last in a folder, by one call of the keeper. What the store has no room for it refuses.
+    /// Puts a message with these flags, this mark and this date last in a folder, by one call of the keeper. What the store has no room for it refuses.
     pub fn append(
         &mut self,
         folder: u32,
-        flags: u8,
+        attributes: Attributes,
         date: &[u8],
         octets: &[u8],
     ) -> Result<Delivered, Fault>
         requires opens { IsOpen self.old.desk }
-        requires appendable { IsAppendable self.old.desk.store folder flags date.now octets.now }
+        requires appendable { IsAppendable self.old.desk.store folder attributes.flags attributes.mark date.now octets.now }
         ensures advance { IfOk result (λ advance. advance ≡ advance_of (append_refusal self.old.desk.store octets.now)) }
-        ensures makes { Makes self.old self.new (fault_of result) (append_changes self.old.desk.store folder flags date.now octets.now) }
+        ensures makes { Makes self.old self.new (fault_of result) (append_changes self.old.desk.store folder attributes.flags attributes.mark date.now octets.now) }
         ensures keeps { Keeps self.old self.new (fault_of result) }
     {
         append_to(
             &mut self.desk.store,
             self.keeper,
             folder,
-            flags,
+            attributes,
             date,
             octets,
         )

@@ -4,6 +4,7 @@ mod keys;
 mod messages;
 mod reading;
 mod texts;
+mod versions;
 mod writing;
 
 pub use writing::address_of;

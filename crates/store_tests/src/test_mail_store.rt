@@ -10,6 +10,7 @@ mod changes;
 mod folders;
 mod journals;
 mod queue;
+mod versions;
 
 /// What is tried of a store and its keeper.
 #[derive(Clone, Copy)]

@@ -67,7 +67,16 @@ message_at octets = do
   flags ← octet_at folder.1
   date ← list_at flags.1
   text ← list_at date.1
-  ended_fields (records.Message folder.0 flags.0 date.0 text.0) text.1
+  ended_fields (records.Message folder.0 flags.0 None date.0 text.0) text.1
+
+unfoldable pub marked_message_at : List ℕ → Option Record
+marked_message_at octets = do
+  folder ← number_at octets
+  flags ← octet_at folder.1
+  mark ← octet_at flags.1
+  date ← list_at mark.1
+  text ← list_at date.1
+  ended_fields (records.Message folder.0 flags.0 (Some mark.0) date.0 text.0) text.1
 
 unfoldable pub flags_at : List ℕ → Option Record
 flags_at octets = do
@@ -86,7 +95,16 @@ queue_at octets = do
   count ← number_at path.1
   addresses ← lists_at count.0 count.1
   text ← list_at addresses.1
-  ended_fields (records.Queue path.0 addresses.0 text.0) text.1
+  ended_fields (records.Queue path.0 addresses.0 None text.0) text.1
+
+unfoldable pub marked_queue_at : List ℕ → Option Record
+marked_queue_at octets = do
+  path ← list_at octets
+  count ← number_at path.1
+  addresses ← lists_at count.0 count.1
+  mark ← octet_at addresses.1
+  text ← list_at mark.1
+  ended_fields (records.Queue path.0 addresses.0 (Some mark.0) text.0) text.1
 
 unfoldable pub settle_at : List ℕ → Option Record
 settle_at octets = do
@@ -104,6 +122,9 @@ kind_at kind octets =
     else if kind == 6 then expunge_at octets
     else if kind == 7 then queue_at octets
     else if kind == 8 then settle_at octets
+    else if kind == 9 then marked_message_at octets
+    else if kind == 10 then marked_queue_at octets
+    else if kind == 11 then ended_fields records.Version octets
     else None
 
 unfoldable pub record_at : List ℕ → Option Record

@@ -1,5 +1,5 @@
 //! What octets begin with.
-use journal_records::{Beginning, Frame, beginning_of, frame_of};
+use journal_records::{Beginning, Frame, Version, beginning_of, frame_of};
 use mail_wire::Memory;
 use std::alloc::Global;
 use std::test::Fail;
@@ -48,8 +48,9 @@ const FRONTS: [(&str, &[Front]); 2] = [
         &[
             Front::Beginning(b"", Beginning::Prefix),
             Front::Beginning(b"MAILJNL", Beginning::Prefix),
-            Front::Beginning(b"MAILJNL1", Beginning::Journal),
-            Front::Beginning(b"MAILJNL2", Beginning::Other),
+            Front::Beginning(b"MAILJNL1", Beginning::Journal(Version::One)),
+            Front::Beginning(b"MAILJNL2", Beginning::Journal(Version::Two)),
+            Front::Beginning(b"MAILJNL3", Beginning::Other),
             Front::Beginning(b"mail", Beginning::Other),
         ],
     ),

@@ -32,8 +32,9 @@ enum Written {
     Settle,
     // two messages that are expunged
     Expunged,
-    // a message from the null path that waits for `b` and `cd`
-    Queue,
+    // a message from the null path that waits for `b` and `cd`, and its mark
+    Queue(Option<u8>),
+    Version,
     Domain,
     // a message but for its octets
     MessageFront,
@@ -42,13 +43,14 @@ enum Written {
     Account,
 }
 
-fn queue_text(alloc: Global) -> Result<Octets, Memory> {
+fn queue_text(alloc: Global, mark: Option<u8>) -> Result<Octets, Memory> {
     let mut addresses = Vec::new(alloc);
     addresses.push(Octets::from_slice(alloc, b"b")?)?;
     addresses.push(Octets::from_slice(alloc, b"cd")?)?;
     let queue = Record::Queue {
         path: Octets::new(alloc),
         addresses: Texts::from_vec(addresses),
+        mark,
         octets: Octets::from_slice(alloc, b"x")?,
     };
     Ok(record_text(alloc, &queue)?)
@@ -83,10 +85,11 @@ fn text_of(alloc: Global, what: &Written) -> Result<Octets, Memory> {
         Written::Flags => record_text(alloc, &FLAGS),
         Written::Settle => record_text(alloc, &SETTLE),
         Written::Expunged => expunge_text(alloc, &[2, 258]),
-        Written::Queue => queue_text(alloc),
+        Written::Queue(mark) => queue_text(alloc, *mark),
+        Written::Version => record_text(alloc, &Record::Version),
         Written::Domain => domain_text(alloc, b"example.org"),
-        Written::MessageFront => { message_front(alloc, 1, 9, b"01-Jan-1970 00:00:00 +0000", b"x") }
-        Written::QueueFront => queue_front(alloc, b"p", &[], b"xy"),
+        Written::MessageFront => { message_front(alloc, 1, 9, 2, b"01-Jan-1970 00:00:00 +0000", b"x") }
+        Written::QueueFront => queue_front(alloc, b"p", &[], 3, b"xy"),
         Written::Account => written_account(alloc),
     }
 }
@@ -100,7 +103,7 @@ impl Case for Row {
     }
 }
 
-const ROWS: [(&str, &[Row]); 9] = [
+const ROWS: [(&str, &[Row]); 10] = [
     (
         "a folder is written",
         &[Row(Written::Folder, b"\0\0\0\x0a\x03\0\0\x01\x02\0\0\0\x01f")],
@@ -122,10 +125,20 @@ const ROWS: [(&str, &[Row]); 9] = [
     ),
     (
         "a waiting message is written",
-        &[Row(
-            Written::Queue,
-            b"\0\0\0\x19\x07\0\0\0\0\0\0\0\x02\0\0\0\x01b\0\0\0\x02cd\0\0\0\x01x",
-        )],
+        &[
+            Row(
+                Written::Queue(None),
+                b"\0\0\0\x19\x07\0\0\0\0\0\0\0\x02\0\0\0\x01b\0\0\0\x02cd\0\0\0\x01x",
+            ),
+            Row(
+                Written::Queue(Some(1)),
+                b"\0\0\0\x1a\x0a\0\0\0\0\0\0\0\x02\0\0\0\x01b\0\0\0\x02cd\x01\0\0\0\x01x",
+            ),
+        ],
+    ),
+    (
+        "the beginning of version 2 is written",
+        &[Row(Written::Version, b"\0\0\0\x01\x0b")],
     ),
     (
         "a domain is written",
@@ -135,14 +148,14 @@ const ROWS: [(&str, &[Row]); 9] = [
         "a message is written but for its octets",
         &[Row(
             Written::MessageFront,
-            b"\0\0\0)\x04\0\0\0\x01\x09\0\0\0\x1a01-Jan-1970 00:00:00 +0000\0\0\0\x01",
+            b"\0\0\0*\x09\0\0\0\x01\x09\x02\0\0\0\x1a01-Jan-1970 00:00:00 +0000\0\0\0\x01",
         )],
     ),
     (
         "a waiting message is written but for its octets",
         &[Row(
             Written::QueueFront,
-            b"\0\0\0\x10\x07\0\0\0\x01p\0\0\0\0\0\0\0\x02",
+            b"\0\0\0\x11\x0a\0\0\0\x01p\0\0\0\0\x03\0\0\0\x02",
         )],
     ),
     (

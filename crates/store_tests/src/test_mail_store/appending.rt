@@ -1,8 +1,8 @@
 //! Messages put last in a folder.
 use crate::test_mail_store::{Row, Trial as StoreTrial};
-use journal_records::{is_date, is_stored};
+use journal_records::{is_date, mark_of};
 use kept_mail::Listed;
-use mail_store::{Store, StoreFault};
+use mail_store::{Attributes, Store, StoreFault};
 use mail_wire::{MemKeeper, Memory, Octets};
 use std::alloc::Global;
 use std::test::Fail;
@@ -10,15 +10,15 @@ use test_mail::{NEVER, all_hold, keeper_of};
 
 // A domain, an account of it, and a second folder of this.
 const BEGUN: [u8; 62] =
-    *b"MAILJNL1\0\0\0\x0a\x02\0\0\0\x05x.org\0\0\0\x12\x01\0\0\0\x07a@x.org\0\0\0\x02pw\0\0\0\x0e\x03\0\0\0\0\0\0\0\x05caf\xc3\xa9";
+    *b"MAILJNL2\0\0\0\x0a\x02\0\0\0\x05x.org\0\0\0\x12\x01\0\0\0\x07a@x.org\0\0\0\x02pw\0\0\0\x0e\x03\0\0\0\0\0\0\0\x05caf\xc3\xa9";
 
 const SUBJECT: [u8; 19] = *b"Subject: \xc3\xa9\r\n\r\n.x\r\n";
 
 const DATE: [u8; 26] = *b" 1-Jan-1970 00:00:00 +0000";
 
 // The record of the message in the second folder, which is Seen and a Draft.
-const APPENDED: [u8; 63] =
-    *b"\0\0\0;\x04\0\0\0\x01\x11\0\0\0\x1a 1-Jan-1970 00:00:00 +0000\0\0\0\x13Subject: \xc3\xa9\r\n\r\n.x\r\n";
+const APPENDED: [u8; 64] =
+    *b"\0\0\0<\x09\0\0\0\x01\x11\x03\0\0\0\x1a 1-Jan-1970 00:00:00 +0000\0\0\0\x13Subject: \xc3\xa9\r\n\r\n.x\r\n";
 
 // What is put last in a folder.
 #[derive(Clone, Copy)]
@@ -36,7 +36,7 @@ fn appends(
     given: Given,
     answer: Result<u32, StoreFault>,
 ) -> bool {
-    let Ok(true) = is_stored(alloc, given.octets) else {
+    let Ok(Some(mark)) = mark_of(alloc, given.octets) else {
         return false;
     };
     if store.failed() || given.folder as usize >= store.folder_count() || given.flags >= 32 {
@@ -45,7 +45,11 @@ fn appends(
     if !is_date(&DATE) {
         return false;
     }
-    store.append(keeper, given.folder, given.flags, &DATE, given.octets) == answer
+    let attributes = Attributes {
+        flags: given.flags,
+        mark,
+    };
+    store.append(keeper, given.folder, attributes, &DATE, given.octets) == answer
 }
 
 // Whether a folder has these messages.
@@ -93,6 +97,7 @@ fn are_listed(store: &Store) -> bool {
         && lists(store, 0, &INBOX)
         && store.message_count() > 0
         && store.octets(0) == SUBJECT.as_slice()
+        && store.mark(0) == 3
         && store.date(0) == DATE.as_slice()
 }
 
@@ -165,7 +170,7 @@ fn takes_large(
 fn is_limited(store: &mut Store, keeper: &mut MemKeeper, alloc: Global) -> bool {
     takes_large(store, keeper, alloc, b"x", Err(StoreFault::TooLarge))
         && takes_large(store, keeper, alloc, b"", Ok(1))
-        && keeper.octets().len() == BEGUN.len() + 44 + 1000
+        && keeper.octets().len() == BEGUN.len() + 45 + 1000
         && store.message_count() == 1
 }
 

@@ -7,14 +7,14 @@ use std::alloc::Global;
 use std::test::Fail;
 use test_mail::{NEVER, all_hold, failing, keeper_of_parts};
 
-const BEGUN: [u8; 28] = *b"MAILJNL1\0\0\0\x10\x02\0\0\0\x0bexample.org";
+const BEGUN: [u8; 28] = *b"MAILJNL2\0\0\0\x10\x02\0\0\0\x0bexample.org";
 
 const ACCOUNT: [u8; 30] = *b"\0\0\0\x1a\x01\0\0\0\x0fann@example.org\0\0\0\x02pw";
 
 const FOLDER: [u8; 18] = *b"\0\0\0\x0e\x03\0\0\0\0\0\0\0\x05caf\xc3\xa9";
 
-const MESSAGE: [u8; 69] =
-    *b"\0\0\0A\x04\0\0\0\0\0\0\0\0\x1a01-Jan-1970 00:00:00 +0000\0\0\0\x19Subject: caf\xc3\xa9 bar\r\n\r\nx\r\n";
+const MESSAGE: [u8; 70] =
+    *b"\0\0\0B\x09\0\0\0\0\0\x03\0\0\0\x1a01-Jan-1970 00:00:00 +0000\0\0\0\x19Subject: caf\xc3\xa9 bar\r\n\r\nx\r\n";
 
 // A message of a folder that isn't there.
 const BAD: [u8; 9] = *b"\0\0\0\x05\x06\0\0\0\x09";
@@ -64,7 +64,7 @@ const ALL: [&[u8]; 4] = [&BEGUN, &ACCOUNT, &FOLDER, &MESSAGE];
 fn reads_others(store: &mut Store, alloc: Global) -> bool {
     catches(store, alloc, &TWO, 76, Ok(()))
         && has(store, 1, 2, 0)
-        && catches(store, alloc, &ALL, 145, Ok(()))
+        && catches(store, alloc, &ALL, 146, Ok(()))
         && has(store, 1, 2, 1)
         && store.find_folder(0, "caf\u{e9}") == Ok(Some(1))
 }
@@ -81,7 +81,7 @@ fn reads_once(store: &mut Store, alloc: Global) -> bool {
 
 // Whether a record that was broken off is cut off.
 fn cuts_off(store: &mut Store, alloc: Global) -> bool {
-    let parts = [BEGUN.as_slice(), &ACCOUNT, &MESSAGE[..68]];
+    let parts = [BEGUN.as_slice(), &ACCOUNT, &MESSAGE[..69]];
     catches(store, alloc, &parts, 58, Ok(())) && has(store, 1, 1, 0)
 }
 
@@ -98,7 +98,7 @@ fn tells_bad(store: &mut Store, alloc: Global) -> bool {
     let bad = Err(OpenFault::BadJournal { at: 58 });
     catches(store, alloc, &[&BEGUN, &ACCOUNT, &BAD], 67, bad)
         && has(store, 1, 1, 0)
-        && catches(store, alloc, &MAILBOX, 127, Ok(()))
+        && catches(store, alloc, &MAILBOX, 128, Ok(()))
         && has(store, 1, 1, 1)
 }
 
@@ -107,7 +107,7 @@ const BROKEN_OFF: [&[u8]; 4] = [&BEGUN, &ACCOUNT, &MESSAGE, b"\0\0"];
 // Whether a store catches up once more where this call of the keeper failed.
 fn goes_on_after(store: &mut Store, alloc: Global, call: u64) -> bool {
     answers(store, alloc, &BROKEN_OFF, call, Err(OpenFault::Keeper))
-        && catches(store, alloc, &BROKEN_OFF, 127, Ok(()))
+        && catches(store, alloc, &BROKEN_OFF, 128, Ok(()))
         && has(store, 1, 1, 1)
 }
 

@@ -3,13 +3,13 @@ ghost use Rattle.std.specs.Prelude.{◌<◌, ◌≤◌, IfOk, IfSome, IsTrue, le
 ghost use Rattle.std.specs.List.{All};
 ghost use Rattle.journal_records.specs.Addresses.{IsSendable};
 ghost use Rattle.journal_records.specs.Grammar.{IsDate};
-ghost use Rattle.journal_records.specs.Stored.{IsStored};
+ghost use Rattle.journal_records.specs.Stored.{HasMark};
 ghost use Rattle.kept_mail.specs.declared.limits.TheConstants.{RECIPIENTS_MAX};
 
 use crate::test_journal_records::address_of;
 use crate::test_mail_store::{Row, Trial as StoreTrial};
 use ace_domains::normal;
-use journal_records::{is_date, is_stored};
+use journal_records::{is_date, mark_of};
 use kept_mail::{Addresses, Delivery, Numbers};
 use mail_store::{Store, StoreFault};
 use mail_wire::{MemKeeper, Octets};
@@ -23,7 +23,7 @@ const DATE: [u8; 26] = *b"01-Jan-1970 00:00:00 +0000";
 
 // A domain, and an account of it.
 const BEGUN: [u8; 44] =
-    *b"MAILJNL1\0\0\0\x0a\x02\0\0\0\x05x.org\0\0\0\x12\x01\0\0\0\x07a@x.org\0\0\0\x02pw";
+    *b"MAILJNL2\0\0\0\x0a\x02\0\0\0\x05x.org\0\0\0\x12\x01\0\0\0\x07a@x.org\0\0\0\x02pw";
 
 // Whether adding a domain answers this.
 fn adds_domain(
@@ -59,13 +59,13 @@ fn adds_account(
     store.add_account(keeper, &address, b"pw") == answer
 }
 
-// Octets that have a tree.
-fn message(alloc: Global) -> Option<Octets>
-    ensures { IfSome result IsStored }
+// Octets that have a tree, and their mark.
+fn message(alloc: Global) -> Option<(Octets, u8)>
+    ensures { IfSome result (λ made. HasMark made.0 made.1) }
 {
     let octets = Octets::from_slice(alloc, &SUBJECT).ok()?;
-    match is_stored(alloc, octets.as_slice()) {
-        Ok(true) => Some(octets),
+    match mark_of(alloc, octets.as_slice()) {
+        Ok(Some(mark)) => Some((octets, mark)),
         _ => None,
     }
 }
@@ -109,18 +109,22 @@ fn elsewhere(alloc: Global) -> Option<Addresses>
 // A message that comes from `b@y.org` and is for these accounts and for `c@z.org`.
 fn delivery(alloc: Global, accounts: &[u32]) -> Option<Delivery>
     ensures path { IfSome result (λ made. IfSome made.path IsSendable) }
-    ensures local_tree { IfSome result (λ made. IsStored made.local_octets) }
+    ensures local_marked { IfSome result (λ made. HasMark made.local_octets made.local_mark) }
     ensures addresses { IfSome result (λ made. All IsSendable made.remote) }
     ensures few { IfSome result (λ made. length made.remote ≤ RECIPIENTS_MAX) }
-    ensures remote_tree { IfSome result (λ made. IsStored made.remote_octets) }
+    ensures remote_marked { IfSome result (λ made. HasMark made.remote_octets made.remote_mark) }
     ensures dated { IfSome result (λ made. IsDate made.date) }
 {
+    let (local_octets, local_mark) = message(alloc)?;
+    let (remote_octets, remote_mark) = message(alloc)?;
     Some(Delivery {
         path: Some(address_of(alloc, b"b@y.org")?),
         local: numbers_of(alloc, accounts)?,
-        local_octets: message(alloc)?,
+        local_octets,
+        local_mark,
         remote: elsewhere(alloc)?,
-        remote_octets: message(alloc)?,
+        remote_octets,
+        remote_mark,
         date: date(alloc)?,
     })
 }
@@ -228,8 +232,8 @@ fn begins(store: &mut Store, keeper: &mut MemKeeper, alloc: Global) -> bool {
 }
 
 // The records of a message for the first two accounts and for the recipient elsewhere.
-const DELIVERED: [u8; 180] =
-    *b"\0\0\0;\x04\0\0\0\0\0\0\0\0\x1a01-Jan-1970 00:00:00 +0000\0\0\0\x13Subject: \xc3\xa9\r\n\r\n.x\r\n\0\0\0;\x04\0\0\0\x01\0\0\0\0\x1a01-Jan-1970 00:00:00 +0000\0\0\0\x13Subject: \xc3\xa9\r\n\r\n.x\r\n\0\0\02\x07\0\0\0\x07b@y.org\0\0\0\x01\0\0\0\x07c@z.org\0\0\0\x13Subject: \xc3\xa9\r\n\r\n.x\r\n";
+const DELIVERED: [u8; 183] =
+    *b"\0\0\0<\x09\0\0\0\0\0\x03\0\0\0\x1a01-Jan-1970 00:00:00 +0000\0\0\0\x13Subject: \xc3\xa9\r\n\r\n.x\r\n\0\0\0<\x09\0\0\0\x01\0\x03\0\0\0\x1a01-Jan-1970 00:00:00 +0000\0\0\0\x13Subject: \xc3\xa9\r\n\r\n.x\r\n\0\0\03\x0a\0\0\0\x07b@y.org\0\0\0\x01\0\0\0\x07c@z.org\x03\0\0\0\x13Subject: \xc3\xa9\r\n\r\n.x\r\n";
 
 // Whether the message is delivered to two accounts, and only its records are written.
 fn is_written_for_two(store: &mut Store, keeper: &mut MemKeeper, alloc: Global) -> bool {

@@ -9,14 +9,14 @@ use test_mail::{NEVER, all_hold};
 
 // A domain, and an account of it.
 const BEGUN: [u8; 44] =
-    *b"MAILJNL1\0\0\0\x0a\x02\0\0\0\x05x.org\0\0\0\x12\x01\0\0\0\x07a@x.org\0\0\0\x02pw";
+    *b"MAILJNL2\0\0\0\x0a\x02\0\0\0\x05x.org\0\0\0\x12\x01\0\0\0\x07a@x.org\0\0\0\x02pw";
 
 // A folder of it, whose name has one character with an accent.
 const FOLDER: [u8; 18] = *b"\0\0\0\x0e\x03\0\0\0\0\0\0\0\x05caf\xc3\xa9";
 
 // A message in its INBOX.
-const MESSAGE: [u8; 63] =
-    *b"\0\0\0;\x04\0\0\0\0\0\0\0\0\x1a01-Jan-1970 00:00:00 +0000\0\0\0\x13Subject: \xc3\xa9\r\n\r\n.x\r\n";
+const MESSAGE: [u8; 64] =
+    *b"\0\0\0<\x09\0\0\0\0\0\x03\0\0\0\x1a01-Jan-1970 00:00:00 +0000\0\0\0\x13Subject: \xc3\xa9\r\n\r\n.x\r\n";
 
 // Its flags are Seen and Draft.
 const FLAGS: [u8; 10] = *b"\0\0\0\x06\x05\0\0\0\0\x11";

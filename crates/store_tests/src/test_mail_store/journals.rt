@@ -6,18 +6,29 @@ use std::alloc::Global;
 use std::test::Fail;
 use test_mail::{Case, NEVER, all_hold, failing, keeper_of_parts};
 
-const FIRST: [u8; 8] = *b"MAILJNL1";
+const FIRST: [u8; 8] = *b"MAILJNL2";
 
 const DOMAIN: [u8; 20] = *b"\0\0\0\x10\x02\0\0\0\x0bexample.org";
 
 const ACCOUNT: [u8; 30] = *b"\0\0\0\x1a\x01\0\0\0\x0fann@example.org\0\0\0\x02pw";
 
-const MESSAGE: [u8; 69] =
+const MESSAGE: [u8; 70] =
+    *b"\0\0\0B\x09\0\0\0\0\0\x03\0\0\0\x1a01-Jan-1970 00:00:00 +0000\0\0\0\x19Subject: caf\xc3\xa9 bar\r\n\r\nx\r\n";
+
+// The same without its mark, and with another.
+const PLAIN: [u8; 69] =
     *b"\0\0\0A\x04\0\0\0\0\0\0\0\0\x1a01-Jan-1970 00:00:00 +0000\0\0\0\x19Subject: caf\xc3\xa9 bar\r\n\r\nx\r\n";
 
+const MISMARKED: [u8; 70] =
+    *b"\0\0\0B\x09\0\0\0\0\0\x02\0\0\0\x1a01-Jan-1970 00:00:00 +0000\0\0\0\x19Subject: caf\xc3\xa9 bar\r\n\r\nx\r\n";
+
+const VERSION: [u8; 5] = *b"\0\0\0\x01\x0b";
+
+const OLD: [u8; 8] = *b"MAILJNL1";
+
 // One whose first line is no field.
-const NO_MESSAGE: [u8; 47] =
-    *b"\0\0\0+\x04\0\0\0\0\0\0\0\0\x1a01-Jan-1970 00:00:00 +0000\0\0\0\x03x\r\n";
+const NO_MESSAGE: [u8; 48] =
+    *b"\0\0\0,\x09\0\0\0\0\0\0\0\0\0\x1a01-Jan-1970 00:00:00 +0000\0\0\0\x03x\r\n";
 
 const SUBJECT: [u8; 25] = *b"Subject: caf\xc3\xa9 bar\r\n\r\nx\r\n";
 
@@ -49,6 +60,7 @@ fn has_message(store: &Store) -> bool {
         && store.uid_next(folder) == 2
         && store.octets(one.id) == SUBJECT.as_slice()
         && store.date(one.id) == DATE.as_slice()
+        && store.mark(one.id) == 3
 }
 
 // Whether the store has this name, and so many accounts and messages.
@@ -91,11 +103,23 @@ const CUT: [u8; 29] = *b"\0\0\0\x1a\x01\0\0\0\x0fann@example.org\0\0\0\x02p";
 const ROWS: [(&str, &[Row]); 4] = [
     (
         "a mailbox is there again",
-        &[Row {
-            parts: &[&FIRST, &DOMAIN, &ACCOUNT, &MESSAGE],
-            call: NEVER,
-            trial: StoreTrial::Read(Held::Mailbox),
-        }],
+        &[
+            Row {
+                parts: &[&FIRST, &DOMAIN, &ACCOUNT, &MESSAGE],
+                call: NEVER,
+                trial: StoreTrial::Read(Held::Mailbox),
+            },
+            Row {
+                parts: &[&OLD, &DOMAIN, &ACCOUNT, &PLAIN],
+                call: NEVER,
+                trial: StoreTrial::Read(Held::Mailbox),
+            },
+            Row {
+                parts: &[&OLD, &DOMAIN, &ACCOUNT, &VERSION, &MESSAGE],
+                call: NEVER,
+                trial: StoreTrial::Read(Held::Mailbox),
+            },
+        ],
     ),
     (
         "an empty keeper gets a journal",
@@ -148,7 +172,50 @@ impl Case for Refused {
 // The journal of a domain, and a record that was broken off.
 const BROKEN_OFF: [&[u8]; 3] = [&FIRST, &DOMAIN, b"\0\0\0"];
 
-const REFUSED: [(&str, &[Refused]); 4] = [
+const REFUSED: [(&str, &[Refused]); 6] = [
+    (
+        "a record of another version is bad",
+        &[
+            Refused {
+                parts: &[&FIRST, &VERSION],
+                call: NEVER,
+                fault: Some(OpenFault::BadJournal { at: 8 }),
+            },
+            Refused {
+                parts: &[&OLD, &VERSION, &VERSION],
+                call: NEVER,
+                fault: Some(OpenFault::BadJournal { at: 13 }),
+            },
+            Refused {
+                parts: &[&FIRST, &ACCOUNT, &PLAIN],
+                call: NEVER,
+                fault: Some(OpenFault::BadJournal { at: 38 }),
+            },
+            Refused {
+                parts: &[&OLD, &ACCOUNT, &MESSAGE],
+                call: NEVER,
+                fault: Some(OpenFault::BadJournal { at: 38 }),
+            },
+            Refused {
+                parts: &[&OLD, &ACCOUNT, &VERSION, &PLAIN],
+                call: NEVER,
+                fault: Some(OpenFault::BadJournal { at: 43 }),
+            },
+            Refused {
+                parts: &[b"MAILJNL3"],
+                call: NEVER,
+                fault: Some(OpenFault::BadJournal { at: 0 }),
+            },
+        ],
+    ),
+    (
+        "a mark that isn't that of the octets is bad",
+        &[Refused {
+            parts: &[&FIRST, &ACCOUNT, &MISMARKED],
+            call: NEVER,
+            fault: Some(OpenFault::BadJournal { at: 38 }),
+        }],
+    ),
     (
         "octets without a tree are no message",
         &[Refused {

@@ -13,12 +13,12 @@ use test_mail::{NEVER, all_hold, keeper_of};
 
 // A message without a path for `c@z.org`, who is settled, and `d@z.org`; one of `b@y.org` for an address in UTF-8; and one for
 // `c@z.org`, who is settled.
-const QUEUE: [u8; 194] =
-    *b"MAILJNL1\0\0\x006\x07\0\0\0\0\0\0\0\x02\0\0\0\x07c@z.org\0\0\0\x07d@z.org\0\0\0\x13Subject: \xc3\xa9\r\n\r\n.x\r\n\0\0\x003\x07\0\0\0\x07b@y.org\0\0\0\x01\0\0\0\x08\xc3\xa9@z.org\0\0\0\x13Subject: \xc3\xa9\r\n\r\n.x\r\n\0\0\x00+\x07\0\0\0\0\0\0\0\x01\0\0\0\x07c@z.org\0\0\0\x13Subject: \xc3\xa9\r\n\r\n.x\r\n\0\0\0\x09\x08\0\0\0\0\0\0\0\0\0\0\0\x09\x08\0\0\0\x02\0\0\0\0";
+const QUEUE: [u8; 197] =
+    *b"MAILJNL2\0\0\x007\x0a\0\0\0\0\0\0\0\x02\0\0\0\x07c@z.org\0\0\0\x07d@z.org\x03\0\0\0\x13Subject: \xc3\xa9\r\n\r\n.x\r\n\0\0\x004\x0a\0\0\0\x07b@y.org\0\0\0\x01\0\0\0\x08\xc3\xa9@z.org\x03\0\0\0\x13Subject: \xc3\xa9\r\n\r\n.x\r\n\0\0\x00,\x0a\0\0\0\0\0\0\0\x01\0\0\0\x07c@z.org\x03\0\0\0\x13Subject: \xc3\xa9\r\n\r\n.x\r\n\0\0\0\x09\x08\0\0\0\0\0\0\0\0\0\0\0\x09\x08\0\0\0\x02\0\0\0\0";
 
 // A message for `c@z.org`, `d@z.org` and `e@z.org`, and one for `c@z.org`.
-const THREE: [u8; 124] =
-    *b"MAILJNL1\0\0\0A\x07\0\0\0\0\0\0\0\x03\0\0\0\x07c@z.org\0\0\0\x07d@z.org\0\0\0\x07e@z.org\0\0\0\x13Subject: \xc3\xa9\r\n\r\n.x\r\n\0\0\0+\x07\0\0\0\0\0\0\0\x01\0\0\0\x07c@z.org\0\0\0\x13Subject: \xc3\xa9\r\n\r\n.x\r\n";
+const THREE: [u8; 126] =
+    *b"MAILJNL2\0\0\0B\x0a\0\0\0\0\0\0\0\x03\0\0\0\x07c@z.org\0\0\0\x07d@z.org\0\0\0\x07e@z.org\x03\0\0\0\x13Subject: \xc3\xa9\r\n\r\n.x\r\n\0\0\0,\x0a\0\0\0\0\0\0\0\x01\0\0\0\x07c@z.org\x03\0\0\0\x13Subject: \xc3\xa9\r\n\r\n.x\r\n";
 
 const TWO_WAIT: &[u8] = b"0 <> 1 d@z.org;1 <b@y.org> 0 \xc3\xa9@z.org;";
 
@@ -67,7 +67,7 @@ fn have_octets(store: &Store, queue: &[Queued]) -> bool
     requires { All (λ one. one.entry < length store.now.kept.entries) queue.now }
 {
     for one in queue {
-        if store.queue_octets(one.entry) != SUBJECT.as_slice() {
+        if store.queue_octets(one.entry) != SUBJECT.as_slice() || store.queue_mark(one.entry) != 3 {
             return false;
         }
     }

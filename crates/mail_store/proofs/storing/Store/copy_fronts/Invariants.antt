@@ -7,4 +7,4 @@ use Rattle.mail_store.proofs.storing.Store.copy_fronts.Given as goal
 
 abbrev pub invariant-loop-account : goal.invariant-loop-account
 invariant-loop-account l =
-    fronts_text l.fronts.items l.delivery.local_octets ≡ flat_map record_text (map (copy_for l.delivery.date l.delivery.local_octets) (inboxes_of l.self.kept (take l.account-index l.account-items)))
+    fronts_text l.fronts.items l.delivery.local_octets ≡ flat_map record_text (map (copy_for l.delivery.date l.delivery.local_mark l.delivery.local_octets) (inboxes_of l.self.kept (take l.account-index l.account-items)))

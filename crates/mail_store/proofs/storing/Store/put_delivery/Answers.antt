@@ -1,3 +1,4 @@
+use Rattle.journal_records.specs.declared.versions.Version.TheVariants as versions
 use Rattle.std.proofs.Common.{◌≡◌, ℕ, None, ap₂, ◌<◌, List, ◌++◌, length, map, sym, ap, subst, ◌∙◌}
 use Rattle.std.specs.List.{All}
 use Rattle.std.specs.Option.{option_to_list}
@@ -47,7 +48,7 @@ invariant_of-self-in-Ok g c =
     record {
       indexes = AreIndexes-delivered (kept_of c.self.inside) (indexes_of c.self.inside) c.self.inside.message_max delivery batch.copies.items entry.0 batch.waiting.entry
           c.put_batch.new.messages.items c.put_batch.new.entries.items c.put_batch.new.contents.items c.put_batch.new.previous.items c.put_batch.new.recipients c.open_next.new.counts.entries
-          c.self.invariant.indexes c.requires.deliverable.local_tree c.requires.deliverable.dated small copies entry.1 entry.2 messages entries
+          c.self.invariant.indexes (record { entities = c.requires.deliverable.local_marked.entities; tree = c.requires.deliverable.local_marked.tree }) c.requires.deliverable.dated small copies entry.1 entry.2 messages entries
           c.put_batch.ensures.chained c.put_batch.ensures.count c.put_batch.ensures.recipients
           (entry-kept (state_of c.self.inside) delivery entry.0 batch.waiting.entry deliverable entry.1 entry.2) counts;
       message_bound = c.self.invariant.message_bound;
@@ -73,7 +74,7 @@ returns-in-Ok-clause-changes g c =
     let n = ap (λ k. let s : StoreState = record { kept = k; message_max = c.self.inside.message_max; failed = c.write_delivery-written.new.progress.failed; end = c.write_delivery-written.new.progress.end } in s) (kept ∙ ap (after_all old.kept) all) in
     let written = c.in-Ok.ensures.writes in
     changes-written c.args.self.now old c.write_delivery-written.new.progress _ (g.J.Keeper.observed c.args.keeper.now).octets (g.J.Keeper.observed c.write_delivery-written.new.keeper).octets (delivered c.args.self.now.kept delivery)
-    octets c.self.view_is (subst (AreRecords old.kept) all them) text written.0 written.1 n
+    octets c.self.view_is (subst (AreRecords versions.Two old.kept) all them) text written.0 written.1 n
 
 pub returns-in-Err-clause-changes : goal.returns-in-Err-clause-changes
 returns-in-Err-clause-changes g c =
@@ -89,4 +90,4 @@ returns-in-Err-clause-changes g c =
     let n = ap₂ (λ m e. let s : StoreState = record { kept = record (kept_of c.self.inside) { messages = m; entries = e }; message_max = c.self.inside.message_max; failed = c.write_delivery-written.new.progress.failed; end = c.write_delivery-written.new.progress.end } in s)
     c.in-Err.ensures.messages c.in-Err.ensures.entries in
     changes-unwritten (Unit {0}) c.args.self.now old _ c.write_delivery-written.new.progress (g.J.Keeper.observed c.args.keeper.now).octets (g.J.Keeper.observed c.write_delivery-written.new.keeper).octets
-    c.in-Err.fault (delivered c.args.self.now.kept delivery) octets c.self.view_is (subst (AreRecords old.kept) all them) text n c.in-Err.ensures.writes
+    c.in-Err.fault (delivered c.args.self.now.kept delivery) octets c.self.view_is (subst (AreRecords versions.Two old.kept) all them) text n c.in-Err.ensures.writes

@@ -1,3 +1,4 @@
+use Rattle.journal_records.specs.declared.versions.Version.TheVariants as versions
 use Rattle.std.proofs.Common.{◌≡◌, ℕ, ◌∷◌, [], None, length, refl, sym, ap, ap₂, subst, ◌∙◌}
 use Rattle.std.proofs.lemmas.Result.{err_from_is_err_and}
 use Rattle.address_grammar.proofs.WritingLemmas.{path_again}
@@ -41,7 +42,7 @@ returns-in_err-write_mailbox-clause-changes g c =
     let room = room_for (kept_of c.self.inside) c.requires.address.domain taken in
     let one = records.Account own.address own.password in
     let text = text-one one named.text c.requires.text_is in
-    let them = subst (λ a. AreRecords (kept_of c.self.inside) (records.Account a own.password ∷ [])) (sym c.requires.own_is)
+    let them = subst (λ a. AreRecords versions.Two (kept_of c.self.inside) (records.Account a own.password ∷ [])) (sym c.requires.own_is)
     (AreRecords-account (kept_of c.self.inside) c.requires.address own.password c.requires.sendable c.requires.short room.0 room.1) in
     let n = ap₂ (λ a f. let s : StoreState = record { kept = record (kept_of c.self.inside) { accounts = a; folders = f }; message_max = c.self.inside.message_max; failed = c.write_mailbox.new.progress.failed; end = c.write_mailbox.new.progress.end } in s)
     c.in_ok-inbox.ensures.accounts c.in_ok-inbox.ensures.folders in
@@ -91,7 +92,7 @@ returns-clause-changes g c =
     let room = room_for (kept_of c.self.inside) c.requires.address.domain taken in
     let one = records.Account own.address own.password in
     let text = text-one one named.text c.requires.text_is in
-    let them = subst (λ a. AreRecords (kept_of c.self.inside) (records.Account a own.password ∷ [])) (sym c.requires.own_is)
+    let them = subst (λ a. AreRecords versions.Two (kept_of c.self.inside) (records.Account a own.password ∷ [])) (sym c.requires.own_is)
     (AreRecords-account (kept_of c.self.inside) c.requires.address own.password c.requires.sendable c.requires.short room.0 room.1) in
     let n = account_after (state_of c.self.inside) c.write_mailbox.new.progress own own.address own.password c.in_ok-inbox.inbox
     c.put_account.new.accounts.items c.put_account.new.folders.items refl refl c.in_ok-inbox.ensures.name

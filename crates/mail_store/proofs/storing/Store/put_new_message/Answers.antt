@@ -1,4 +1,4 @@
-use Rattle.std.proofs.Common.{◌≡◌, ℕ, List, [], ◌∷◌, ◌++◌, None, subst, sym, ap, ◌∙◌, arith}
+use Rattle.std.proofs.Common.{◌≡◌, ℕ, List, [], ◌∷◌, ◌++◌, Some, None, subst, sym, ap, ◌∙◌, arith}
 use Rattle.std.proofs.lemmas.Result.{err_from_is_err_and}
 use Rattle.journal_records.specs.declared.records.Record.TheVariants as records
 use Rattle.kept_mail.specs.declared.kept.Message.{Message}
@@ -16,10 +16,10 @@ returns-in_err-write_message-clause-changes g c =
     let failed = err_from_is_err_and c.from_residual.result c.from_residual.ensures.1 in
     let own = c.args.made.own in
     let old = state_of c.self.inside in
-    let one = records.Message own.folder own.flags own.date own.octets in
-    let appendable = subst (λ s. IsAppendable s own.folder own.flags own.date own.octets) (sym c.self.view_is) c.requires.appendable in
+    let one = records.Message own.folder own.flags (Some c.args.made.mark) own.date own.octets in
+    let appendable = subst (λ s. IsAppendable s own.folder own.flags c.args.made.mark own.date own.octets) (sym c.self.view_is) c.requires.appendable in
     let taken = subst (λ s. append_refusal s own.octets ≡ None) (sym c.self.view_is) c.requires.taken in
-    let them = AreRecords-message old (indexes_of c.self.inside) own.folder own.flags own.date own.octets c.self.invariant.indexes c.self.invariant.message_bound appendable taken in
+    let them = AreRecords-message old (indexes_of c.self.inside) own.folder own.flags c.args.made.mark own.date own.octets c.self.invariant.indexes c.self.invariant.message_bound appendable taken in
     let n = ap (λ m. let s : StoreState = record { kept = record (kept_of c.self.inside) { messages = m }; message_max = c.self.inside.message_max; failed = c.write_message.new.progress.failed; end = c.write_message.new.progress.end } in s)
     c.in_err-write_message.ensures.messages in
     rw (failed.1, failed.2)
@@ -35,7 +35,7 @@ invariant_of-self-2 g c =
     let chained = subst (λ (l : List Message). AreChained l c.put_message.new.contents.items c.put_message.new.previous.items) messages c.put_message.ensures.chained in
     record {
       indexes = rw messages (AreIndexes-messages (kept_of c.self.inside) (indexes_of c.self.inside) (own ∷ []) c.put_message.new.contents.items c.put_message.new.previous.items c.self.invariant.indexes
-          (AreStored-one own c.requires.appendable.tree c.requires.appendable.dated) (omega (arith, room)) chained c.put_message.ensures.count);
+          (AreStored-one own (record { entities = c.requires.appendable.marked.entities; tree = c.requires.appendable.marked.tree }) c.requires.appendable.dated) (omega (arith, room)) chained c.put_message.ensures.count);
       message_bound = c.self.invariant.message_bound;
     }
 
@@ -43,10 +43,10 @@ pub returns-clause-changes : goal.returns-clause-changes
 returns-clause-changes g c =
     let own = c.args.made.own in
     let old = state_of c.self.inside in
-    let one = records.Message own.folder own.flags own.date own.octets in
-    let appendable = subst (λ s. IsAppendable s own.folder own.flags own.date own.octets) (sym c.self.view_is) c.requires.appendable in
+    let one = records.Message own.folder own.flags (Some c.args.made.mark) own.date own.octets in
+    let appendable = subst (λ s. IsAppendable s own.folder own.flags c.args.made.mark own.date own.octets) (sym c.self.view_is) c.requires.appendable in
     let taken = subst (λ s. append_refusal s own.octets ≡ None) (sym c.self.view_is) c.requires.taken in
-    let them = AreRecords-message old (indexes_of c.self.inside) own.folder own.flags own.date own.octets c.self.invariant.indexes c.self.invariant.message_bound appendable taken in
+    let them = AreRecords-message old (indexes_of c.self.inside) own.folder own.flags c.args.made.mark own.date own.octets c.self.invariant.indexes c.self.invariant.message_bound appendable taken in
     let messages = c.put_message.ensures.messages ∙ ap (λ (l : List Message). l ++ own ∷ []) c.in_ok-write_message.ensures.messages
     ∙ ap (λ (m : Message). c.self.inside.messages.items ++ m ∷ []) c.requires.own_is in
     let n = ap (λ m. let s : StoreState = record { kept = record (kept_of c.self.inside) { messages = m }; message_max = c.self.inside.message_max; failed = c.write_message.new.progress.failed; end = c.write_message.new.progress.end } in s) messages in
