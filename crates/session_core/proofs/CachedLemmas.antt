@@ -42,8 +42,8 @@ rope_still kept next id stored longer same is =
     record { known = omega (arith, is.known, longer); rope = subst (λ (octets : List ℕ). IsStoredOf octets stored) (sym same) is.rope }
 
 rope_next : (kept : Kept) (one : Record) (id : ℕ) (stored : List ℕ) → IsRopeOfKept kept id stored → IsRopeOfKept (after_record kept one) id stored
-rope_next kept (records.Message folder flags date octets) id stored is =
-    rope_still kept (after_record kept (records.Message folder flags date octets)) id stored (rw length-append (omega arith)) (octets_before kept.messages _ id is.known) is
+rope_next kept (records.Message folder flags mark date octets) id stored is =
+    rope_still kept (after_record kept (records.Message folder flags mark date octets)) id stored (rw length-append (omega arith)) (octets_before kept.messages _ id is.known) is
 rope_next kept (records.Flags message flags) id stored is =
     rope_still kept (after_record kept (records.Flags message flags)) id stored (rw (length-change_at (with_flags flags) kept.messages message) (omega arith))
     (octets_changed (with_flags flags) (λ one. refl) kept.messages message id) is
@@ -52,8 +52,9 @@ rope_next kept (records.Expunge message) id stored is =
 rope_next kept (records.Account address password) id stored is = record { known = is.known; rope = is.rope }
 rope_next kept (records.Domain name) id stored is = record { known = is.known; rope = is.rope }
 rope_next kept (records.Folder account name) id stored is = record { known = is.known; rope = is.rope }
-rope_next kept (records.Queue path addresses octets) id stored is = record { known = is.known; rope = is.rope }
+rope_next kept (records.Queue path addresses mark octets) id stored is = record { known = is.known; rope = is.rope }
 rope_next kept (records.Settle entry index) id stored is = record { known = is.known; rope = is.rope }
+rope_next kept records.Version id stored is = is
 
 rope_after : (kept : Kept) (all : List Record) (id : ℕ) (stored : List ℕ) → IsRopeOfKept kept id stored → IsRopeOfKept (after_all kept all) id stored
 rope_after kept [] id stored is = is

@@ -8,10 +8,13 @@ use Rattle.journal_records.specs.declared.records.Record.{Record}
 use Rattle.journal_records.specs.declared.records.Record.TheVariants as records
 use Rattle.journal_records.specs.Grammar.{IsDate}
 use Rattle.journal_records.specs.Stored.{IsStored}
+use Rattle.journal_records.specs.Versions.{version_after}
+use Rattle.journal_records.specs.declared.versions.Version.{Version}
+use Rattle.journal_records.specs.declared.versions.Version.TheVariants as versions
 use Rattle.kept_mail.specs.Kept.{Kept, after_all, after_record, name_of, nothing}
 use Rattle.kept_mail.specs.Records.{AreRecords, IsRecord}
 use Rattle.kept_mail.specs.declared.kept.Message.{Message}
-use Rattle.mail_store.specs.Answers.{IsFold, IsJournalFault, LeavesRecords, OpensTo}
+use Rattle.mail_store.specs.Answers.{IsFold, IsJournalFault, LeavesRecords, OpensTo, PutsNothing}
 use Rattle.mail_store.specs.Catching.{CatchesUp, ReadsOn}
 use Rattle.mail_store.specs.StoreState.{StoreState, AreStored}
 use Rattle.mail_store.specs.declared.opening.OpenFault.{OpenFault}
@@ -30,24 +33,30 @@ first_domain : (domains : List (List ℕ)) (name : List ℕ) → IsDomainText na
 first_domain [] name is named = inl is
 first_domain (first ∷ domains) name is named = named
 
-named_after : (kept : Kept) (one : Record) → IsRecord kept one → IsStoreName (name_of kept) → IsStoreName (name_of (after_record kept one))
-named_after kept (records.Domain name) is named = first_domain kept.domains name is.in_order.0 named
-named_after kept (records.Message folder flags date octets) is named = named
-named_after kept (records.Flags message flags) is named = named
-named_after kept (records.Expunge message) is named = named
-named_after kept (records.Account address password) is named = named
-named_after kept (records.Folder account name) is named = named
-named_after kept (records.Queue path addresses octets) is named = named
-named_after kept (records.Settle entry index) is named = named
+named_after : (version : Version) (kept : Kept) (one : Record) → IsRecord version kept one → IsStoreName (name_of kept) → IsStoreName (name_of (after_record kept one))
+named_after version kept (records.Domain name) is named = first_domain kept.domains name is.in_order.0 named
+named_after version kept (records.Message folder flags mark date octets) is named = named
+named_after version kept (records.Flags message flags) is named = named
+named_after version kept (records.Expunge message) is named = named
+named_after version kept (records.Account address password) is named = named
+named_after version kept (records.Folder account name) is named = named
+named_after version kept (records.Queue path addresses mark octets) is named = named
+named_after version kept (records.Settle entry index) is named = named
+named_after version kept records.Version is named = named
 
-named_all : (kept : Kept) (all : List Record) → AreRecords kept all → IsStoreName (name_of kept) → IsStoreName (name_of (after_all kept all))
-named_all kept [] are named = named
-named_all kept (one ∷ others) are named = named_all (after_record kept one) others are.1 (named_after kept one are.0 named)
+named_all : (version : Version) (kept : Kept) (all : List Record) → AreRecords version kept all → IsStoreName (name_of kept) → IsStoreName (name_of (after_all kept all))
+named_all version kept [] are named = named
+named_all version kept (one ∷ others) are named = named_all (version_after version one) (after_record kept one) others are.1 (named_after version kept one are.0 named)
 
 -- octets that nothing was done to have the records that they had
 pub left_alone : (octets : Option (List ℕ)) → LeavesRecords octets octets
 left_alone None = refl
 left_alone (Some octets) = inl refl
+
+-- nothing was put last in them
+pub nothing_put : (octets : Option (List ℕ)) → PutsNothing octets octets
+nothing_put None = refl
+nothing_put (Some octets) = inl refl
 
 -- want of memory says nothing of a journal
 pub memory_wanted : (old new : Option (List ℕ)) → IfSome old (λ octets. IsJournalFault octets new faults.Memory)
@@ -62,9 +71,9 @@ IsOpen-fold limits store cache are fold agrees works new = record {
   limits = are;
   agrees = agrees;
   works = works;
-  named = subst (λ (kept : Kept). IsStoreName (name_of kept)) (sym fold.kept_is) (named_all nothing fold.all fold.records (inr refl));
+  named = subst (λ (kept : Kept). IsStoreName (name_of kept)) (sym fold.kept_is) (named_all fold.version nothing fold.all fold.records (inr refl));
   stored = subst (λ (kept : Kept). AreStored kept.messages) (sym fold.kept_is)
-      (AreStored-after nothing fold.all fold.records (record { each = All-nil (λ (message : Message). IsStored message.octets); dated = All-nil (λ (message : Message). IsDate message.date) }));
+      (AreStored-after fold.version nothing fold.all fold.records (record { each = All-nil (λ (message : Message). IsStored message.octets); dated = All-nil (λ (message : Message). IsDate message.date) }));
   cached = IsCacheOf-new cache store.kept (ap (λ (state : CacheState). state.entries) new);
   places = record { blocks = ap (λ (state : CacheState). state.blocks) new; places = ap (λ (state : CacheState). state.places) new };
 }
@@ -75,8 +84,8 @@ open_again (Ok done) desk store told reads failed = λ within. record {
   limits = within.are_limits;
   agrees = ap (λ (s : StoreState). s.message_max) reads.store ∙ within.agrees;
   works = failed;
-  named = subst (λ (s : StoreState). IsStoreName (name_of s.kept)) (sym reads.store) (named_all desk.store.kept reads.more reads.records within.named);
-  stored = subst (λ (s : StoreState). AreStored s.kept.messages) (sym reads.store) (AreStored-after desk.store.kept reads.more reads.records within.stored);
+  named = subst (λ (s : StoreState). IsStoreName (name_of s.kept)) (sym reads.store) (named_all versions.Two desk.store.kept reads.more reads.records within.named);
+  stored = subst (λ (s : StoreState). AreStored s.kept.messages) (sym reads.store) (AreStored-after versions.Two desk.store.kept reads.more reads.records within.stored);
   cached = subst (λ (s : StoreState). IsCacheOf desk.cache s.kept) (sym reads.store) (IsCacheOf-after desk.cache desk.store.kept reads.more within.cached);
   places = within.places;
 }

@@ -14,6 +14,9 @@ use Rattle.kept_mail.specs.Kept.{Kept, after_record, after_all, change_at, gone,
 use Rattle.kept_mail.specs.Records.{AreRecords, IsRecord}
 use Rattle.journal_records.specs.Grammar.{IsDate, kept_name}
 use Rattle.journal_records.specs.Stored.{IsStored}
+use Rattle.journal_records.specs.Versions.{version_after}
+use Rattle.journal_records.specs.declared.versions.Version.{Version}
+use Rattle.journal_records.specs.declared.versions.Version.TheVariants as versions
 use Rattle.mail_store.specs.StoreState.{StoreState, AreStored}
 use Rattle.mail_store.specs.declared.changing.StoreFault.{StoreFault}
 use Rattle.mail_store.specs.declared.changing.StoreFault.TheVariants as faults
@@ -21,6 +24,7 @@ use Rattle.kept_mail.specs.declared.delivery.Delivery.{Delivery}
 use Rattle.kept_mail.specs.declared.kept.Message.{Message}
 use Rattle.journal_records.specs.declared.records.Record.{Record}
 use Rattle.journal_records.specs.declared.records.Record.TheVariants as records
+use Rattle.mail_store.proofs.AppendLemmas.{stored_with}
 use Rattle.mail_store.proofs.ChangeLemmas.{after_all-append}
 use Rattle.mail_store.proofs.DeliveryLemmas.{after-copies}
 use Rattle.mail_store.proofs.IndexLemmas.{AreStored-same}
@@ -34,42 +38,44 @@ use Rattle.session_core.proofs.CachedLemmas.{IsCacheOf-after}
 
 -- ---- what holds after any records
 
-stored_after : (kept : Kept) (one : Record) → IsRecord kept one → AreStored kept.messages → AreStored (after_record kept one).messages
-stored_after kept (records.Message folder flags date octets) is stored =
+stored_after : (version : Version) (kept : Kept) (one : Record) → IsRecord version kept one → AreStored kept.messages → AreStored (after_record kept one).messages
+stored_after version kept (records.Message folder flags mark date octets) is stored =
     let message : Message = record { folder = folder; flags = flags; live = true; date = date; octets = octets } in
     record {
-      each = All-push (λ (m : Message). IsStored m.octets) kept.messages message stored.each is.in_order.3;
+      each = All-push (λ (m : Message). IsStored m.octets) kept.messages message stored.each (stored_with mark octets is.in_order.3);
       dated = All-push (λ (m : Message). IsDate m.date) kept.messages message stored.dated is.in_order.2;
     }
-stored_after kept (records.Flags message flags) is stored = AreStored-same kept.messages (change_at (with_flags flags) kept.messages message) stored (AreSameMessages-flags flags kept.messages message)
-stored_after kept (records.Expunge message) is stored = AreStored-same kept.messages (change_at gone kept.messages message) stored (AreSameMessages-gone kept.messages message)
-stored_after kept (records.Account address password) is stored = stored
-stored_after kept (records.Domain name) is stored = stored
-stored_after kept (records.Folder account name) is stored = stored
-stored_after kept (records.Queue path addresses octets) is stored = stored
-stored_after kept (records.Settle entry index) is stored = stored
+stored_after version kept (records.Flags message flags) is stored = AreStored-same kept.messages (change_at (with_flags flags) kept.messages message) stored (AreSameMessages-flags flags kept.messages message)
+stored_after version kept (records.Expunge message) is stored = AreStored-same kept.messages (change_at gone kept.messages message) stored (AreSameMessages-gone kept.messages message)
+stored_after version kept (records.Account address password) is stored = stored
+stored_after version kept (records.Domain name) is stored = stored
+stored_after version kept (records.Folder account name) is stored = stored
+stored_after version kept (records.Queue path addresses mark octets) is stored = stored
+stored_after version kept (records.Settle entry index) is stored = stored
+stored_after version kept records.Version is stored = stored
 
 -- so it is after changes
-pub AreStored-after : (kept : Kept) (all : List Record) → AreRecords kept all → AreStored kept.messages → AreStored (after_all kept all).messages
-AreStored-after kept [] are stored = stored
-AreStored-after kept (one ∷ others) are stored = AreStored-after (after_record kept one) others are.1 (stored_after kept one are.0 stored)
+pub AreStored-after : (version : Version) (kept : Kept) (all : List Record) → AreRecords version kept all → AreStored kept.messages → AreStored (after_all kept all).messages
+AreStored-after version kept [] are stored = stored
+AreStored-after version kept (one ∷ others) are stored =
+    AreStored-after (version_after version one) (after_record kept one) others are.1 (stored_after version kept one are.0 stored)
 
 -- ---- a store's name stays
 
 -- no domain comes with what waits
-pub queue_domains : (kept : Kept) (none : Bool) (path : List ℕ) (addresses : List (List ℕ)) (octets : List ℕ)
-    → (after_all kept (cond none [] (records.Queue path addresses octets ∷ []))).domains ≡ kept.domains
-queue_domains kept true path addresses octets = refl
-queue_domains kept false path addresses octets = refl
+pub queue_domains : (kept : Kept) (none : Bool) (path : List ℕ) (addresses : List (List ℕ)) (mark : Option ℕ) (octets : List ℕ)
+    → (after_all kept (cond none [] (records.Queue path addresses mark octets ∷ []))).domains ≡ kept.domains
+queue_domains kept true path addresses mark octets = refl
+queue_domains kept false path addresses mark octets = refl
 
 pub queued_domains : (kept : Kept) (delivery : Delivery) → (after_all kept (queued delivery)).domains ≡ kept.domains
-queued_domains kept delivery = queue_domains kept _ _ _ _
+queued_domains kept delivery = queue_domains kept _ _ _ _ _
 
 pub delivered_domains : (kept : Kept) (delivery : Delivery) → (after_all kept (delivered kept delivery)).domains ≡ kept.domains
 delivered_domains kept delivery =
-    let copies = map (copy_for delivery.date delivery.local_octets) (inboxes_of kept delivery.local) in
+    let copies = map (copy_for delivery.date delivery.local_mark delivery.local_octets) (inboxes_of kept delivery.local) in
     ap (λ (k : Kept). k.domains) (after_all-append kept copies (queued delivery)) ∙ queued_domains (after_all kept copies) delivery
-    ∙ ap (λ (k : Kept). k.domains) (after-copies kept delivery.date delivery.local_octets (inboxes_of kept delivery.local))
+    ∙ ap (λ (k : Kept). k.domains) (after-copies kept delivery.date delivery.local_mark delivery.local_octets (inboxes_of kept delivery.local))
 
 same_name : (old new : Kept) → new.domains ≡ old.domains → name_of new ≡ name_of old
 same_name old new same = ap (λ (l : List (List ℕ)). slice_index_or l 0 (codes "localhost")) same
@@ -117,8 +123,8 @@ settle_name store entry index = refl
 folder_name : (store : StoreState) (account : ℕ) (name : List ℕ) → KeepsName store (folder_changes store account name)
 folder_name store account name = unless_name store (records.Folder account (kept_name name) ∷ []) (folder_refusal store.kept account name) refl
 
-append_name : (store : StoreState) (folder flags : ℕ) (date octets : List ℕ) → KeepsName store (append_changes store folder flags date octets)
-append_name store folder flags date octets = unless_name store (records.Message folder flags date octets ∷ []) (append_refusal store octets) refl
+append_name : (store : StoreState) (folder flags mark : ℕ) (date octets : List ℕ) → KeepsName store (append_changes store folder flags mark date octets)
+append_name store folder flags mark date octets = unless_name store (records.Message folder flags (Some mark) date octets ∷ []) (append_refusal store octets) refl
 
 -- ---- what a change leaves
 
@@ -135,7 +141,7 @@ changed_keeps a store keeper None made named changed cause wire = record {
     agrees = rw changed.store opens.agrees;
     works = rw changed.store opens.works;
     named = rw (changed.store, named) opens.named;
-    stored = rw changed.store (AreStored-after a.desk.store.kept (records_of made) changed.records opens.stored);
+    stored = rw changed.store (AreStored-after versions.Two a.desk.store.kept (records_of made) changed.records opens.stored);
     cached = subst (λ (s : StoreState). IsCacheOf a.desk.cache s.kept) (sym changed.store) (IsCacheOf-after a.desk.cache a.desk.store.kept (records_of made) opens.cached);
     places = opens.places;
   };
@@ -210,7 +216,8 @@ pub folder_keeps : {T : Type 0} (a : Around) (store : StoreState) (keeper : Keep
     → Keeps a (with_store a store keeper) (fault_of result)
 folder_keeps a store keeper result account name = answered a store keeper result (folder_changes a.desk.store account name) (folder_name a.desk.store account name)
 
-pub append_keeps : {T : Type 0} (a : Around) (store : StoreState) (keeper : KeeperState) (result : Result T Fault) (folder flags : ℕ) (date octets : List ℕ)
-    → IsChanged a.desk.store store a.keeper.octets keeper.octets (fault_of result) (append_changes a.desk.store folder flags date octets) → HasKeeperCause a.keeper keeper result fault.Keeper → ¬ (result ≡ Err fault.Wire)
+pub append_keeps : {T : Type 0} (a : Around) (store : StoreState) (keeper : KeeperState) (result : Result T Fault) (folder flags mark : ℕ) (date octets : List ℕ)
+    → IsChanged a.desk.store store a.keeper.octets keeper.octets (fault_of result) (append_changes a.desk.store folder flags mark date octets) → HasKeeperCause a.keeper keeper result fault.Keeper → ¬ (result ≡ Err fault.Wire)
     → Keeps a (with_store a store keeper) (fault_of result)
-append_keeps a store keeper result folder flags date octets = answered a store keeper result (append_changes a.desk.store folder flags date octets) (append_name a.desk.store folder flags date octets)
+append_keeps a store keeper result folder flags mark date octets =
+    answered a store keeper result (append_changes a.desk.store folder flags mark date octets) (append_name a.desk.store folder flags mark date octets)

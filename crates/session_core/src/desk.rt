@@ -1,7 +1,7 @@
 //! What sessions are served from, and within which limits.
 ghost use Rattle.std.specs.Prelude.{◌≡◌, Some, length, IfOk, IfErr, IfSome, OnErr, OnOk, is_err};
 ghost use Rattle.mail_wire.specs.Keeping.{HasKeeperCause};
-ghost use Rattle.mail_store.specs.Answers.{IsFold, OpensTo, IsJournalFault, LeavesRecords};
+ghost use Rattle.mail_store.specs.Answers.{IsFold, OpensTo, IsJournalFault, LeavesRecords, PutsNothing};
 ghost use Rattle.mail_store.specs.Catching.{ReadsOn, CatchesUp, IsCatchFault};
 ghost use Rattle.session_core.specs.Desks.{AreLimits, HasFirst, IsNextCache, IsOpen, OpensOrCatchesUp, WorksWithin, new_cache};
 
@@ -43,7 +43,8 @@ pub fn open_desk<J: Keeper>(
     limits: Limits,
 ) -> Result<Desk, OpenFault>
     requires { AreLimits limits }
-    // Its store is the fold of the whole records that were there, and the keeper holds them and nothing more.
+    // Its store is the fold of the whole records that were there. The keeper holds them, and the record that begins version 2 after those
+    // of version 1, and nothing more.
     ensures opens { IfOk result (λ desk. IfSome (J.observed keeper.old).octets (λ old. OpensTo old (J.observed keeper.new).octets desk.store.kept)) }
     ensures fold { IfOk result (λ desk. IsFold desk.store.kept) }
     ensures end { IfOk result (λ desk. IfSome (J.observed keeper.new).octets (λ octets. desk.store.end ≡ length octets)) }
@@ -53,6 +54,7 @@ pub fn open_desk<J: Keeper>(
 
     ensures fault { IfErr result (λ fault. IfSome (J.observed keeper.old).octets (λ old. IsJournalFault old (J.observed keeper.new).octets fault)) }
     ensures cause { HasKeeperCause (J.observed keeper.old) (J.observed keeper.new) result OpenFault.Keeper }
+    ensures memory { IfErr result (λ fault. fault ≡ OpenFault.Memory → PutsNothing (J.observed keeper.old).octets (J.observed keeper.new).octets) }
     ensures leaves { LeavesRecords (J.observed keeper.old).octets (J.observed keeper.new).octets }
 {
     let Ok(cache) = Cache::open(alloc, limits.pool_blocks, limits.cache_entries) else {
@@ -104,6 +106,7 @@ fn caught_up<J: Keeper>(
 
     ensures fault { IfErr result (λ fault. IfSome (J.observed keeper.old).octets (λ old. IsJournalFault old (J.observed keeper.new).octets fault)) }
     ensures cause { HasKeeperCause (J.observed keeper.old) (J.observed keeper.new) result OpenFault.Keeper }
+    ensures memory { IfErr result (λ fault. fault ≡ OpenFault.Memory → PutsNothing (J.observed keeper.old).octets (J.observed keeper.new).octets) }
     ensures leaves { OnErr result (LeavesRecords (J.observed keeper.old).octets (J.observed keeper.new).octets) }
 {
     let mut desk = desk;
@@ -130,9 +133,10 @@ pub fn next_desk<J: Keeper>(
 ) -> Result<Desk, OpenFault>
     requires limits { AreLimits limits }
     requires kept { IfSome kept (WorksWithin limits) }
-    // Its store is the fold of the whole records that are there, whoever wrote them, and the keeper holds them and nothing more.
+    // Its store is the fold of the whole records that are there, whoever wrote them. The keeper holds them, and the record that begins
+    // version 2 after those of version 1, and nothing more.
     ensures opens { IfOk result (λ desk. IfSome (J.observed keeper.old).octets (λ old. HasFirst kept old → OpensTo old (J.observed keeper.new).octets desk.store.kept)) }
-    // Whatever the desk had that was kept, no record goes: at most a prefix of one is cut off.
+    // Whatever the desk had that was kept, no record goes: at most what is broken off is cut.
     ensures anew { IfOk result (λ desk. IfSome (J.observed keeper.old).octets (λ old. OpensOrCatchesUp kept old (J.observed keeper.new).octets desk.store.kept)) }
     ensures end { IfOk result (λ desk. IfSome (J.observed keeper.new).octets (λ octets. desk.store.end ≡ length octets)) }
     ensures open { IfOk result IsOpen }
@@ -142,6 +146,7 @@ pub fn next_desk<J: Keeper>(
 
     ensures fault { IfErr result (λ fault. IfSome (J.observed keeper.old).octets (λ old. IsJournalFault old (J.observed keeper.new).octets fault)) }
     ensures cause { HasKeeperCause (J.observed keeper.old) (J.observed keeper.new) result OpenFault.Keeper }
+    ensures memory { IfErr result (λ fault. fault ≡ OpenFault.Memory → PutsNothing (J.observed keeper.old).octets (J.observed keeper.new).octets) }
     ensures leaves { OnErr result (LeavesRecords (J.observed keeper.old).octets (J.observed keeper.new).octets) }
 {
     match kept {

@@ -3,8 +3,8 @@ ghost use Rattle.std.specs.Prelude.{◌≡◌};
 ghost use Rattle.session_core.specs.Oracles.{Oracles, AreOracles};
 ghost use Rattle.session_core.specs.declared.desk.TheConstants.{LIMITS};
 
-/// There are functions that give surrogates, read paths, tell trees, and read commands and names, so what is said of all such
-/// functions is said of some.
+/// There are functions that give surrogates, read paths, tell trees and marks, and read commands and names, so what is said of
+/// all such functions is said of some.
 pub fn oracles_are_given()
     ensures { (oracles : Oracles) × AreOracles oracles }
 {}

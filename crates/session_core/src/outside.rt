@@ -450,7 +450,8 @@ impl<'w, 'k, 'c, W: Wire, J: Keeper, C: Clock> Outside<'w, 'k, 'c, W, J, C> {
         deliver_to(&mut self.desk.store, self.keeper, delivery)
     }
 
-    /// Puts a message with these flags, this mark and this date last in a folder, by one call of the keeper. What the store has no room for it refuses.
+    /// Puts a message with these flags, this mark and this date last in a folder, by one call of the keeper. What the store has
+    /// no room for it refuses.
     pub fn append(
         &mut self,
         folder: u32,

@@ -1,6 +1,6 @@
 use Rattle.mail_wire.proofs.KeeperLemmas.{HasKeeperCause-fine, KeepsOn-nil}
 use Rattle.mail_store.specs.declared.opening.OpenFault.TheVariants as faults
-use Rattle.session_core.proofs.CaughtLemmas.{IsOpen-fold, left_alone, memory_wanted}
+use Rattle.session_core.proofs.CaughtLemmas.{IsOpen-fold, left_alone, memory_wanted, nothing_put}
 use Rattle.session_core.proofs.desk.open_desk.Goals as goal
 
 pub returns-clause-open : goal.returns-clause-open
@@ -18,3 +18,6 @@ returns-in_default-clause-cause g c = HasKeeperCause-fine (g.J.Keeper.observed c
 
 pub returns-in_default-clause-leaves : goal.returns-in_default-clause-leaves
 returns-in_default-clause-leaves g c = left_alone (g.J.Keeper.observed c.args.keeper.now).octets
+
+pub returns-in_default-clause-memory : goal.returns-in_default-clause-memory
+returns-in_default-clause-memory g c = λ wanted. nothing_put (g.J.Keeper.observed c.args.keeper.now).octets

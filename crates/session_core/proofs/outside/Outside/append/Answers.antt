@@ -12,4 +12,4 @@ returns-clause-keeps g c =
       loans = record { wire = c.self.inside.wire.ghost_name; keeper = c.self.inside.keeper.ghost_name; clock = c.self.inside.clock.ghost_name };
     } in
     rw (← c.self.view_is)
-    (append_keeps a c.append_to.new.store (g.J.Keeper.observed c.append_to.new.keeper) c.append_to.result c.args.folder c.args.flags c.args.date.now c.args.octets.now c.append_to.ensures.changes c.append_to.ensures.cause c.append_to.ensures.wire)
+    (append_keeps a c.append_to.new.store (g.J.Keeper.observed c.append_to.new.keeper) c.append_to.result c.args.folder c.args.attributes.flags c.args.attributes.mark c.args.date.now c.args.octets.now c.append_to.ensures.changes c.append_to.ensures.cause c.append_to.ensures.wire)
