@@ -1,10 +1,11 @@
 -- Fields that are put before a message.
-use Rattle.std.proofs.Common.{◌≡◌, ℕ, ◌+◌, List, [], ◌∷◌, ◌++◌, false, length, map, None, refl, sym, ap, ◌∙◌, arith, subst, append_assoc, length-append}
-use Rattle.std.specs.List.{AllByRecursion, concat}
+use Rattle.std.proofs.Common.{◌≡◌, ℕ, ◌+◌, List, [], ◌∷◌, ◌++◌, false, ◌||◌, length, map, None, refl, sym, ap, ◌∙◌, arith, subst, append_assoc, length-append}
+use Rattle.std.specs.List.{AllByRecursion, concat, list_any}
 use Rattle.std.proofs.lemmas.List.Elements.{recursion_from_All}
 use Rattle.std.proofs.lemmas.List.Folds.{concat-append}
 use Rattle.mail_wire.specs.Lines.{lines_of}
 use Rattle.mail_wire.specs.Message.{IsSound}
+use Rattle.mail_wire.specs.Octets.{is_high}
 use Rattle.mail_wire.proofs.LineLemmas.{concat_lines_of}
 use Rattle.mail_wire.proofs.AllLemmas.{all-append}
 use Rattle.utf8_fields.specs.declared.block.Field.{Field}
@@ -12,7 +13,7 @@ use Rattle.utf8_fields.specs.Block.{IsFieldAt, AreFields, raw_of}
 use Rattle.utf8_fields.proofs.Raws.{raw_of-lines}
 use Rattle.mime_tree.specs.declared.entity.Entity.{Entity}
 use Rattle.mime_tree.specs.Openings.{IsOtherField}
-use Rattle.mime_tree.specs.Tree.{IsEntity, HasTree, depth_max}
+use Rattle.mime_tree.specs.Tree.{IsEntity, HasTree, depth_max, has_high_block}
 use Rattle.mime_tree.proofs.Standing.{Stands, AreEnded}
 use Rattle.mime_tree.proofs.FieldLines.{field_lines}
 use Rattle.mime_tree.proofs.LinesAgain.{lines_of-front, Stands-whole, Stands-back, sound_append, sound_concat}
@@ -70,6 +71,7 @@ front_fields at (raw ∷ raws) all =
 -- A message with a tree has one too after such fields.
 pub front_tree : (octets : List ℕ) (fields : List (List ℕ)) (entities : List Entity) → HasTree octets entities → AllByRecursion IsOtherField fields
     → (others : List Entity) × HasTree (concat fields ++ octets) others × (length others ≡ length entities)
+    × (has_high_block (concat fields ++ octets) others ≡ (list_any is_high fields || has_high_block octets entities))
 front_tree octets fields entities tree are_others =
     let new : List ℕ = concat fields ++ octets in
     let front = front_fields 0 fields are_others in
@@ -87,4 +89,5 @@ front_tree octets fields entities tree are_others =
         root = subst (λ all. IsEntity depth_max new None false 0 0 all moved.others) (sym lines) moved.is;
       },
       moved.count,
+      subst (λ all. has_high_block new moved.others ≡ (list_any is_high all || has_high_block octets entities)) raws moved.high_is,
     )

@@ -1,9 +1,10 @@
 -- Trees are kept where fields are written anew.
-use Rattle.std.proofs.Common.{◌≡◌, ℕ, suc, zero, ◌+◌, ◌≤◌, map, List, [], ◌∷◌, ◌++◌, false, length, take, None, inl, inr, refl, sym, ap, ◌∙◌, arith, subst}
-use Rattle.std.specs.List.{All, AllByRecursion, concat}
+use Rattle.std.proofs.Common.{◌≡◌, ℕ, suc, zero, ◌+◌, ◌≤◌, map, List, [], ◌∷◌, ◌++◌, false, ◌||◌, length, take, None, inl, inr, refl, sym, ap, ◌∙◌, arith, subst}
+use Rattle.std.specs.List.{All, AllByRecursion, concat, list_any}
 use Rattle.std.proofs.lemmas.List.Elements.{recursion_from_All}
 use Rattle.mail_wire.specs.Lines.{lines_of}
 use Rattle.mail_wire.specs.Message.{IsSound}
+use Rattle.mail_wire.specs.Octets.{is_high}
 use Rattle.mail_wire.proofs.LineLemmas.{concat_lines_of}
 use Rattle.mail_wire.proofs.AllLemmas.{all-front}
 use Rattle.utf8_fields.proofs.LineShapes.{AreLines, AreLines-lines_of}
@@ -14,7 +15,7 @@ use Rattle.mime_tree.specs.declared.openings.Opening.{Opening}
 use Rattle.mime_tree.specs.declared.openings.Opening.TheVariants.{Nothing, Message as OneMessage, Parts}
 use Rattle.mime_tree.specs.Openings.{Opens, IsOtherField}
 use Rattle.mime_tree.specs.Parts.{Part, parts_of, size}
-use Rattle.mime_tree.specs.Tree.{EntityRelation, IsDivided, IsOpened, IsEntity, HasTree, depth_max}
+use Rattle.mime_tree.specs.Tree.{EntityRelation, IsDivided, IsOpened, IsEntity, HasTree, depth_max, has_high_block}
 use Rattle.mime_tree.specs.Outlines.{outlines_of}
 use Rattle.mime_tree.specs.Rewriting.{FieldRelation, RewritesBlocks, KeepsTrees, AreSame, next_entity_place, blocks_of, moved, moved_outline}
 use Rattle.mime_tree.proofs.Standing.{Stands, IsUnmarked, AreInOrder, AreKept, Keeps}
@@ -26,6 +27,7 @@ use Rattle.mime_tree.proofs.FirstInside.{Begins, next_there, entity_begins, noth
 use Rattle.mime_tree.proofs.FrontFields.{front_tree}
 use Rattle.mime_tree.proofs.TreeFields.{tree_blocks}
 use Rattle.mime_tree.proofs.MovedPlaces.{places_moved, same_of}
+use Rattle.mime_tree.proofs.OneTree.{one_tree}
 use Rattle.mime_tree.proofs.NewEntities.{cut_entity, IsKeptInside, leaf_entity, open_entity, new_entity}
 
 -- what holds of lines holds of those that their octets have
@@ -197,3 +199,10 @@ pub fields_before : (octets : List ℕ) (fields : List (List ℕ)) (entities : L
 fields_before octets fields entities tree others =
     let found = front_tree octets fields entities tree (recursion_from_All IsOtherField fields others) in
     (found.0, found.1)
+
+-- Its header blocks are high exactly where they were, or where one of these fields is.
+pub high_after : (octets : List ℕ) (fields : List (List ℕ)) (entities others : List Entity) → HasTree octets entities → All IsOtherField fields → HasTree (concat fields ++ octets) others
+    → has_high_block (concat fields ++ octets) others ≡ (list_any is_high fields || has_high_block octets entities)
+high_after octets fields entities others tree all made =
+    let found = front_tree octets fields entities tree (recursion_from_All IsOtherField fields all) in
+    ap (has_high_block (concat fields ++ octets)) (one_tree (concat fields ++ octets) others found.0 made found.1) ∙ found.3

@@ -1,11 +1,12 @@
--- The same lines at another place, and after further fields, have a tree of the same number of entities.
-use Rattle.std.proofs.Common.{◌≡◌, ℕ, suc, zero, ◌+◌, List, [], ◌∷◌, ◌++◌, Bool, true, false, length, take, drop, map, Option, Some, inl, inr, refl, sym, ap, ◌∙◌, subst, append_assoc, append-nil, length-append}
+-- The same lines at another place, and after further fields, have a tree of the same number of entities. A header block in it is high exactly
+-- where one was, or where one of the further fields is.
+use Rattle.std.proofs.Common.{◌≡◌, ℕ, suc, zero, ◌+◌, List, [], ◌∷◌, ◌++◌, Bool, true, false, ◌||◌, length, take, drop, map, Option, Some, inl, inr, refl, sym, ap, ◌∙◌, subst, append_assoc, append-nil, length-append}
 use Rattle.std.specs.Prelude.{codes}
-use Rattle.std.specs.List.{AllByRecursion, concat}
+use Rattle.std.specs.List.{AllByRecursion, concat, list_any}
 use Rattle.std.proofs.lemmas.List.{map-append}
 use Rattle.std.proofs.lemmas.List.Folds.{concat-append}
 use Rattle.mail_wire.specs.Lines.{is_crlf}
-use Rattle.mail_wire.specs.Octets.{same_name}
+use Rattle.mail_wire.specs.Octets.{is_high, same_name}
 use Rattle.utf8_fields.specs.declared.block.Field.{Field}
 use Rattle.utf8_fields.specs.Parts.{FieldParts, HasParts}
 use Rattle.utf8_fields.specs.Block.{IsFieldAt, AreFields, raw_of}
@@ -19,7 +20,7 @@ use Rattle.mime_tree.specs.declared.openings.Opening.TheVariants.{Nothing, Messa
 use Rattle.mime_tree.specs.Marks.{text_of, is_delimiter, is_close}
 use Rattle.mime_tree.specs.Openings.{IsFirstValue, IsValueWhere, OpensByFields, Opens, IsOtherField}
 use Rattle.mime_tree.specs.Parts.{Part, shortened, cut_last, parts_on, parts_of, size}
-use Rattle.mime_tree.specs.Tree.{IsWithInner, EntityRelation, AreParts, IsDivided, IsOpened, IsEntity, raws_of}
+use Rattle.mime_tree.specs.Tree.{IsWithInner, EntityRelation, AreParts, IsDivided, IsOpened, IsEntity, has_high_block, raws_of}
 use Rattle.mime_tree.proofs.Heads.{fields_size}
 use Rattle.mime_tree.proofs.PartLemmas.{parts_of-delimiter, parts_of-on, parts_on-close, parts_on-delimiter, parts_on-on}
 use Rattle.mime_tree.proofs.Standing.{Stands}
@@ -150,25 +151,42 @@ moved_of octets new b at new_at (line ∷ rest) old stands =
     let new_later = Stands-back new new_at line (concat rest) stands in
     moved_of_by octets new b at new_at line rest later new_later (is_delimiter b line) refl (moved_of octets new b (at + length line) (new_at + length line) rest later new_later)
 
--- as many entities of the other relation
-pub record HasMoved (IsOther : EntityRelation) (parent : Option ℕ) (digest : Bool) (number new_at : ℕ) (lines : List (List ℕ)) (entities : List Entity) : Type 0 where
+or_assoc : (a b c : Bool) → ((a || b) || c) ≡ (a || (b || c))
+or_assoc true b c = refl
+or_assoc false b c = refl
+
+-- one of some and further ones passes
+any_append : {X : Type 0} (test : X → Bool) (xs ys : List X) → list_any test (xs ++ ys) ≡ (list_any test xs || list_any test ys)
+any_append test [] ys = refl
+any_append test (x ∷ xs) ys = ap (λ b. test x || b) (any_append test xs ys) ∙ sym (or_assoc (test x) (list_any test xs) (list_any test ys))
+
+-- an entity with further fields, and what is in it
+high_with : (octets new : List ℕ) (front : List (List ℕ)) (entity other : Entity) (inner others entities : List Entity) → raws_of new other.block ≡ front ++ raws_of octets entity.block
+    → has_high_block new others ≡ has_high_block octets inner → entities ≡ entity ∷ inner → has_high_block new (other ∷ others) ≡ (list_any is_high front || has_high_block octets entities)
+high_with octets new front entity other inner others entities raws rest are =
+    rw (are, rest, raws, any_append is_high front (raws_of octets entity.block)) (or_assoc (list_any is_high front) (list_any is_high (raws_of octets entity.block)) (has_high_block octets inner))
+
+-- as many entities of the other relation, and whether a header block of theirs is high
+pub record HasMoved (new : List ℕ) (high : Bool) (IsOther : EntityRelation) (parent : Option ℕ) (digest : Bool) (number new_at : ℕ) (lines : List (List ℕ)) (entities : List Entity) : Type 0 where
   pub others : List Entity
   pub is : IsOther parent digest number new_at lines others
   pub count : length others ≡ length entities
+  pub high_is : has_high_block new others ≡ high
 
 unfoldable pub Moves : List ℕ → List ℕ → EntityRelation → EntityRelation → Type 0
 Moves octets new IsOne IsOther = (parent : Option ℕ) (digest : Bool) (number at new_at : ℕ) (lines : List (List ℕ)) (entities : List Entity) → IsOne parent digest number at lines entities → Stands octets at (concat lines)
-    → Stands new new_at (concat lines) → HasMoved IsOther parent digest number new_at lines entities
+    → Stands new new_at (concat lines) → HasMoved new (has_high_block octets entities) IsOther parent digest number new_at lines entities
 
-record HaveMovedParts (IsOther : EntityRelation) (parent : Option ℕ) (digest : Bool) (number : ℕ) (parts : List Part) (entities : List Entity) : Type 0 where
+record HaveMovedParts (octets new : List ℕ) (IsOther : EntityRelation) (parent : Option ℕ) (digest : Bool) (number : ℕ) (parts : List Part) (entities : List Entity) : Type 0 where
   others : List Entity
   are : AreParts IsOther parent digest number parts others
   count : length others ≡ length entities
+  high_is : has_high_block new others ≡ has_high_block octets entities
 
 moved_parts : (octets new : List ℕ) (IsOne IsOther : EntityRelation) → Moves octets new IsOne IsOther → (parent : Option ℕ) (digest : Bool) (number : ℕ) (parts others : List Part) (entities : List Entity)
-    → AreMovedParts octets new parts others → AreParts IsOne parent digest number parts entities → HaveMovedParts IsOther parent digest number others entities
+    → AreMovedParts octets new parts others → AreParts IsOne parent digest number parts entities → HaveMovedParts octets new IsOther parent digest number others entities
 unfolding Moves AreMovedParts
-moved_parts octets new IsOne IsOther moves parent digest number [] [] entities moved are = record { others = []; are = refl; count = ap length (sym are) }
+moved_parts octets new IsOne IsOther moves parent digest number [] [] entities moved are = record { others = []; are = refl; count = ap length (sym are); high_is = rw are refl }
 moved_parts octets new IsOne IsOther moves parent digest number [] (other ∷ others) entities moved are = absurd moved
 moved_parts octets new IsOne IsOther moves parent digest number (part ∷ parts) [] entities moved are = absurd moved
 moved_parts octets new IsOne IsOther moves parent digest number (part ∷ parts) (other ∷ others) entities moved are =
@@ -184,33 +202,40 @@ moved_parts octets new IsOne IsOther moves parent digest number (part ∷ parts)
         subst (λ n. AreParts IsOther parent digest (number + n) others rest.others) (sym first.count) rest.are,
       );
       count = count first.others rest.others are.0 are.1 entities first.count rest.count are.2;
+      high_is = high first.others rest.others are.0 are.1 entities first.high_is rest.high_is are.2;
     }
   where
     count : (xs ys as_first as_rest all : List Entity) → length xs ≡ length as_first → length ys ≡ length as_rest → all ≡ as_first ++ as_rest → length (xs ++ ys) ≡ length all
     count xs ys as_first as_rest all first rest is = rw (is, length-append xs ys, length-append as_first as_rest, first, rest) refl
 
-record HasMovedInside (IsOther : EntityRelation) (opening : Opening) (number new_body : ℕ) (content : List (List ℕ)) (shape : Shape) (inner : List Entity) : Type 0 where
+    high : (xs ys as_first as_rest all : List Entity) → has_high_block new xs ≡ has_high_block octets as_first → has_high_block new ys ≡ has_high_block octets as_rest → all ≡ as_first ++ as_rest
+        → has_high_block new (xs ++ ys) ≡ has_high_block octets all
+    high xs ys as_first as_rest all first rest is =
+        rw (is, any_append (λ (entity : Entity). list_any is_high (raws_of new entity.block)) xs ys, any_append (λ (entity : Entity). list_any is_high (raws_of octets entity.block)) as_first as_rest, first, rest) refl
+
+record HasMovedInside (octets new : List ℕ) (IsOther : EntityRelation) (opening : Opening) (number new_body : ℕ) (content : List (List ℕ)) (shape : Shape) (inner : List Entity) : Type 0 where
   others : List Entity
   opened : IsOpened IsOther opening number new_body content shape others
   count : length others ≡ length inner
+  high_is : has_high_block new others ≡ has_high_block octets inner
 
 moved_opened : (octets new : List ℕ) (IsOne IsOther : EntityRelation) → Moves octets new IsOne IsOther → (opening : Opening) (number body new_body : ℕ) (content : List (List ℕ)) (shape : Shape) (inner : List Entity)
-    → IsOpened IsOne opening number body content shape inner → Stands octets body (concat content) → Stands new new_body (concat content) → HasMovedInside IsOther opening number new_body content shape inner
+    → IsOpened IsOne opening number body content shape inner → Stands octets body (concat content) → Stands new new_body (concat content) → HasMovedInside octets new IsOther opening number new_body content shape inner
 unfolding Moves AreMovedParts
-moved_opened octets new IsOne IsOther moves Nothing number body new_body content shape inner is old stands = record { others = []; opened = (is.0, refl); count = ap length (sym is.1) }
+moved_opened octets new IsOne IsOther moves Nothing number body new_body content shape inner is old stands = record { others = []; opened = (is.0, refl); count = ap length (sym is.1); high_is = rw is.1 refl }
 moved_opened octets new IsOne IsOther moves Message number body new_body content shape inner is old stands =
-    let one = moves (Some number) false (number + 1) body new_body content inner is.1 old stands in record { others = one.others; opened = (is.0, one.is); count = one.count }
+    let one = moves (Some number) false (number + 1) body new_body content inner is.1 old stands in record { others = one.others; opened = (is.0, one.is); count = one.count; high_is = one.high_is }
 moved_opened octets new IsOne IsOther moves (Parts boundary digest) number body new_body content shape inner is old stands =
     go (parts_of boundary body content) (parts_of boundary new_body content) refl (moved_of octets new boundary body new_body content old stands) is
   where
     go : (parts others : List Part) → others ≡ parts_of boundary new_body content → AreMovedParts octets new parts others → IsDivided IsOne digest number parts shape inner
-        → HasMovedInside IsOther (Parts boundary digest) number new_body content shape inner
-    go [] [] others_are moved is = record { others = []; opened = rw (← others_are) (is.0, refl); count = ap length (sym is.1) }
+        → HasMovedInside octets new IsOther (Parts boundary digest) number new_body content shape inner
+    go [] [] others_are moved is = record { others = []; opened = rw (← others_are) (is.0, refl); count = ap length (sym is.1); high_is = rw is.1 refl }
     go [] (other ∷ others) others_are moved is = absurd moved
     go (part ∷ parts) [] others_are moved is = absurd moved
     go (part ∷ parts) (other ∷ others) others_are moved is =
         let both = moved_parts octets new IsOne IsOther moves (Some number) digest (number + 1) (part ∷ parts) (other ∷ others) inner moved is.1 in
-        record { others = both.others; opened = rw (← others_are) (is.0, both.are); count = both.count }
+        record { others = both.others; opened = rw (← others_are) (is.0, both.are); count = both.count; high_is = both.high_is }
 
 -- where the content stands
 content_stands : (octets : List ℕ) (at : ℕ) (header rest : List (List ℕ)) → Stands octets at (concat header ++ concat rest) → Stands octets (at + size header + size (take 1 rest)) (concat (drop 1 rest))
@@ -317,12 +342,17 @@ opened_there levels new opening number body content shape same inner shape_is is
 -- an entity, after further fields at another place
 pub front_entity : (levels : ℕ) (octets new : List ℕ) (front : List (List ℕ)) (fields : List Field) (middle : ℕ) (parent : Option ℕ) (digest : Bool) (number at new_at : ℕ) (lines : List (List ℕ)) (entities : List Entity)
     → AreFields front new_at fields middle → AllByRecursion IsOtherField (map (raw_of new) fields) → IsEntity levels octets parent digest number at lines entities → Stands octets at (concat lines) → Stands new middle (concat lines)
-    → HasMoved (IsEntity levels new) parent digest number new_at (front ++ lines) entities
+    → HasMoved new (list_any is_high (map (raw_of new) fields) || has_high_block octets entities) (IsEntity levels new) parent digest number new_at (front ++ lines) entities
 unfolding IsEntity Moves
 front_entity zero octets new front fields middle parent digest number at new_at lines entities are others is old stands =
     let moved = moved_with octets new parent _ at lines entities is.0 front fields middle new_at are old stands in
     let count : length entities ≡ 1 = ap length (is.0.entities_are ∙ ap (λ inner. is.0.entity ∷ inner) is.2) in
-    record { others = moved.other ∷ []; is = leaf_entity new parent digest number new_at (front ++ lines) moved.other is.0.content moved.alone (moved.shape_is ∙ is.1); count = sym count }
+    record {
+      others = moved.other ∷ [];
+      is = leaf_entity new parent digest number new_at (front ++ lines) moved.other is.0.content moved.alone (moved.shape_is ∙ is.1);
+      count = sym count;
+      high_is = high_with octets new (map (raw_of new) fields) is.0.entity moved.other [] [] entities moved.raws refl (is.0.entities_are ∙ ap (λ inner. is.0.entity ∷ inner) is.2);
+    }
 front_entity (suc levels) octets new front fields middle parent digest number at new_at lines entities are others is old stands =
     let moved = moved_with octets new parent _ at lines entities is.0 front fields middle new_at are old stands in
     let step : Moves octets new (IsEntity levels octets) (IsEntity levels new) =
@@ -335,4 +365,5 @@ front_entity (suc levels) octets new front fields middle parent digest number at
       is = open_entity levels new parent digest number new_at (front ++ lines) moved.other is.0.content inside.others is.1 moved.alone (subst (λ raws. Opens digest raws is.1) (sym moved.raws) opens)
           (opened_there levels new is.1 number moved.other.body is.0.content is.0.entity.shape moved.other.shape inside.others moved.shape_is inside.opened);
       count = ap suc inside.count ∙ sym count;
+      high_is = high_with octets new (map (raw_of new) fields) is.0.entity moved.other is.0.inner inside.others entities moved.raws inside.high_is is.0.entities_are;
     }
