@@ -1,8 +1,12 @@
-"""Writes journals: the file that `dervlask pop` serves. `tools/write_journal` is the command over it."""
+"""Writes journals: the file that `dervlask pop` serves. `tools/write_journal` is the command over it.
 
-# what a journal of version 1 begins with, and one of version 2
-FIRST_OCTETS = b"MAILJNL1"
-SECOND_OCTETS = b"MAILJNL2"
+They have version 2, but for what is told to have version 1."""
+
+import email
+
+# what a journal begins with, and one of version 1
+FIRST_OCTETS = b"MAILJNL2"
+OLDER_FIRST_OCTETS = b"MAILJNL1"
 DATE = b"01-Jan-1970 00:00:00 +0000"
 
 
@@ -32,8 +36,14 @@ def folder(account_number, name):
     return record(3, number(account_number), text(name))
 
 
-def message(folder_number, octets, flags=0, date=DATE):
+def message(folder_number, octets, flags=0, date=DATE, mark=None):
     """A message in a folder. Folders are counted from 0, and the INBOX of each account is one."""
+    marked = mark_of(octets) if mark is None else mark
+    return record(9, number(folder_number), bytes([flags, marked]), text(date), text(octets))
+
+
+def older_message(folder_number, octets, flags=0, date=DATE):
+    """The same in version 1."""
     return record(4, number(folder_number), bytes([flags]), text(date), text(octets))
 
 
@@ -45,8 +55,14 @@ def expunge(message_number):
     return record(6, number(message_number))
 
 
-def queue(path, addresses, octets):
+def queue(path, addresses, octets, mark=None):
     """A message to these addresses. Such entries of the queue are counted from 0."""
+    marked = mark_of(octets) if mark is None else mark
+    return record(10, text(path), number(len(addresses)), *map(text, addresses), bytes([marked]), text(octets))
+
+
+def older_queue(path, addresses, octets):
+    """The same in version 1."""
     return record(7, text(path), number(len(addresses)), *map(text, addresses), text(octets))
 
 
@@ -55,23 +71,27 @@ def settle(entry, place):
     return record(8, number(entry), number(place))
 
 
-def marked_message(folder_number, octets, mark, flags=0, date=DATE):
-    """A message in a folder, in version 2: its mark is 1 where a header block is high, and 2 where any octet is, or both."""
-    return record(9, number(folder_number), bytes([flags, mark]), text(date), text(octets))
-
-
-def marked_queue(path, addresses, octets, mark):
-    """A message to these addresses, in version 2."""
-    return record(10, text(path), number(len(addresses)), *map(text, addresses), bytes([mark]), text(octets))
-
-
 def version():
     """Version 2 begins here, in a journal of version 1."""
     return record(11)
 
 
+def mark_of(octets):
+    """The mark of a message, as Python's `email` finds its headers: 1 where one of them isn't ASCII, and 2 where any octet isn't, or both
+    together. What is malformed may have another one."""
+    if octets.isascii():
+        return 0
+    headers = [value for part in email.message_from_bytes(octets).walk() for _, value in part.raw_items()]
+    return 2 if all(map(str.isascii, headers)) else 3
+
+
 def journal(*records):
     return b"".join([FIRST_OCTETS, *records])
+
+
+def older_journal(*records):
+    """The same in version 1."""
+    return b"".join([OLDER_FIRST_OCTETS, *records])
 
 
 def mailbox(messages, address=b"ann@example.org", password=b"pw"):

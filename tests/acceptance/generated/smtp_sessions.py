@@ -4,7 +4,7 @@ import random
 
 from generated.pop_sessions import FAULTY, NAMES, SIZES, some_mailbox, some_message, some_spelling
 from journal import domain, journal
-from rows.smtp_rows import MESSAGE_MAX
+from rows.smtp_rows import MESSAGE_MAX, STORED
 from support.harness import in_lanes
 from support.moments import Moments
 from support.talk import SMTP, all_cuts
@@ -101,14 +101,13 @@ def check(program, tally):
     cases = [some_session(rng) for _ in range(program.cases)]
 
     def one(case):
-        """How many records come, or none where the oracle is uncertain, and what is wrong."""
+        """Whether records come, or none where the oracle is uncertain, and what is wrong."""
         before, given, sizes = case
         told = by_oracle(before, given, 0, MESSAGE_MAX)
         if told is None:
             return None, []
-        moments = Moments(before, 0)
-        faults = all_cuts(program, before, given, *told, sizes, SMTP, moments.seen)
-        return len(told[0][2]) > moments.known, faults and [*faults[:4], f"input: {given!r}", f"journal: {before.hex()}"]
+        faults = all_cuts(program, before, given, *told, sizes, SMTP, Moments(before, 0).seen)
+        return STORED.encode() in told[0][1], faults and [*faults[:4], f"input: {given!r}", f"journal: {before.hex()}"]
 
     answers = in_lanes(one, cases)
     for number, (brings, faults) in enumerate(answers):

@@ -1,8 +1,7 @@
 """The store of a journal, told anew from the rules. Nothing here was taken from the program.
 
-A journal is `MAILJNL1` and records: a length of four octets (big-endian, from 1 to 67,108,864) and so many octets, which
-are a kind and its fields. Fewer than eight octets that begin `MAILJNL1` are begun anew; at the end a prefix of a record
-is cut off. Other octets are no record. Numbers have four octets, flags one (below 32), and texts stand behind their length.
+A journal is `MAILJNL1` or `MAILJNL2`, and records: a length of four octets (big-endian, from 1 to 67,108,864) and so many octets, which
+are a kind and its fields. Numbers have four octets, flags and marks one, and texts stand behind their length.
 
 1. account: address, password (at most 65,536 octets). It brings a folder, its INBOX.
 2. domain: a normal form.
@@ -12,19 +11,31 @@ is cut off. Other octets are no record. Numbers have four octets, flags one (bel
 6. expunge: message.
 7. queue: path (an address or nothing), the count of addresses and each of them, octets as those of a message.
 8. settle: entry of the queue, and the place of one of its addresses.
+9. message: folder, flags, mark, date, octets. The mark is that of the octets (trees.py).
+10. queue: path, the count of addresses and each of them, mark, octets.
+11. version: nothing.
 
-An address is any text of one with at most 65,536 octets. Each number names what an earlier record brought, counted from 0: a
-message that wasn't expunged, an address of an entry that wasn't settled."""
+`MAILJNL1` begins version 1, which ends behind a record of kind 11; `MAILJNL2` begins version 2. Kinds 4, 7 and 11 are those of version 1
+alone, 9 and 10 those of version 2 alone. Flags are below 32. An address is any text of one with at most 65,536 octets. Each number names what
+an earlier record brought, counted from 0: a message that wasn't expunged, an address of an entry that wasn't settled. Other octets are no record.
+
+What begins no record is bad, but for what a write that was broken off leaves up to the end of the file, which is cut off: fewer than four
+octets; a length with fewer octets than it says; zeros alone; and a last record of the file that is none, where all is zero from some
+multiple of 512 octets of the file on that stands within it. Fewer than eight octets that begin `MAILJNL1` or `MAILJNL2` are begun anew, in
+version 2. A journal that ends in version 1 goes on with a record of kind 11."""
 
 import re
 import unicodedata
 
+from journal import version
 from oracle import trees
 from oracle.blocks import Refused, is_sound
 from oracle.store_names import is_same_mailbox, is_utf8, known, normal_form, read_address
 
-FIRST_OCTETS = b"MAILJNL1"
+FIRST_OCTETS = {1: b"MAILJNL1", 2: b"MAILJNL2"}
+FIRST_LEN = 8
 RECORD_MAX = 67_108_864
+SECTOR = 512
 TEXT_MAX = 65_536
 NAME_MAX = 255
 DATE = re.compile(rb"[0-9 ][0-9]-(jan|feb|mar|apr|may|jun|jul|aug|sep|oct|nov|dec)-[0-9]{4} [0-9]{2}:[0-9]{2}:[0-9]{2} [+-][0-9]{4}", re.IGNORECASE)
@@ -43,10 +54,11 @@ class NoRecord(Exception):
 
 
 class Store:
-    """Address and password of each account; the domains; the account of each folder; folder and octets of each message, and whether it is
-    still there; of each entry of the queue its path, addresses and octets, and whether each address waits."""
+    """Its version; address and password of each account; the domains; the account of each folder; folder and octets of each message, and whether
+    it is still there; of each entry of the queue its path, addresses and octets, and whether each address waits."""
 
-    def __init__(self):
+    def __init__(self, version=2):
+        self.version = version
         self.accounts = []
         self.domains = []
         self.folders = []
@@ -77,23 +89,42 @@ class Store:
 
 def open_journal(octets):
     """The store, and the journal as it stands then; or Unopened."""
-    if len(octets) < len(FIRST_OCTETS) and FIRST_OCTETS.startswith(octets):
-        return Store(), FIRST_OCTETS
-    if not octets.startswith(FIRST_OCTETS):
+    if len(octets) < FIRST_LEN and any(first.startswith(octets) for first in FIRST_OCTETS.values()):
+        return Store(), FIRST_OCTETS[2]
+    begun = [number for number, first in FIRST_OCTETS.items() if octets.startswith(first)]
+    if not begun:
         raise Unopened(0)
-    store, at = Store(), len(FIRST_OCTETS)
-    while len(octets) - at >= 4:
+    store = Store(*begun)
+    kept = octets[: read_records(store, octets)]
+    return store, kept + version() if store.version == 1 else kept
+
+
+def read_records(store, octets):
+    """Keeps what the records bring. Where they end, and what is broken off begins; or Unopened."""
+    at = FIRST_LEN
+    while at < len(octets):
         size = int.from_bytes(octets[at : at + 4], "big")
-        if not 0 < size <= RECORD_MAX:
-            raise Unopened(at)
-        if len(octets) - at - 4 < size:
+        end = at + 4 + size
+        if len(octets) < at + 4 or 0 < size <= RECORD_MAX and len(octets) < end:
             break
         try:
-            add(store, octets[at + 4 : at + 4 + size])
+            need(0 < size <= RECORD_MAX)
+            add(store, octets[at + 4 : end])
         except NoRecord as error:
+            if is_torn(octets, at, end):
+                break
             raise Unopened(at) from error
-        at += 4 + size
-    return store, octets[:at]
+        at = end
+    return at
+
+
+def is_torn(octets, at, end):
+    """Whether what is no record, and has these places, is what a loss of power leaves."""
+    used = len(octets.rstrip(b"\0"))
+    if used <= at:
+        return True
+    zeros = -(-used // SECTOR) * SECTOR
+    return end == len(octets) <= at + 4 + RECORD_MAX and zeros < end
 
 
 class Fields:
@@ -124,9 +155,9 @@ class Fields:
 def add(store, record):
     """Keeps what the record brings; or NoRecord."""
     kind, fields = record[0], Fields(record[1:])
-    if kind not in KINDS:
-        raise NoRecord
-    takes, adds = KINDS[kind]
+    need(kind in KINDS)
+    versions, takes, adds = KINDS[kind]
+    need(store.version in versions)
     values = [take(fields) for take in takes]
     need(not fields.rest)
     adds(store, *values)
@@ -148,12 +179,14 @@ def need_live(store, message):
     need(message < len(store.live) and store.live[message])
 
 
-def need_tree(octets):
+def need_mark(octets, mark):
+    """The octets are a message, and have this mark, if there is one."""
     need(is_sound(octets))
     try:
-        trees.check(octets)
+        found = trees.mark_of(octets)
     except Refused as error:
         raise NoRecord from error
+    need(mark in (None, found))
 
 
 def is_folder_name(name):
@@ -182,9 +215,9 @@ def add_folder(store, account, name):
     store.folders.append(account)
 
 
-def add_message(store, folder, flags, date, octets):
+def add_message(store, folder, flags, mark, date, octets):
     need(folder < len(store.folders) and flags < 32 and DATE.fullmatch(date))
-    need_tree(octets)
+    need_mark(octets, mark)
     store.messages.append((folder, octets))
     store.live.append(True)
 
@@ -199,10 +232,10 @@ def expunge(store, message):
     store.live[message] = False
 
 
-def add_entry(store, path, recipients, octets):
+def add_entry(store, path, recipients, mark, octets):
     for text in [path, *recipients] if path else recipients:
         need_address(text)
-    need_tree(octets)
+    need_mark(octets, mark)
     store.letters.append((path, recipients, octets))
     store.entries.append([True for _ in recipients])
 
@@ -212,14 +245,25 @@ def settle(store, entry, place):
     store.entries[entry][place] = False
 
 
-# the fields of each kind, and what keeps them
+def go_on(store):
+    store.version = 2
+
+
+def no_mark(_):
+    return None
+
+
+# the versions that have each kind, its fields, and what keeps them
 KINDS = {
-    1: ([Fields.octets, Fields.octets], add_account),
-    2: ([Fields.octets], add_domain),
-    3: ([Fields.number, Fields.octets], add_folder),
-    4: ([Fields.number, Fields.octet, Fields.octets, Fields.octets], add_message),
-    5: ([Fields.number, Fields.octet], set_flags),
-    6: ([Fields.number], expunge),
-    7: ([Fields.octets, Fields.texts, Fields.octets], add_entry),
-    8: ([Fields.number, Fields.number], settle),
+    1: ((1, 2), [Fields.octets, Fields.octets], add_account),
+    2: ((1, 2), [Fields.octets], add_domain),
+    3: ((1, 2), [Fields.number, Fields.octets], add_folder),
+    4: ((1,), [Fields.number, Fields.octet, no_mark, Fields.octets, Fields.octets], add_message),
+    5: ((1, 2), [Fields.number, Fields.octet], set_flags),
+    6: ((1, 2), [Fields.number], expunge),
+    7: ((1,), [Fields.octets, Fields.texts, no_mark, Fields.octets], add_entry),
+    8: ((1, 2), [Fields.number, Fields.number], settle),
+    9: ((2,), [Fields.number, Fields.octet, Fields.octet, Fields.octets, Fields.octets], add_message),
+    10: ((2,), [Fields.octets, Fields.texts, Fields.octet, Fields.octets], add_entry),
+    11: ((1,), [], go_on),
 }

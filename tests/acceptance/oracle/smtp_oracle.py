@@ -8,11 +8,11 @@ has 100 fields Received are refused. A first line that begins an HTTP request en
 import re
 import time
 
-from journal import message, queue
 from oracle import trees
 from oracle.addresses import Uncertain
 from oracle.blocks import Refused, is_sound
 from oracle.pop_store import Unopened, open_journal
+from oracle.records import message, queue
 from oracle.store_names import is_same_domain, is_same_mailbox, read_address
 
 LINE_MAX = 65_536

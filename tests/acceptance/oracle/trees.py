@@ -62,6 +62,18 @@ def check(octets):
     entity(octets, 0, False, 1, lambda fields, _: b"".join(fields))
 
 
+def mark_of(octets):
+    """The mark of a message: 1 where a block isn't ASCII, and 2 where any octet isn't, or both together; or Refused, where a block has a fault."""
+    blocks = []
+
+    def look(fields, _):
+        blocks.extend(fields)
+        return b""
+
+    entity(octets, 0, False, 1, look)
+    return (0 if all(map(bytes.isascii, blocks)) else 1) + (0 if octets.isascii() else 2)
+
+
 def entity(octets, place, in_digest, depth, rewrite):
     """An entity that stands at this place, with the fields of its block rewritten so, and those of the entities in it."""
     fields, rest = read_block(octets, place)

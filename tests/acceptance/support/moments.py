@@ -8,9 +8,10 @@ import calendar
 import re
 import time
 
-from oracle.pop_store import FIRST_OCTETS, Fields, NoRecord
+from oracle.pop_store import FIRST_LEN, Fields, NoRecord
 
-MESSAGE, QUEUE = 4, 7
+# the kinds that the program writes
+MESSAGE, QUEUE = 9, 10
 IN_RECORD, IN_FIELD = "%d-%b-%Y %H:%M:%S +0000", "%a, %d %b %Y %H:%M:%S +0000"
 SHOWN = re.compile(rb'INTERNALDATE "([^"\r\n]{26})"')
 RECEIVED = re.compile(rb"(?:Return-Path: <[^\r\n]*>\r\n)?Received: from [^\r\n]* with [^\r\n;]*; ([^\r\n]*)\r\n")
@@ -25,14 +26,14 @@ class Moments:
     """What is appended to a journal from now on has a moment from now on: SMTP's messages in two forms, IMAP's in that of a record."""
 
     def __init__(self, before, seconds, forms=(IN_RECORD, IN_FIELD)):
-        self.known, self.seconds, self.begun = end_of_records(before or b""), seconds, int(time.time())
-        self.forms = forms
+        self.before, self.seconds, self.begun, self.forms = before or b"", seconds, int(time.time()), forms
 
     def seen(self, journal):
         """The journal as it would be at the other moment. A record that has a wrong date stays as it is."""
         if journal is None:
             return None
-        return journal[: self.known] + b"".join(map(self.dated, records_of(journal[self.known :])))
+        known = end_of_shared(self.before, journal)
+        return journal[:known] + b"".join(map(self.dated, records_of(journal, known)))
 
     def dated(self, record):
         places = [place for place in dates_of(record) if place[2] in self.forms]
@@ -52,25 +53,22 @@ class Moments:
         return moment is not None and self.begun <= moment <= time.time()
 
 
-def end_of_records(journal):
-    """Where what is appended begins, once a record that was cut off is taken away."""
-    end = len(FIRST_OCTETS)
-    for record in records_of(journal[end:]):
-        if len(record) >= 4 and len(record) == size_of(record):
-            end += len(record)
+def end_of_shared(before, after):
+    """Where the records end that both journals begin with, and what is appended begins."""
+    end = FIRST_LEN
+    for record, other in zip(records_of(before, end), records_of(after, end)):
+        if record != other:
+            break
+        end += len(record)
     return end
 
 
-def size_of(record):
-    """How many octets it has, or ought to have, with its length."""
-    return 4 + int.from_bytes(record[:4], "big")
-
-
-def records_of(octets):
-    """The records with their lengths, and last what is no whole one."""
-    while octets:
-        record, octets = octets[: size_of(octets)], octets[size_of(octets) :]
-        yield record
+def records_of(octets, at):
+    """The records from here on with their lengths, and last what is no whole one."""
+    while at < len(octets):
+        end = at + 4 + int.from_bytes(octets[at : at + 4], "big")
+        yield octets[at:end]
+        at = end
 
 
 def dates_of(record):
@@ -78,12 +76,12 @@ def dates_of(record):
     kind, fields = record[4:5], Fields(record[5:])
     try:
         if kind == bytes([MESSAGE]):
-            fields.take(5)
+            fields.take(6)
             date = fields.octets()
             end = len(record) - len(fields.rest)
             yield end - len(date), end, IN_RECORD
         elif kind == bytes([QUEUE]):
-            fields.octets(), fields.texts()
+            fields.octets(), fields.texts(), fields.take(1)
         else:
             return
         octets = fields.octets()

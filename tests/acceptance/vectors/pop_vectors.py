@@ -8,7 +8,9 @@ entities: they say of a journal with such a record or message that it isn't buil
 in the same octets alone. What such a case says of status, replies and journal is replaced by what our oracle says today
 (pop_oracle.py); its journal, its input and its cuts stay.
 
-All files but one are older than Q words. A case with a message whose surrogate has such words is left out of them.
+Those before pop-q.txt are older than Q words. A case with a message whose surrogate has such words is left out of them. The last two have
+version 2 of the journal; the others are older, and version_1.py says what is wanted of them today. Where a journal was bad in them that isn't so
+today, the oracle is asked instead.
 
 A command that came later is answered there as an unknown one, which the oracle's answer replaces too. Where the oracle can't tell
 the form of a domain or of a name, the case alone is held to the answer."""
@@ -19,10 +21,11 @@ from oracle.pop_oracle import certain_outcome
 from support.harness import differs, in_lanes
 from support.talk import all_cuts, answer_faults, joined
 from vectors.older_words import has_older_words
+from vectors.version_1 import SINCE_VERSION_2, is_refused_no_more, today
 
 OLDER = ["pop-first.txt", "journal-first.txt", "pop-trees.txt"]
-FILES = [*OLDER, "journal.txt", "pop.txt", "pop-cache.txt", "pop-q.txt"]
-SINCE_Q_WORDS = "pop-q.txt"
+SINCE_Q_WORDS = ["pop-q.txt", "journal-2.txt", "pop-2.txt"]
+FILES = [*OLDER, "journal.txt", "pop.txt", "pop-cache.txt", *SINCE_Q_WORDS]
 NOT_BUILT = 10
 LATER = {b"CAPA", b"UIDL", b"TOP", b"DELE", b"RSET", b"NOOP"}
 
@@ -34,6 +37,13 @@ def cases_of(path):
             lines = [line.partition(" ") for line in text.splitlines() if line]
             if lines:
                 yield {"due": [value for word, _, value in lines if word == "due"], **{word: value for word, _, value in lines if word != "due"}}
+
+
+def cases_in(folder, name):
+    """The cases of a file of the folder, if it is there, with what is wanted of them today."""
+    path = os.path.join(folder, name)
+    cases = list(cases_of(path)) if os.path.exists(path) else []
+    return cases if name in SINCE_VERSION_2 else list(map(today, cases))
 
 
 def due_of(case):
@@ -53,8 +63,12 @@ def commands(case):
     return [(keyword.upper(), argument) for keyword, _, argument in lines]
 
 
-def is_older(case):
-    """Whether a case of the older files says what isn't so today: nothing was built, a name has capitals, or a command came later."""
+def is_older(file, case):
+    """Whether a case says what isn't so today: its journal isn't bad, or nothing was built, a name has capitals, or a command came later."""
+    if file not in SINCE_VERSION_2 and is_refused_no_more(case):
+        return True
+    if file not in OLDER:
+        return False
     lines = commands(case)
     return int(case["status"]) == NOT_BUILT or any(keyword in LATER or keyword == b"USER" and name != name.lower() for keyword, name in lines)
 
@@ -81,7 +95,7 @@ def one_case(program, name, case):
     """Whose answer stands, `both`, `vector` or `oracle`, and what is wrong; `none` where neither can be asked."""
     journal, octets = bytes.fromhex(case["journal"]), bytes.fromhex(case["in"])
     wanted, told, stands, faults = wanted_of(case), by_oracle(journal, octets), "both", []
-    if name in OLDER and is_older(case) and told != wanted:
+    if is_older(name, case) and told != wanted:
         wanted, stands = told, "oracle" if told else "none"
     elif told is None:
         stands = "vector"
@@ -92,9 +106,8 @@ def one_case(program, name, case):
 
 
 def check(program, tally, folder):
-    there = [name for name in FILES if os.path.exists(os.path.join(folder, name))]
-    cases = [(name, case) for name in there for case in cases_of(os.path.join(folder, name))]
-    sessions = [(name, case) for name, case in cases if case["words"] == "pop" and (name == SINCE_Q_WORDS or not has_older_words(case))]
+    cases = [(name, case) for name in FILES for case in cases_in(folder, name) if case["words"] == "pop"]
+    sessions = [(name, case) for name, case in cases if name in SINCE_Q_WORDS or not has_older_words(case)]
     answers = in_lanes(lambda it: one_case(program, *it), sessions)
     for (name, case), (_, faults) in zip(sessions, answers):
         tally.note(f"{name}, vector {case['case']}", faults)

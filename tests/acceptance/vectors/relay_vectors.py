@@ -3,9 +3,9 @@
 A server over loopback sends these octets, as they are cut, and reads to the end; where the case has none, nobody listens. A case fixes the
 clock, which the program can't do: the dates of its reports are replaced by the clock's (moments.py). Some cases fix a smaller limit of a
 message than the program has: there a report is dropped that is kept here, and what is told of reports isn't compared.
-One of the files is older than Q words: a case with a message whose surrogate has such words is left out of it."""
+One of the files is older than Q words: a case with a message whose surrogate has such words is left out of it. It and the next one are older
+than version 2 of the journal (version_1.py)."""
 
-import os
 import re
 import socket
 import tempfile
@@ -16,11 +16,11 @@ from support.moments import Moments
 from support.next_server import relay_to
 from support.talk import cut, place_journal, read_journal
 from vectors.older_words import has_older_words
-from vectors.pop_vectors import cases_of
+from vectors.pop_vectors import cases_in
 from vectors.smtp_vectors import MESSAGE_MAX
 
-FILES = ["relay.txt", "relay-q.txt"]
-SINCE_Q_WORDS = "relay-q.txt"
+SINCE_Q_WORDS = ["relay-q.txt", "relay-2.txt"]
+FILES = ["relay.txt", *SINCE_Q_WORDS]
 REPORTS = re.compile(rb", reported [0-9]+")
 
 
@@ -77,9 +77,8 @@ def check(program, tally, folder):
 
 
 def check_file(program, tally, folder, name):
-    path = os.path.join(folder, name)
-    every = list(cases_of(path)) if os.path.exists(path) else []
-    cases = [case for case in every if name == SINCE_Q_WORDS or not has_older_words(case)]
+    every = cases_in(folder, name)
+    cases = [case for case in every if name in SINCE_Q_WORDS or not has_older_words(case)]
     for case, faults in zip(cases, in_lanes(lambda case: one_case(program, case), cases)):
         tally.note(f"{name}, vector {case['case']}", faults)
     limited = sum(int(case["message_max"]) != MESSAGE_MAX for case in cases)

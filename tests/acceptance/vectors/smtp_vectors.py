@@ -1,19 +1,18 @@
-"""Sessions of SMTP that an independent reference wrote, in the form that pop_vectors.py tells.
+"""Sessions of SMTP that an independent reference wrote, in the form that pop_vectors.py tells. One of the files is older than version 2 of the
+journal (version_1.py).
 
 A case fixes the clock, which the program can't do: the dates that it writes have to be those of its run, and are replaced by the
 clock's (moments.py) before the journals are compared. Some cases fix a smaller limit of a message than the program has. They are
 held to the oracle with that limit, and the program to the oracle with its own. Where the oracle can't tell the form of a domain
 or of a name, the vector alone is asked, and none where it has another limit."""
 
-import os
-
 from oracle.smtp_oracle import certain_outcome
 from support.harness import in_lanes
 from support.moments import Moments
 from support.talk import SMTP, all_cuts, joined
-from vectors.pop_vectors import cases_of, oracle_faults, wanted_of
+from vectors.pop_vectors import cases_in, oracle_faults, wanted_of
 
-FILE = "smtp.txt"
+FILES = ["smtp.txt", "smtp-2.txt"]
 MESSAGE_MAX = 33_554_432
 
 
@@ -39,11 +38,10 @@ def one_case(program, case):
 
 
 def check(program, tally, folder):
-    path = os.path.join(folder, FILE)
-    cases = list(cases_of(path)) if os.path.exists(path) else []
-    answers = in_lanes(lambda case: one_case(program, case), cases)
-    for case, (_, faults) in zip(cases, answers):
-        tally.note(f"{FILE}, vector {case['case']}", faults)
+    cases = [(name, case) for name in FILES for case in cases_in(folder, name)]
+    answers = in_lanes(lambda it: one_case(program, it[1]), cases)
+    for (name, case), (_, faults) in zip(cases, answers):
+        tally.note(f"{name}, vector {case['case']}", faults)
     stands = [it for it, _ in answers]
     print(f"vectors of SMTP: {len(cases) - stands.count('none')} of {len(cases)} were run, each whole, as it is cut, and command by command")
     print(f"vectors of SMTP: {stands.count('oracle')} have a limit of their own, and the program was held to the oracle with its limit")
