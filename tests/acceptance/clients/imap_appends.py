@@ -16,8 +16,8 @@ from clients.fetch_replies import items_in
 from clients.imap_clients import MBSYNC, in_maildir, is_here, logged_in, modified_utf7, octets_in, quoted, ran, told, write
 from clients.mailbox import SCRIPTS, messages
 from clients.pop_clients import ADDRESS, PASSWORD, SECONDS, text_of
-from journal import mailbox
 from oracle.downgrade_oracle import outcome
+from oracle.records import mailbox
 from support.harness import differs
 from support.service import Service
 from support.talk import place_journal

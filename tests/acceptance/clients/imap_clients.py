@@ -15,7 +15,7 @@ import unicodedata
 
 from clients.mailbox import SCRIPTS, messages
 from clients.pop_clients import ADDRESS, COUNT, PASSWORD, SECONDS, legacy_faults, text_of
-from journal import mailbox
+from oracle.records import mailbox
 from support.harness import differs
 from support.service import Service
 from support.talk import place_journal

@@ -10,7 +10,7 @@ from clients.fetch_replies import count_of_parts, is_message, is_multipart, item
 from clients.imap_clients import logged_in, told
 from clients.nested_mail import nested_messages
 from clients.pop_clients import ADDRESS, PASSWORD
-from journal import mailbox
+from oracle.records import mailbox
 from support.harness import differs
 from support.service import Service
 from support.talk import place_journal

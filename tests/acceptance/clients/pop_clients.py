@@ -9,9 +9,9 @@ from email.header import decode_header
 
 from bridge import Bridge
 from clients.mailbox import messages
-from journal import mailbox
 from oracle.downgrade_oracle import outcome
 from oracle.pop_oracle import first_lines
+from oracle.records import mailbox
 from support.harness import differs
 from support.talk import place_journal
 

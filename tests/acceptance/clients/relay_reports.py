@@ -10,9 +10,10 @@ import postfix
 from clients.pop_clients import PASSWORD
 from clients.relay_servers import ASCII, BODY, ELSEWHERE, HEADER, OTHER, Mail, take_in
 from clients.smtp_clients import fetched
-from journal import account, domain, journal, queue
+from journal import account, domain, journal
 from listening import NotStarted
 from oracle.downgrade_oracle import outcome
+from oracle.records import queue
 from support.harness import differs
 from support.next_server import BOTH, EIGHT, UTF8, NextServer, queue_in, relay, store_in, told
 from support.service import Service

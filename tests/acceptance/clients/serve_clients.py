@@ -12,7 +12,8 @@ from clients.imap_clients import logged_in, octets_in, told
 from clients.mailbox import messages
 from clients.pop_clients import ADDRESS, COUNT, PASSWORD, SECONDS, check_curl, fetched, legacy_faults, size_faults, tops, top_faults, uids_left
 from clients.smtp_clients import STORE, by_curl, by_smtplib, by_swaks, check_account
-from journal import account, domain, journal, mailbox
+from journal import account, domain, journal
+from oracle.records import mailbox
 from support.harness import differs
 from support.service import Service
 from support.talk import place_journal

@@ -4,8 +4,10 @@ import random
 import unicodedata
 
 from generated import generated_addresses, generated_fields, generated_messages, generated_parameters, generated_traces
-from journal import account, domain, expunge, flags, folder, journal, message, queue, record, settle, text
+from journal import account, domain, expunge, flags, folder, journal, older_journal, older_message, record, settle, text, version
+from journal import message as marked_message
 from oracle.pop_oracle import certain_outcome
+from oracle.records import message, older, queue
 from rows.downgrade_rows import MIXED
 from support.harness import in_lanes
 from support.talk import all_cuts, joined
@@ -38,6 +40,7 @@ SIZES = [1, 1, 1, 2, 3, 7, 64, 512]
 RECORDS = [
     b"\0\0\0\1\x03", b"\0\0\0\1\x09", b"\0\0\0\0", b"\x04\0\0\1", domain(b"X"), domain(b""), record(1, text(b"a@b")), account(b"<>", b""), folder(0, b"*"),
     folder(9, b"f"), flags(0, 9), flags(0, 32), expunge(0), expunge(7), queue(b"x", [], b""), queue(b"", [b"x"], b""), queue(b"", [], b"x"), settle(0, 0), settle(7, 0),
+    b"\0\0\0\1\x0a", b"\0\0\0\1\x0c", version(), older_message(0, b"A: b\r\n"), *(marked_message(0, "A: é\r\n".encode(), mark=mark) for mark in range(5)),
 ]
 
 
@@ -59,6 +62,15 @@ def some_mailbox(rng):
     places = [rng.randrange(len(accounts) + len(folders)) for _ in range(rng.choice([0, 1, 3, 8]))]
     messages = [message(place, some_message(rng), flags=rng.randrange(32)) for place in places]
     return accounts, [*records, *folders, *messages, *some_changes(rng, len(messages)), *some_queue(rng)]
+
+
+def some_version(rng, records):
+    """A journal with these records, of version 2 or of version 1, or one that begins in version 1 and goes on in version 2."""
+    if rng.random() < 0.5:
+        return journal(*records)
+    count = rng.choice([len(records), rng.randint(0, len(records))])
+    ends = count < len(records) or rng.random() < 0.2
+    return older_journal(*map(older, records[:count]), *([version()] if ends else []), *records[count:])
 
 
 def some_changes(rng, count):
@@ -110,7 +122,15 @@ def some_input(rng, accounts):
 def some_session(rng):
     accounts, records = some_mailbox(rng)
     sizes = [rng.choice(SIZES) for _ in range(rng.randint(0, 12))]
-    return journal(*records), some_input(rng, accounts), sizes
+    return some_version(rng, records), some_input(rng, accounts), sizes
+
+
+def lose_power(rng, octets):
+    """Puts zeros at the end: in the place of what is there, mostly from the border of a sector on, or behind it, and now and then one more octet."""
+    at = rng.randint(0, len(octets))
+    at = min(at + -at % 512, len(octets)) if rng.random() < 0.7 else at
+    octets[at:] = bytes(len(octets) - at)
+    octets += bytes(rng.choice([0, 0, 0, 1, 4, 300, 512])) + rng.choice([b"", b"", b"", b"\1"])
 
 
 def some_journal(rng):
@@ -120,11 +140,13 @@ def some_journal(rng):
         mail = message(rng.randint(0, 4), rng.choice(FAULTY), flags=rng.choice([0, 31, 32]))
         other = rng.choice([rng.choice(RECORDS), mail])
         records.insert(rng.randint(0, len(records)), other)
-    octets = bytearray(journal(*records))
+    octets = bytearray(some_version(rng, records))
     if rng.random() < 0.3:
         del octets[rng.randint(0, len(octets)) :]
-    elif octets and rng.random() < 0.4:
+    elif rng.random() < 0.3:
         octets[rng.randrange(len(octets))] ^= 1 << rng.randrange(8)
+    elif rng.random() < 0.6:
+        lose_power(rng, octets)
     return bytes(octets), some_input(rng, accounts), [rng.choice(SIZES)]
 
 

@@ -2,8 +2,8 @@
 
 import random
 
-from generated.pop_sessions import FAULTY, NAMES, SIZES, some_mailbox, some_message, some_spelling
-from journal import domain, journal
+from generated.pop_sessions import FAULTY, NAMES, SIZES, some_mailbox, some_message, some_spelling, some_version
+from journal import domain
 from rows.smtp_rows import MESSAGE_MAX, STORED
 from support.harness import in_lanes
 from support.moments import Moments
@@ -90,7 +90,7 @@ def some_input(rng, accounts):
 def some_session(rng):
     """A journal, which is cut off now and then, and what comes from a client."""
     accounts, records = some_mailbox(rng)
-    octets = journal(*(domain(it) for it in rng.sample(DOMAINS, rng.randint(0, 2))), *records)
+    octets = some_version(rng, [*(domain(it) for it in rng.sample(DOMAINS, rng.randint(0, 2))), *records])
     if rng.random() < 0.1:
         octets = octets[: rng.randint(0, len(octets))]
     return octets, some_input(rng, accounts), [rng.choice(SIZES) for _ in range(rng.randint(0, 12))]

@@ -5,7 +5,7 @@ import journal
 from journal import DATE
 from oracle import trees
 from oracle.blocks import Refused
-from oracle.pop_store import Fields
+from oracle.pop_store import Fields, NoRecord
 
 
 def mark_of(octets):
@@ -31,7 +31,7 @@ def mailbox(messages, address=b"ann@example.org", password=b"pw"):
 
 def newer(record):
     """A record as version 2 has it."""
-    kind, fields = record[4], Fields(record[5:])
+    kind, fields = int.from_bytes(record[4:5], "big"), Fields(record[5:])
     if kind == 4:
         number, flags, date, octets = fields.number(), fields.octet(), fields.octets(), fields.octets()
         return message(number, octets, flags, date)
@@ -39,8 +39,15 @@ def newer(record):
 
 
 def older(record):
-    """A record as version 1 has it."""
-    kind, fields = record[4], Fields(record[5:])
+    """A record as version 1 has it. What isn't one stays as it is."""
+    try:
+        return unmarked(record)
+    except NoRecord:
+        return record
+
+
+def unmarked(record):
+    kind, fields = int.from_bytes(record[4:5], "big"), Fields(record[5:])
     if kind == 9:
         number, flags, _, date, octets = fields.number(), fields.octet(), fields.octet(), fields.octets(), fields.octets()
         return journal.older_message(number, octets, flags, date)

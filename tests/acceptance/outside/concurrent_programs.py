@@ -17,8 +17,9 @@ import subprocess
 import tempfile
 import time
 
-from journal import account, domain, journal, message
-from oracle.pop_store import Fields, Unopened, open_journal
+from journal import account, domain, journal
+from oracle.pop_store import Unopened, open_journal
+from oracle.records import message
 from rows.downgrade_rows import CAFE, CAFE_SURROGATE
 from support.harness import SECONDS, differs, show
 from support.talk import place_journal, read_journal
@@ -198,14 +199,9 @@ def told(works, ended, marks):
     return inboxes, queue
 
 
-def queued(octets):
-    """The marks of the entries of the queue in the records of a sound journal."""
-    marks, fields = [], Fields(octets[8:])
-    while fields.rest:
-        record = fields.octets()
-        if record[0] == 7:
-            marks += MARK.findall(record)
-    return collections.Counter(marks)
+def queued(store):
+    """The marks of the entries of the queue."""
+    return collections.Counter(mark for _, _, octets in store.letters for mark in MARK.findall(octets))
 
 
 def counted(marks):
@@ -219,7 +215,7 @@ def kept_faults(octets, works, ended, marks):
     except Unopened as error:
         return [f"the journal doesn't open: {show(error.answer[1])}"]
     inboxes, queue = told(works, ended, marks)
-    faults = differs("queue", counted(queued(octets)), counted(queue))
+    faults = differs("queue", counted(queued(store)), counted(queue))
     for number, wanted in inboxes.items():
         found = collections.Counter(mark for _, _, octets in store.inbox(number) for mark in MARK.findall(octets))
         faults += differs(f"messages of {address(number).decode()}", counted(found), counted(wanted))

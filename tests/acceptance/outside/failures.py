@@ -9,8 +9,9 @@ import shutil
 import subprocess
 import tempfile
 
-from journal import FIRST_OCTETS, account, domain, journal, mailbox
+from journal import FIRST_OCTETS, account, domain, journal
 from oracle.downgrade_oracle import MESSAGE_MAX
+from oracle.records import mailbox
 from outside.smtp_outside import little_room
 from rows.downgrade_rows import CAFE, little_memory, of_size
 from support.harness import HINT, REFUSED, SECONDS, differs

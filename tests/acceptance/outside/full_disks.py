@@ -6,8 +6,9 @@ import os
 import shutil
 import subprocess
 
-from journal import account, domain, journal, mailbox
+from journal import account, domain, journal
 from oracle.pop_store import Unopened, open_journal
+from oracle.records import mailbox
 from outside.failures import KEPT, NO_ROOM, OF_SESSIONS, QUIT, WITH_JOURNAL, Place, ended, line, name_of
 from outside.serve_outside import connect, talk
 from outside.smtp_outside import little_room

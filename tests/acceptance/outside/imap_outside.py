@@ -3,7 +3,8 @@ clients of `serve imap` that go in the middle of something."""
 
 import tempfile
 
-from journal import flags, mailbox, message
+from journal import flags
+from oracle.records import mailbox, message
 from outside.pop_outside import SESSION_MAX, is_slow, of_the_outside, of_words, run_long
 from outside.serve_outside import connect, heard, hang_up, talk
 from outside.smtp_outside import LINE, data_of, enough_memory, little_room

@@ -6,7 +6,8 @@ import stat
 import subprocess
 import tempfile
 
-from journal import FIRST_OCTETS, account, domain, journal, message
+from journal import FIRST_OCTETS, account, domain, journal
+from oracle.records import message
 from outside.failures import ACCOUNT, DOMAIN, KEPT, NOT_REGULAR, QUIT, STORE, WITH_JOURNAL, Place, ended, line, name_of
 from outside.serve_outside import COUNTS, SENDS, SMTP_BYE, SMTP_GREETING, connect, counted, heard, talk
 from outside.smtp_outside import little_room

@@ -8,8 +8,9 @@ import socket
 import subprocess
 import tempfile
 
-from journal import account, domain, journal, message
+from journal import account, domain, journal
 from oracle.pop_store import Unopened, open_journal
+from oracle.records import message
 from outside.serve_outside import connect, talk
 from support.harness import SECONDS, differs
 from support.next_server import RESET

@@ -9,7 +9,7 @@ import tempfile
 import threading
 import time
 
-from journal import mailbox
+from oracle.records import mailbox
 from rows.downgrade_rows import CAFE, little_memory
 from rows.pop_rows import LINE_MAX
 from support import paths
@@ -122,11 +122,11 @@ def of_the_tool(program, tally):
         options = ["--domain", "x.org", "--account", "a@x.org", "p", "--text", "0", mail, "--message", "0", mail]
         subprocess.run([sys.executable, paths.tool("write_journal"), path, *options], stdout=subprocess.DEVNULL, timeout=SECONDS)
         wanted = [
-            "4D41494C4A4E4C31",
+            "4D41494C4A4E4C32",
             "0000000A 02 00000005 782E6F7267",
             "00000011 01 00000007 6140782E6F7267 00000001 70",
-            "0000002E 04 00000000 00 0000001A 30312D4A616E2D313937302030303A30303A3030202B30303030 00000006 413A20620D0A",
-            "0000002D 04 00000000 00 0000001A 30312D4A616E2D313937302030303A30303A3030202B30303030 00000005 413A20620A",
+            "0000002F 09 00000000 00 00 0000001A 30312D4A616E2D313937302030303A30303A3030202B30303030 00000006 413A20620D0A",
+            "0000002E 09 00000000 00 00 0000001A 30312D4A616E2D313937302030303A30303A3030202B30303030 00000005 413A20620A",
         ]
         tally.note("tools/write_journal", differs("octets", read_journal(path), bytes.fromhex("".join(wanted))))
 

@@ -10,7 +10,8 @@ import shutil
 import subprocess
 import tempfile
 
-from journal import account, domain, journal, message, queue
+from journal import account, domain, journal
+from oracle.records import message, queue
 from outside.failures import ACCOUNT, DOMAIN, Place
 from outside.serve_outside import LOGS_IN, SENDS, STORE, talk
 from rows.downgrade_rows import CAFE

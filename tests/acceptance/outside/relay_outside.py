@@ -9,9 +9,10 @@ import threading
 
 from clients.pop_clients import ADDRESS, PASSWORD
 from clients.relay_servers import ASCII, ELSEWHERE, HEADER, OTHER
-from journal import account, domain, journal, queue
+from journal import account, domain, journal
 from listening import free_port
 from oracle.pop_store import open_journal
+from oracle.records import queue
 from outside.smtp_outside import little_room
 from rows.downgrade_rows import little_memory
 from rows.word_rows import BAD

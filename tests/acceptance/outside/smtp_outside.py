@@ -4,7 +4,8 @@ are too long."""
 import resource
 import signal
 
-from journal import account, domain, journal, message, queue
+from journal import account, domain, journal
+from oracle.records import message, queue
 from outside.pop_outside import SESSION_MAX, is_slow, of_the_outside, of_words, run_long
 from rows.smtp_rows import (
     ANN, GREETED, JOSE, JOSE_KEPT, MESSAGE_MAX, OK, READY_FOR_DATA, RECIPIENT_OK, SENDER_OK, STORED, TAKES_DATA, TOO_LARGE, kept, octets_of, trace,

@@ -92,9 +92,9 @@ def check_generated(program, tally):
             wanted = lines(len(octets), len(program.downgrade(octets)[1]), 1, 1, "yes")
             tally.note(f"gen {count}", faults + differs("check of its last message", program.run([b"check"], octets)[1], wanted))
         tally.note("gen makes no journal", differs("files", os.listdir(folder), []))
-        place_journal(folder, b"MAILJNL2")
+        place_journal(folder, b"MAILJNL3")
         faults = differs("answers", run_twice(program, 3, folder), [(0, sums(3))] * 2)
-        tally.note("gen beside a bad journal", faults + differs("journal", read_journal(os.path.join(folder, JOURNAL)), b"MAILJNL2"))
+        tally.note("gen beside a bad journal", faults + differs("journal", read_journal(os.path.join(folder, JOURNAL)), b"MAILJNL3"))
 
 
 def check_words(program, tally):

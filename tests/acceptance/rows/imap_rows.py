@@ -2,7 +2,8 @@
 
 An exchange is what the client sends, a line or octets, and the reply that is due then, as lines or octets."""
 
-from journal import account, domain, expunge, flags, folder, journal, mailbox, message
+from journal import account, domain, expunge, flags, folder, journal
+from oracle.records import mailbox, message
 from rows.downgrade_rows import CAFE
 from support.harness import in_lanes
 from support.moments import IN_RECORD, Moments

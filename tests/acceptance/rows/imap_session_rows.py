@@ -1,6 +1,7 @@
 """Worked sessions of IMAP, in the form that imap_rows.py tells."""
 
-from journal import expunge, flags, folder, mailbox, message
+from journal import expunge, flags, folder
+from oracle.records import mailbox, message
 from rows.downgrade_rows import CAFE
 from rows.imap_rows import ANN, CAFE_BAR, ENABLE, GO, LOGIN, LOGOUT, check_rows, examine, played, select
 

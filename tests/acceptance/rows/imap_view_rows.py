@@ -1,6 +1,7 @@
 """Rows of IMAP on what FETCH tells of the parts of a message, and on APPEND, in the form that imap_rows.py tells."""
 
-from journal import account, domain, expunge, flags, folder, journal, mailbox, message
+from journal import account, domain, expunge, flags, folder, journal
+from oracle.records import mailbox, message
 from rows.imap_rows import (
     ANN, BAD, CAFE_BAR, DONE, DRAFT, ENABLE, FOLDERS, GO, LOGIN, MESSAGE_MAX, NO_FOLDER, ORDER, SEEN, SURROGATE, check_every_cut, check_rows, examine, fetch,
     opened, played, refused, select,

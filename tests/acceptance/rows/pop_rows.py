@@ -1,7 +1,8 @@
 """Rows of POP3 that are written out: a journal and lines in, replies, a status and a journal out."""
 
-from journal import account, domain, expunge, flags, folder, journal, mailbox, message
+from journal import account, domain, expunge, flags, folder, journal
 from oracle.pop_oracle import outcome
+from oracle.records import mailbox, message
 from rows import journal_rows
 from rows.downgrade_rows import CAFE, MIXED
 from support.harness import in_lanes

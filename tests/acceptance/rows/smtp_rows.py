@@ -2,8 +2,9 @@
 
 The dates of records are those of the moment 0, in whose place the program's are told (moments.py)."""
 
-from journal import account, domain, folder, journal, mailbox, message, queue
+from journal import account, domain, folder, journal
 from oracle.pop_store import open_journal
+from oracle.records import mailbox, message, queue
 from oracle.smtp_oracle import outcome
 from rows.downgrade_rows import MIXED
 from support.harness import differs, in_lanes
@@ -256,7 +257,7 @@ def of_journals():
         ("a journal with a record cut off", stays[:-1], 0, octets_of([*READY, BYE]), ANN),
         ("no journal", None, 0, octets_of(["220 localhost ESMTP", BYE]), journal()),
         ("a bad journal", ANN + b"\0\0\0\1\x09", 5, b"bad journal at %d\r\n" % len(ANN), ANN + b"\0\0\0\1\x09"),
-        ("other octets", b"MAILJNL2", 5, b"bad journal at 0\r\n", b"MAILJNL2"),
+        ("other octets", b"MAILJNL3", 5, b"bad journal at 0\r\n", b"MAILJNL3"),
     ]
 
 

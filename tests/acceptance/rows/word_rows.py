@@ -10,8 +10,8 @@ from rows.downgrade_rows import WORDS_REFUSED
 from support.harness import SECONDS, differs
 from support.talk import JOURNAL, place_journal, read_journal
 
-X_ORG = bytes.fromhex("4D41494C4A4E4C31" "0000000A0200000005782E6F7267")
-BAD = bytes.fromhex("4D41494C4A4E4C310000000109")
+X_ORG = bytes.fromhex("4D41494C4A4E4C32" "0000000A0200000005782E6F7267")
+BAD = bytes.fromhex("4D41494C4A4E4C320000000109")
 EXISTS, NO_DOMAIN = (9, b"exists\r\n"), (9, b"no such domain\r\n")
 DONE, NOTHING_SENT = (0, b""), (0, b"sent 0, reported 0, left 0\r\n")
 TEXT_MAX = 65_536
@@ -101,7 +101,7 @@ def of_journals():
     for words in (["domain", "x.org"], ["account", "a@x.org", "p"], ["relay", "x.invalid"]):
         rows += [
             (f"a bad journal, {words[0]}", BAD, words, (5, b"bad journal at 8\r\n"), BAD),
-            (f"other octets, {words[0]}", b"MAILJNL2", words, (5, b"bad journal at 0\r\n"), b"MAILJNL2"),
+            (f"other octets, {words[0]}", b"MAILJNL3", words, (5, b"bad journal at 0\r\n"), b"MAILJNL3"),
         ]
     return [
         *rows,
