@@ -9,7 +9,7 @@ import shutil
 import subprocess
 import tempfile
 
-from journal import FIRST_OCTETS, account, domain, journal
+from journal import FIRST_OCTETS, account, domain, journal, older_journal, older_message
 from oracle.downgrade_oracle import MESSAGE_MAX
 from oracle.records import mailbox
 from outside.smtp_outside import little_room
@@ -200,7 +200,12 @@ def of_memory(program, tally):
         tally.note("downgrade: memory is wanting", ended(found, 3, said, b""))
     with Place(program, mailbox([b"A: b\r\n\r\n" + b"x" * (32 << 20)], b"a@x.org", b"p")) as place:
         for words, octets in WITH_JOURNAL:
-            tally.note(name_of(words, "memory is wanting"), ended(place.run(words, octets, before=little_memory), 3, said, b""))
+            tally.note(name_of(words, "memory is wanting"), ended(place.run(words, octets, before=little_memory), 3, said, b"") + place.changes())
+    older = older_journal(domain(b"x.org"), account(b"a@x.org", b"p"), older_message(0, b"A: b\r\n\r\n" + b"x" * (32 << 20)))
+    with Place(program, older) as place:
+        for words, octets in WITH_JOURNAL:
+            faults = ended(place.run(words, octets, before=little_memory), 3, said, b"") + place.changes()
+            tally.note(name_of(words, "memory is wanting for a journal of version 1"), faults)
 
 
 def of_others(program, tally):

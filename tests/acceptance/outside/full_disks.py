@@ -6,7 +6,7 @@ import os
 import shutil
 import subprocess
 
-from journal import account, domain, journal
+from journal import account, domain, journal, older_journal, version
 from oracle.pop_store import Unopened, open_journal
 from oracle.records import mailbox
 from outside.failures import KEPT, NO_ROOM, OF_SESSIONS, QUIT, WITH_JOURNAL, Place, ended, line, name_of
@@ -16,7 +16,7 @@ from support.harness import differs
 from support.service import Service
 from support.talk import place_journal, read_journal
 
-ROOM, MORE = 64 << 10, 16 << 20
+ROOM, MORE, PAGE = 64 << 10, 16 << 20, 4096
 TOO_LARGE = b"File too large"
 STORE = journal(domain(b"x.org"), account(b"a@x.org", b"p"))
 LOGS_IN = b"USER a@x.org\r\nPASS p\r\n"
@@ -165,6 +165,36 @@ def of_new_journals(program, tally):
             tally.note(name_of(words, "no room for a journal"), faults)
 
 
+def older_store(size):
+    """A journal of version 1 with so many octets."""
+    store = lambda password: older_journal(domain(b"x.org"), account(b"a@x.org", password))
+    return store(b"p" * (size - len(store(b""))))
+
+
+def of_older_journals(program, tally):
+    """There is no room for the record that a journal of version 1 gets, or for a part of it alone: the command fails, and the journal stays as it
+    was. Once there is room, the next command makes up for it."""
+    for words, octets in WITH_JOURNAL:
+        for rest in (0, 1, 4):
+            store = older_store(PAGE - rest)
+            with Disk(program, store) as disk:
+                disk.fill()
+                found = disk.run_here(words, octets)
+                faults = ended(found, 2, line(KEPT, disk.reason), b"") + disk.changes()
+                disk.make_room()
+                for _ in range(2):
+                    faults += differs("a later session", disk.run_here([b"pop"], QUIT), (0, b"+OK ready\r\n+OK bye\r\n", b""))
+                    faults += differs("the journal then", read_journal(disk.journal), store + version())
+                tally.note(name_of(words, f"room for {rest} octets of the end of version 1"), faults)
+    with Disk(program, older_store(PAGE)) as disk:
+        disk.fill()
+        with Service(program.path, disk.path, "smtp", preexec=disk.before) as service:
+            status = service.end()
+        faults = differs("status", status, 2) + disk.changes() + differs("standard error", service.said, [])
+        faults += differs("told", service.unready, [f"it began with {line(KEPT, disk.reason).decode().strip()!r} on standard error"])
+        tally.note("serve smtp: no room for the end of version 1", faults)
+
+
 def of_services(program, tally):
     """A service goes on where a delivery found no room, and takes mail once there is some."""
     with Disk(program, STORE) as disk:
@@ -184,7 +214,7 @@ def of_services(program, tally):
 
 
 def check(program, tally):
-    for checks in (of_deliveries, of_deletions, of_new_journals, of_services):
+    for checks in (of_deliveries, of_deletions, of_new_journals, of_older_journals, of_services):
         checks(program, tally)
     with Disk(program) as disk:
         if not disk.is_mounted:

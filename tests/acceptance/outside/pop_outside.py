@@ -9,6 +9,7 @@ import tempfile
 import threading
 import time
 
+from journal import mark_of
 from oracle.records import mailbox
 from rows.downgrade_rows import CAFE, little_memory
 from rows.pop_rows import LINE_MAX
@@ -114,21 +115,23 @@ def run_long(program, line, count, last, word=POP, first=b"", preexec=None):
 
 
 def of_the_tool(program, tally):
-    """tools/write_journal writes what is written out here."""
-    with tempfile.TemporaryDirectory(dir=program.folder.name) as folder:
-        mail, path = os.path.join(folder, "mail.eml"), os.path.join(folder, JOURNAL)
-        with open(mail, "wb") as file:
-            file.write(b"A: b\n")
-        options = ["--domain", "x.org", "--account", "a@x.org", "p", "--text", "0", mail, "--message", "0", mail]
-        subprocess.run([sys.executable, paths.tool("write_journal"), path, *options], stdout=subprocess.DEVNULL, timeout=SECONDS)
-        wanted = [
-            "4D41494C4A4E4C32",
-            "0000000A 02 00000005 782E6F7267",
-            "00000011 01 00000007 6140782E6F7267 00000001 70",
-            "0000002F 09 00000000 00 00 0000001A 30312D4A616E2D313937302030303A30303A3030202B30303030 00000006 413A20620D0A",
-            "0000002E 09 00000000 00 00 0000001A 30312D4A616E2D313937302030303A30303A3030202B30303030 00000005 413A20620A",
-        ]
-        tally.note("tools/write_journal", differs("octets", read_journal(path), bytes.fromhex("".join(wanted))))
+    """tools/write_journal writes what is written out here, in either version."""
+    setup = ["0000000A 02 00000005 782E6F7267", "00000011 01 00000007 6140782E6F7267 00000001 70"]
+    date, mail = "0000001A 30312D4A616E2D313937302030303A30303A3030202B30303030", ("00000006 413A20620D0A", "00000005 413A20620A")
+    cases = [
+        ([], ["4D41494C4A4E4C32", *setup, f"0000002F 09 00000000 00 00 {date} {mail[0]}", f"0000002E 09 00000000 00 00 {date} {mail[1]}"]),
+        (["--older"], ["4D41494C4A4E4C31", *setup, f"0000002E 04 00000000 00 {date} {mail[0]}", f"0000002D 04 00000000 00 {date} {mail[1]}"]),
+    ]
+    for more, wanted in cases:
+        with tempfile.TemporaryDirectory(dir=program.folder.name) as folder:
+            text, path = os.path.join(folder, "mail.eml"), os.path.join(folder, JOURNAL)
+            with open(text, "wb") as file:
+                file.write(b"A: b\n")
+            options = [*more, "--domain", "x.org", "--account", "a@x.org", "p", "--text", "0", text, "--message", "0", text]
+            subprocess.run([sys.executable, paths.tool("write_journal"), path, *options], stdout=subprocess.DEVNULL, timeout=SECONDS)
+            tally.note(f"tools/write_journal {' '.join(more)}", differs("octets", read_journal(path), bytes.fromhex("".join(wanted))))
+    high = ["Subject: é\r\n\r\n", "A: b\r\n\r\né", "Content-Type: message/rfc822\r\n\r\nSubject: é\r\n", "Content-Type: multipart/mixed; boundary=b\r\n\r\n--b\r\nX: é\r\n\r\n--b--\r\n"]
+    tally.note("tools/journal.py: marks", differs("marks", [mark_of(text.encode()) for text in ["A: b", *high]], [0, 3, 2, 3, 3]))
 
 
 def check(program, tally):

@@ -1,5 +1,6 @@
 """Rows of IMAP on what FETCH tells of the parts of a message, and on APPEND, in the form that imap_rows.py tells."""
 
+import journal as own
 from journal import account, domain, expunge, flags, folder, journal
 from oracle.records import mailbox, message
 from rows.imap_rows import (
@@ -180,6 +181,14 @@ def of_views():
     ]
 
 
+# what is put into a folder, and its mark
+MARKED = [
+    (NOTE, 0), ("Subject: é\r\n".encode(), 3), ("A: b\r\n\r\nSubject: é\r\n".encode(), 2), (b"A: b\r\n\r\n\xff\r\n", 2), (b"\r\n\x7f\r\n", 0),
+    (STORED.octets, 3), (SHOWN.octets, 2), ("Content-Type: message/rfc822\r\n\r\n\r\né\r\n".encode(), 2), ("Content-Type: message/rfc822\r\n\r\nX: é\r\n".encode(), 3),
+    ("Content-Type: message/rfc822\r\nContent-Transfer-Encoding: base64\r\n\r\nX: é\r\n".encode(), 2),
+]
+
+
 def append(words, data, *replies, end=b"\r\n"):
     """The two lines of an APPEND: with its literal's header, and with its octets; and what is due behind each."""
     return [(f"a APPEND {words}{{{len(data)}}}", [GO]), (data + end, list(replies))]
@@ -200,6 +209,8 @@ def of_appends():
         ("flags and a date", ANN, [LOGIN, *append(f'INBOX (\\Seen \\draft x) "{given}" ', NOTE, DONE), *append(f'INBOX "{given}" ', NOTE, DONE),
             *append("INBOX () ", NOTE, DONE), select(3, 4), fetch("1:2 (FLAGS INTERNALDATE)", f'1 FETCH (FLAGS (\\Seen \\Draft) INTERNALDATE "{given}")',
             f'2 FETCH (FLAGS () INTERNALDATE "{given}")')], message(0, NOTE, SEEN | DRAFT, given.encode()) + message(0, NOTE, 0, given.encode()) + message(0, NOTE)),
+        ("marks", ANN, [LOGIN, *(line for octets, _ in MARKED for line in append("INBOX ", octets, DONE))],
+            b"".join(own.message(0, octets, mark=mark) for octets, mark in MARKED)),
         ("the last line is ended", ANN, [LOGIN, *append("INBOX ", b"A: b", DONE), *append("INBOX ", b"", DONE)], message(0, b"A: b\r\n") + message(0, b"")),
         ("what is no message", ANN, [LOGIN, *(it for data in no_messages for it in append("INBOX ", data, NOT_A_MESSAGE))], b""),
         ("a folder that isn't there", ANN, [LOGIN, *append("x ", NOTE, NO_FOLDER), *append("x ", b"x", NO_FOLDER), *append("& ", NOTE, NO_FOLDER),

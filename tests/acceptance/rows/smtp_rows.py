@@ -2,6 +2,7 @@
 
 The dates of records are those of the moment 0, in whose place the program's are told (moments.py)."""
 
+import journal as own
 from journal import account, domain, folder, journal
 from oracle.pop_store import open_journal
 from oracle.records import mailbox, message, queue
@@ -103,6 +104,23 @@ def of_data():
         ("white first", [" A: b"], None),
         ("a part that is no entity", [*MIXED.splitlines(), "--b", "é"], None),
         ("NUL", ["A: b", "", "\0"], None),
+    ]
+
+
+def of_marks():
+    """Name, path, the lines of the data, and the marks of what an account and the queue keep of them."""
+    part = [*MIXED.splitlines(), "--b", "Subject: é", "", "x", "--b--"]
+    closed = ["Content-Type: message/rfc822", "Content-Transfer-Encoding: base64", "", "Subject: é"]
+    return [
+        ("ASCII", "a@b", ["A: b", "", "x"], 0, 0),
+        ("a header beyond ASCII", "a@b", ["Subject: é", "", "x"], 3, 3),
+        ("a body beyond ASCII", "a@b", ["A: b", "", "Subject: é"], 2, 2),
+        ("a header of a part beyond ASCII", "a@b", part, 3, 3),
+        ("a header of a message beyond ASCII", "a@b", ["Content-Type: message/global", "", "Subject: é"], 3, 3),
+        ("a content that isn't opened beyond ASCII", "a@b", closed, 2, 2),
+        ("a sender beyond ASCII, who stands in the copy of an account alone", "é@b", ["A: b", "", "x"], 3, 0),
+        ("a sender and a body beyond ASCII", "é@b", ["A: b", "", "é"], 3, 2),
+        ("a sender beyond ASCII, and no data", "é@b", [], 3, 0),
     ]
 
 
@@ -270,6 +288,11 @@ def rows():
     for name, lines, data in of_data():
         records, reply = (b"", NO_MESSAGE) if data is None else (message(0, kept("a@b", data)), STORED)
         yield name, ANN, octets_of([*READY_FOR_DATA, *lines, ".", TO_ANN]), (0, octets_of([*TAKES_DATA, reply, ORDER]), ANN + records)
+    for name, path, lines, local, remote in of_marks():
+        data, traced = octets_of(lines), octets_of([trace("UTF8SMTP")])
+        records = own.message(0, kept(path, data, protocol="UTF8SMTP"), mark=local) + own.queue(path.encode(), [b"c@d"], traced + data, remote)
+        given = [EHLO, f"MAIL FROM:<{path}> SMTPUTF8", "RCPT TO:<c@d>", TO_ANN, "DATA", *lines, "."]
+        yield f"marks: {name}", ANN, octets_of(given), (0, octets_of([*GREETED, SENDER_OK, RECIPIENT_OK, RECIPIENT_OK, GO_AHEAD, STORED]), ANN + records)
     for name, lines, loops in of_loops():
         records, reply = (b"", LOOP) if loops else (message(0, kept("a@b", octets_of(lines))), STORED)
         yield name, ANN, octets_of([*READY_FOR_DATA, *lines, ".", TO_ANN]), (0, octets_of([*TAKES_DATA, reply, ORDER]), ANN + records)

@@ -6,6 +6,7 @@ import tempfile
 
 from journal import FIRST_OCTETS, account, domain, journal
 from oracle.pop_store import open_journal
+from oracle.word_oracle import certain_outcome
 from rows.downgrade_rows import WORDS_REFUSED
 from support.harness import SECONDS, differs
 from support.talk import JOURNAL, place_journal, read_journal
@@ -123,6 +124,9 @@ def run_on(program, before, words, octets=b""):
 
 def check_row(program, tally, name, before, words, wanted, after):
     found, left = run_on(program, before, words)
+    told = certain_outcome(before or b"", words_of(*words)) if words[0] in ("domain", "account") else None
+    if told:
+        tally.note(f"words: {name}, as the oracle has it", differs("answer", (told[:2], told[2]), (wanted, after)))
     tally.note(f"words: {name}", differs("answer", found, wanted) + differs("journal", left, after))
     if wanted[0] != 5:
         tally.note(f"words: {name}, as our reader has it", differs("journal", open_journal(after)[1], after))
