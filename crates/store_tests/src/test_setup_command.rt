@@ -5,10 +5,12 @@ use std::alloc::Global;
 use std::test::Fail;
 use test_mail::{Case, NEVER, all_hold, failing, given, keeper_of, wire_of, words_of};
 
-// An empty journal, and one with the domain `x.org`.
-const BEGUN: &[u8] = b"MAILJNL1";
+// An empty journal of each version, and one with the domain `x.org`.
+const BEGUN: &[u8] = b"MAILJNL2";
 
-const WITH_DOMAIN: &[u8] = b"MAILJNL1\0\0\0\x0a\x02\0\0\0\x05x.org";
+const OLD: &[u8] = b"MAILJNL1";
+
+const WITH_DOMAIN: &[u8] = b"MAILJNL2\0\0\0\x0a\x02\0\0\0\x05x.org";
 
 // The status of the words of `account` or `domain`, if they are such.
 fn answer(
@@ -62,7 +64,8 @@ impl Case for Adding {
     }
 }
 
-// The keeper's calls are one for the length, one for the first octets, and one that puts the record last.
+// The keeper's calls are one for the length, one for the first octets, one that has a journal of version 1 go on in version 2, and one that puts the
+// record last.
 const ADDING: [(&str, &[Adding]); 2] = [
     (
         "each failing call of the keeper breaks off",
@@ -82,6 +85,18 @@ const ADDING: [(&str, &[Adding]); 2] = [
             Adding {
                 kept: BEGUN,
                 calls: [2, NEVER],
+                status: 2,
+                given: b"",
+            },
+            Adding {
+                kept: OLD,
+                calls: [2, NEVER],
+                status: 2,
+                given: b"",
+            },
+            Adding {
+                kept: OLD,
+                calls: [3, NEVER],
                 status: 2,
                 given: b"",
             },

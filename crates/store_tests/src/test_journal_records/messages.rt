@@ -99,9 +99,11 @@ impl Case for Stored {
         let octets = Octets::from_slice(alloc, self.0)?;
         match StoredOctets::read(alloc, octets, self.1)? {
             Some(stored) => {
-                Ok(Some(stored.mark()) == self.2
-                    && stored.len() == self.0.len()
-                    && stored.into_octets().as_slice() == self.0)
+                Ok(
+                    Some(stored.mark()) == self.2
+                        && stored.len() == self.0.len()
+                        && stored.into_octets().as_slice() == self.0,
+                )
             }
             None => Ok(self.2.is_none()),
         }

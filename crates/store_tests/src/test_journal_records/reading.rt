@@ -63,7 +63,9 @@ const FIELDS: [(&str, &[Fields]); 2] = [
             Fields::Record(b"\x06\0\0\0\x02"),
             Fields::Record(b"\x07\0\0\0\0\0\0\0\x02\0\0\0\x01b\0\0\0\x02cd\0\0\0\x01x"),
             Fields::Record(b"\x08\0\0\0\0\0\0\0\x01"),
-            Fields::Record(b"\x09\0\0\0\x01\x1f\x03\0\0\0\x1a01-Jan-1970 00:00:00 +0000\0\0\0\x01x"),
+            Fields::Record(
+                b"\x09\0\0\0\x01\x1f\x03\0\0\0\x1a01-Jan-1970 00:00:00 +0000\0\0\0\x01x",
+            ),
             Fields::Record(b"\x0a\0\0\0\0\0\0\0\x02\0\0\0\x01b\0\0\0\x02cd\x02\0\0\0\x01x"),
             Fields::Record(b"\x0b"),
         ],

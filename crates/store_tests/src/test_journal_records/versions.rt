@@ -34,12 +34,7 @@ const RECORDS: [(&str, &[Of]); 3] = [
                 false,
                 Version::One,
             ),
-            Of(
-                b"\x07\0\0\0\0\0\0\0\0\0\0\0\0",
-                true,
-                false,
-                Version::One,
-            ),
+            Of(b"\x07\0\0\0\0\0\0\0\0\0\0\0\0", true, false, Version::One),
         ],
     ),
     (
@@ -51,12 +46,7 @@ const RECORDS: [(&str, &[Of]); 3] = [
                 true,
                 Version::One,
             ),
-            Of(
-                b"\x0a\0\0\0\0\0\0\0\0\0\0\0\0\0",
-                false,
-                true,
-                Version::One,
-            ),
+            Of(b"\x0a\0\0\0\0\0\0\0\0\0\0\0\0\0", false, true, Version::One),
         ],
     ),
     (

@@ -88,7 +88,9 @@ fn text_of(alloc: Global, what: &Written) -> Result<Octets, Memory> {
         Written::Queue(mark) => queue_text(alloc, *mark),
         Written::Version => record_text(alloc, &Record::Version),
         Written::Domain => domain_text(alloc, b"example.org"),
-        Written::MessageFront => { message_front(alloc, 1, 9, 2, b"01-Jan-1970 00:00:00 +0000", b"x") }
+        Written::MessageFront => {
+            message_front(alloc, 1, 9, 2, b"01-Jan-1970 00:00:00 +0000", b"x")
+        }
         Written::QueueFront => queue_front(alloc, b"p", &[], 3, b"xy"),
         Written::Account => written_account(alloc),
     }

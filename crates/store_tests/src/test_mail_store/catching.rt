@@ -16,8 +16,13 @@ const FOLDER: [u8; 18] = *b"\0\0\0\x0e\x03\0\0\0\0\0\0\0\x05caf\xc3\xa9";
 const MESSAGE: [u8; 70] =
     *b"\0\0\0B\x09\0\0\0\0\0\x03\0\0\0\x1a01-Jan-1970 00:00:00 +0000\0\0\0\x19Subject: caf\xc3\xa9 bar\r\n\r\nx\r\n";
 
-// A message of a folder that isn't there.
+// A message that isn't there.
 const BAD: [u8; 9] = *b"\0\0\0\x05\x06\0\0\0\x09";
+
+// The same journal in version 1, and the record with which it goes on in version 2.
+const OLD: [u8; 28] = *b"MAILJNL1\0\0\0\x10\x02\0\0\0\x0bexample.org";
+
+const VERSION: [u8; 5] = *b"\0\0\0\x01\x0b";
 
 // Whether the store has so many accounts, folders and messages.
 fn has(store: &Store, accounts: usize, folders: usize, messages: usize) -> bool {
@@ -71,6 +76,21 @@ fn reads_others(store: &mut Store, alloc: Global) -> bool {
 
 const MAILBOX: [&[u8]; 3] = [&BEGUN, &ACCOUNT, &MESSAGE];
 
+// Whether records of version 2 are read after those of version 1.
+fn reads_after_old(store: &mut Store, alloc: Global) -> bool {
+    catches(store, alloc, &[&OLD, &VERSION], 33, Ok(()))
+        && catches(
+            store,
+            alloc,
+            &[&OLD, &VERSION, &ACCOUNT, &MESSAGE],
+            133,
+            Ok(()),
+        )
+        && has(store, 1, 1, 1)
+        && store.message_count() > 0
+        && store.mark(0) == 3
+}
+
 // Whether nothing is read twice: the keeper's second call would fail.
 fn reads_once(store: &mut Store, alloc: Global) -> bool {
     answers(store, alloc, &MAILBOX, 1, Ok(()))
@@ -79,10 +99,13 @@ fn reads_once(store: &mut Store, alloc: Global) -> bool {
         && has(store, 1, 1, 1)
 }
 
-// Whether a record that was broken off is cut off.
+// Whether a record that was broken off is cut off, and so are zeros.
 fn cuts_off(store: &mut Store, alloc: Global) -> bool {
     let parts = [BEGUN.as_slice(), &ACCOUNT, &MESSAGE[..69]];
-    catches(store, alloc, &parts, 58, Ok(())) && has(store, 1, 1, 0)
+    catches(store, alloc, &parts, 58, Ok(()))
+        && has(store, 1, 1, 0)
+        && catches(store, alloc, &[&BEGUN, &ACCOUNT, &[0; 600]], 58, Ok(()))
+        && has(store, 1, 1, 0)
 }
 
 // Whether a shorter journal is bad.
@@ -97,6 +120,7 @@ fn refuses_shorter(store: &mut Store, alloc: Global) -> bool {
 fn tells_bad(store: &mut Store, alloc: Global) -> bool {
     let bad = Err(OpenFault::BadJournal { at: 58 });
     catches(store, alloc, &[&BEGUN, &ACCOUNT, &BAD], 67, bad)
+        && catches(store, alloc, &[&BEGUN, &ACCOUNT, &VERSION], 63, bad)
         && has(store, 1, 1, 0)
         && catches(store, alloc, &MAILBOX, 128, Ok(()))
         && has(store, 1, 1, 1)
@@ -131,6 +155,7 @@ fn heals(store: &mut Store, keeper: &mut MemKeeper, alloc: Global) -> bool {
 #[derive(Clone, Copy)]
 pub enum Trial {
     ReadsOthers,
+    ReadsAfterOld,
     ReadsOnce,
     CutsOff,
     RefusesShorter,
@@ -143,6 +168,7 @@ pub enum Trial {
 pub fn goes_well(store: &mut Store, keeper: &mut MemKeeper, alloc: Global, trial: Trial) -> bool {
     match trial {
         Trial::ReadsOthers => reads_others(store, alloc),
+        Trial::ReadsAfterOld => reads_after_old(store, alloc),
         Trial::ReadsOnce => reads_once(store, alloc),
         Trial::CutsOff => cuts_off(store, alloc),
         Trial::RefusesShorter => refuses_shorter(store, alloc),
@@ -152,13 +178,21 @@ pub fn goes_well(store: &mut Store, keeper: &mut MemKeeper, alloc: Global, trial
     }
 }
 
-const ROWS: [(&str, &[Row]); 7] = [
+const ROWS: [(&str, &[Row]); 8] = [
     (
         "records of others are read",
         &[Row {
             parts: &[&BEGUN],
             call: NEVER,
             trial: StoreTrial::CatchUp(Trial::ReadsOthers),
+        }],
+    ),
+    (
+        "so are those of version 2 after version 1",
+        &[Row {
+            parts: &[&OLD],
+            call: NEVER,
+            trial: StoreTrial::CatchUp(Trial::ReadsAfterOld),
         }],
     ),
     (

@@ -4,7 +4,7 @@ use mail_store::{OpenFault, Store};
 use mail_wire::{MemKeeper, Memory};
 use std::alloc::Global;
 use std::test::Fail;
-use test_mail::{Case, NEVER, all_hold, failing, keeper_of_parts};
+use test_mail::{Case, NEVER, all_hold, failing, joined, keeper_of_parts};
 
 const FIRST: [u8; 8] = *b"MAILJNL2";
 
@@ -15,12 +15,23 @@ const ACCOUNT: [u8; 30] = *b"\0\0\0\x1a\x01\0\0\0\x0fann@example.org\0\0\0\x02pw
 const MESSAGE: [u8; 70] =
     *b"\0\0\0B\x09\0\0\0\0\0\x03\0\0\0\x1a01-Jan-1970 00:00:00 +0000\0\0\0\x19Subject: caf\xc3\xa9 bar\r\n\r\nx\r\n";
 
-// The same without its mark, and with another.
+// The same without its mark.
 const PLAIN: [u8; 69] =
     *b"\0\0\0A\x04\0\0\0\0\0\0\0\0\x1a01-Jan-1970 00:00:00 +0000\0\0\0\x19Subject: caf\xc3\xa9 bar\r\n\r\nx\r\n";
 
-const MISMARKED: [u8; 70] =
-    *b"\0\0\0B\x09\0\0\0\0\0\x02\0\0\0\x1a01-Jan-1970 00:00:00 +0000\0\0\0\x19Subject: caf\xc3\xa9 bar\r\n\r\nx\r\n";
+// What stands before its mark, and after that.
+const BEFORE_MARK: [u8; 10] = *b"\0\0\0B\x09\0\0\0\0\0";
+
+const AFTER_MARK: [u8; 59] =
+    *b"\0\0\0\x1a01-Jan-1970 00:00:00 +0000\0\0\0\x19Subject: caf\xc3\xa9 bar\r\n\r\nx\r\n";
+
+// A queue without its mark, and what stands before and after its mark.
+const PLAIN_QUEUE: [u8; 47] =
+    *b"\0\0\0+\x07\0\0\0\0\0\0\0\x01\0\0\0\x07c@z.org\0\0\0\x13Subject: \xc3\xa9\r\n\r\n.x\r\n";
+
+const BEFORE_QUEUE_MARK: [u8; 24] = *b"\0\0\0,\x0a\0\0\0\0\0\0\0\x01\0\0\0\x07c@z.org";
+
+const AFTER_QUEUE_MARK: [u8; 23] = *b"\0\0\0\x13Subject: \xc3\xa9\r\n\r\n.x\r\n";
 
 const VERSION: [u8; 5] = *b"\0\0\0\x01\x0b";
 
@@ -152,7 +163,8 @@ fn journals_are_read(rt: HostRuntime) -> Result<(), Fail> {
     all_hold(rt.alloc(), &ROWS)
 }
 
-// The parts of a keeper's octets, the call of it that fails, and the fault for which its store isn't opened, if there is one.
+// The parts of a keeper's octets, the call of it that fails, and the fault for which its store isn't opened, if there is one. A bad journal
+// stays.
 struct Refused {
     parts: &'static [&'static [u8]],
     call: u64,
@@ -162,17 +174,24 @@ struct Refused {
 impl Case for Refused {
     fn holds(&self, alloc: Global) -> Result<bool, Memory> {
         let mut keeper = keeper_of_parts(alloc, self.parts, failing(self.call))?;
+        let had = joined(alloc, self.parts)?;
         match Store::open(alloc, &mut keeper, 1000) {
             Ok(_) => Ok(self.fault.is_none()),
+            Err(OpenFault::BadJournal { at }) => Ok(
+                self.fault == Some(OpenFault::BadJournal { at })
+                    && keeper.octets() == had.as_slice(),
+            ),
             Err(met) => Ok(self.fault == Some(met)),
         }
     }
 }
 
-// The journal of a domain, and a record that was broken off.
+// The journal of a domain, and a record that was broken off, in both versions.
 const BROKEN_OFF: [&[u8]; 3] = [&FIRST, &DOMAIN, b"\0\0\0"];
 
-const REFUSED: [(&str, &[Refused]); 6] = [
+const OLD_BROKEN_OFF: [&[u8]; 3] = [&OLD, &DOMAIN, b"\0\0\0"];
+
+const REFUSED: [(&str, &[Refused]); 7] = [
     (
         "a record of another version is bad",
         &[
@@ -202,7 +221,42 @@ const REFUSED: [(&str, &[Refused]); 6] = [
                 fault: Some(OpenFault::BadJournal { at: 43 }),
             },
             Refused {
+                parts: &[&FIRST, &PLAIN_QUEUE],
+                call: NEVER,
+                fault: Some(OpenFault::BadJournal { at: 8 }),
+            },
+            Refused {
+                parts: &[&OLD, &BEFORE_QUEUE_MARK, b"\x03", &AFTER_QUEUE_MARK],
+                call: NEVER,
+                fault: Some(OpenFault::BadJournal { at: 8 }),
+            },
+            Refused {
+                parts: &[&OLD, &VERSION, &PLAIN_QUEUE],
+                call: NEVER,
+                fault: Some(OpenFault::BadJournal { at: 13 }),
+            },
+        ],
+    ),
+    (
+        "so is a keeper that begins otherwise",
+        &[
+            Refused {
                 parts: &[b"MAILJNL3"],
+                call: NEVER,
+                fault: Some(OpenFault::BadJournal { at: 0 }),
+            },
+            Refused {
+                parts: &[b"MAIL JNL"],
+                call: NEVER,
+                fault: Some(OpenFault::BadJournal { at: 0 }),
+            },
+            Refused {
+                parts: &[b"MAILX"],
+                call: NEVER,
+                fault: Some(OpenFault::BadJournal { at: 0 }),
+            },
+            Refused {
+                parts: &[b"\0"],
                 call: NEVER,
                 fault: Some(OpenFault::BadJournal { at: 0 }),
             },
@@ -210,11 +264,43 @@ const REFUSED: [(&str, &[Refused]); 6] = [
     ),
     (
         "a mark that isn't that of the octets is bad",
-        &[Refused {
-            parts: &[&FIRST, &ACCOUNT, &MISMARKED],
-            call: NEVER,
-            fault: Some(OpenFault::BadJournal { at: 38 }),
-        }],
+        &[
+            Refused {
+                parts: &[&FIRST, &ACCOUNT, &BEFORE_MARK, b"\x03", &AFTER_MARK],
+                call: NEVER,
+                fault: None,
+            },
+            Refused {
+                parts: &[&FIRST, &ACCOUNT, &BEFORE_MARK, b"\0", &AFTER_MARK],
+                call: NEVER,
+                fault: Some(OpenFault::BadJournal { at: 38 }),
+            },
+            Refused {
+                parts: &[&FIRST, &ACCOUNT, &BEFORE_MARK, b"\x01", &AFTER_MARK],
+                call: NEVER,
+                fault: Some(OpenFault::BadJournal { at: 38 }),
+            },
+            Refused {
+                parts: &[&FIRST, &ACCOUNT, &BEFORE_MARK, b"\x02", &AFTER_MARK],
+                call: NEVER,
+                fault: Some(OpenFault::BadJournal { at: 38 }),
+            },
+            Refused {
+                parts: &[&FIRST, &ACCOUNT, &BEFORE_MARK, b"\x07", &AFTER_MARK],
+                call: NEVER,
+                fault: Some(OpenFault::BadJournal { at: 38 }),
+            },
+            Refused {
+                parts: &[&FIRST, &BEFORE_QUEUE_MARK, b"\x03", &AFTER_QUEUE_MARK],
+                call: NEVER,
+                fault: None,
+            },
+            Refused {
+                parts: &[&FIRST, &BEFORE_QUEUE_MARK, b"\x02", &AFTER_QUEUE_MARK],
+                call: NEVER,
+                fault: Some(OpenFault::BadJournal { at: 8 }),
+            },
+        ],
     ),
     (
         "octets without a tree are no message",
@@ -277,15 +363,32 @@ const REFUSED: [(&str, &[Refused]); 6] = [
                 call: 4,
                 fault: Some(OpenFault::Keeper),
             },
+            Refused {
+                parts: &OLD_BROKEN_OFF,
+                call: 4,
+                fault: Some(OpenFault::Keeper),
+            },
+            Refused {
+                parts: &OLD_BROKEN_OFF,
+                call: 5,
+                fault: Some(OpenFault::Keeper),
+            },
         ],
     ),
     (
         "there are no more calls than these",
-        &[Refused {
-            parts: &BROKEN_OFF,
-            call: 5,
-            fault: None,
-        }],
+        &[
+            Refused {
+                parts: &BROKEN_OFF,
+                call: 5,
+                fault: None,
+            },
+            Refused {
+                parts: &OLD_BROKEN_OFF,
+                call: 6,
+                fault: None,
+            },
+        ],
     ),
 ];
 
