@@ -16,31 +16,23 @@ use Rattle.journal_records.specs.declared.records.Record.{Record}
 use Rattle.mail_store.specs.Answers.{IsFold, OpensTo, IsJournalFault, LeavesRecords}
 use Rattle.mail_store.specs.Changing.{Changes, IsRefusedAs, IsStoreOf, HoldsFirst}
 use Rattle.mail_store.specs.Following.{Follows}
-use Rattle.kept_mail.specs.Kept.{Kept, nothing, store_of}
+use Rattle.kept_mail.specs.Kept.{Kept, store_of}
 use Rattle.mail_store.specs.Opening.{HasRecords, IsBadAt}
-use Rattle.kept_mail.specs.Records.{AreRecords}
 use Rattle.journal_records.specs.Spelling.{journal}
 use Rattle.mail_store.specs.StoreState.{StoreState}
 use Rattle.mail_store.proofs.FollowLemmas.{followed, broken, Breaks-one, records_of-one, Follows-nil}
+use Rattle.mail_store.proofs.OpenLemmas.{upgraded_kept}
 use Rattle.mail_store.proofs.Readings.{same_records, records_not_bad}
+use Rattle.mail_store.proofs.SettleLemmas.{opened_store}
 use Rattle.setup_command.specs.AddingRuns.{RefusesOne, InJournal, InLine, InAdding, InRefusal, RunsAdding, Added, Refused, Unopened, Broken, IsRefusedBy, IsAnswerTo, IsExactAdding, TellsLine, TellsUnopened, TellsRefused}
 use Rattle.setup_command.specs.Running.{OpensStore, HoldsStore, IsToldBy, BreaksSessionOff, HoldsBegun, IsExactJournal, place_line}
 use Rattle.setup_command.specs.Statuses.{status_of}
 
 -- ---- what the keeper holds
 
--- the records of octets are such
-pub records_had : (octets : List ℕ) (all : List Record) → HasRecords octets all → AreRecords nothing all
-records_had octets all (inl begun) = rw begun.1 tt
-records_had octets all (inr whole) = whole.1.records
-
--- the store that was opened has the records that the octets had
-pub opened_store : (octets : List ℕ) (opened : Option (List ℕ)) (store : StoreState) → (opens : OpensTo octets opened store.kept) → IsStoreOf store opened opens.all
-opened_store octets opened store opens = record { records = records_had octets opens.all opens.had; kept_is = opens.kept_is; holds = opens.holds }
-
 -- the keeper holds the journal of a store
 pub journal_held : (store : StoreState) (octets : Option (List ℕ)) (all : List Record) → IsStoreOf store octets all → HoldsStore octets store
-journal_held store octets all is = rw is.holds (all, is.records, refl, is.kept_is)
+journal_held store octets all is = rw is.holds (is.version, all, is.records, refl, is.kept_is)
 
 -- the keeper holds what was opened and what was put last
 pub holds_by : (old opened new : Option (List ℕ)) (store after : StoreState) (more : List Record) → LeavesRecords old opened → IfSome old (λ octets. OpensTo octets opened store.kept)
@@ -52,15 +44,16 @@ holds_by (Some octets) opened new store after more leaves opens follows =
 -- nothing was put last: the keeper has the first of whatever records
 HoldsFirst-none : (store : StoreState) (octets : Option (List ℕ)) (all more : List Record) → IsStoreOf store octets all → HoldsFirst octets all more
 HoldsFirst-none store octets all more is = record {
-  kept = journal all;
+  kept = journal is.version all;
   count = 0;
   holds = is.holds;
-  records = rw (append-nil all) (inr ([], record { text = sym (append-nil (journal all)); records = is.records }, inl (omega arith)));
+  records = rw (append-nil all) (is.version, inr ([], record { text = sym (append-nil (journal is.version all)); records = is.records }, inl (inl (omega arith))));
 }
 
 begun_of : (store : StoreState) (new opened : Option (List ℕ)) (one : Record) (all : List Record) → IsStoreOf store opened all → HoldsFirst new all (one ∷ [])
     → HoldsBegun new store ((one ∷ []) ∷ [])
 begun_of store new opened one all is first = record {
+  version = is.version;
   all = all;
   records = is.records;
   fold = is.kept_is;
@@ -178,10 +171,11 @@ pub broken_answer : (refused : Option StoreFault) (status : ℕ) → BreaksSessi
 broken_answer None status broken = inr broken
 broken_answer (Some why) status broken = inr broken
 
--- the store that was opened is that of the records
+-- the store that was opened keeps what the octets' records lead to
 opened_of : (octets : List ℕ) (opened : Option (List ℕ)) (store : StoreState) (all : List Record) → OpensStore (Some octets) opened store → HasRecords octets all → store.kept ≡ store_of all
 opened_of octets opened store all opens had =
-    opens.opens.kept_is ∙ ap (λ (l : List Record). store_of l) (same_records octets opens.opens.all all opens.opens.had had)
+    opens.opens.kept_is ∙ ap store_of opens.opens.all_is ∙ upgraded_kept opens.opens.version opens.opens.first
+    ∙ ap store_of (same_records octets opens.opens.first all (opens.opens.version, opens.opens.had) had)
 
 adding_at : (refusal : Kept → Option StoreFault) (one : Record) (octets : List ℕ) (new : Option (List ℕ)) (a b : WireState) (status : ℕ)
     → RunsAdding refusal one (Some octets) new a b status → IsExactAdding refusal octets status
@@ -200,11 +194,14 @@ pub exact_adding : (refusal : Kept → Option StoreFault) (one : Record) (old ne
 exact_adding refusal one None new a b status runs = tt
 exact_adding refusal one (Some octets) new a b status runs = adding_at refusal one octets new a b status runs
 
+-- octets that a store was opened of aren't bad
+opened_not_bad : (octets : List ℕ) (opened : Option (List ℕ)) (store : StoreState) → OpensStore (Some octets) opened store → (at : ℕ) → IsBadAt octets at → ⊥
+opened_not_bad octets opened store opens at bad = records_not_bad octets opens.opens.first at (opens.opens.version, opens.opens.had) bad
+
 journal_at : (refusal : Kept → Option StoreFault) (one : Record) (octets : List ℕ) (new : Option (List ℕ)) (a b : WireState) (status : ℕ)
     → RunsAdding refusal one (Some octets) new a b status → IsExactJournal octets status
-journal_at refusal one octets new a b status (Added adds is) = λ at bad. absurd (records_not_bad octets adds.opens.opens.all at adds.opens.opens.had bad)
-journal_at refusal one octets new a b status (Refused line refuses gives is) = λ at bad.
-    absurd (records_not_bad octets refuses.opens.opens.all at refuses.opens.opens.had bad)
+journal_at refusal one octets new a b status (Added adds is) = λ at bad. absurd (opened_not_bad octets adds.opened adds.store adds.opens at bad)
+journal_at refusal one octets new a b status (Refused line refuses gives is) = λ at bad. absurd (opened_not_bad octets new refuses.store refuses.opens at bad)
 journal_at refusal one octets new a b status (Unopened line unopened gives) = λ at bad. inl (bad_of octets new unopened.fault status line unopened.told unopened.is).0
 journal_at refusal one octets new a b status (Broken broken partly) = λ at bad. inr broken
 

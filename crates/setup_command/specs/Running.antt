@@ -7,6 +7,7 @@ use Rattle.mail_wire.specs.Causes.{Rose}
 use Rattle.mail_store.specs.declared.opening.OpenFault.{OpenFault}
 use Rattle.mail_store.specs.declared.opening.OpenFault.TheVariants as faults
 use Rattle.journal_records.specs.declared.records.Record.{Record}
+use Rattle.journal_records.specs.declared.versions.Version.{Version}
 use Rattle.mail_store.specs.Answers.{IsFold, OpensTo, IsJournalFault}
 use Rattle.mail_store.specs.Changing.{HoldsFirst}
 use Rattle.mail_store.specs.Following.{records_of}
@@ -28,7 +29,7 @@ pub record OpensStore (old new : Option (List ℕ)) (store : StoreState) : Type 
 
 -- the keeper holds the journal of the store
 abbrev pub HoldsStore : Option (List ℕ) → StoreState → Type 0
-HoldsStore kept store = IfSome kept (λ octets. (all : List Record) × AreRecords nothing all × (octets ≡ journal all) × (store.kept ≡ store_of all))
+HoldsStore kept store = IfSome kept (λ octets. (version : Version) × (all : List Record) × AreRecords version nothing all × (octets ≡ journal version all) × (store.kept ≡ store_of all))
 
 -- a text, a place, and the end of the line
 abbrev pub place_line : List ℕ → ℕ → List ℕ
@@ -52,8 +53,9 @@ BreaksSessionOff status = IsBrokenOff status ⊎ (status ≡ KEEPER_FAULT)
 
 -- The keeper opens with the store's records and the first of those that the changes bring.
 pub record HoldsBegun (octets : Option (List ℕ)) (store : StoreState) (due : List (List Record)) : Type 0 where
+  pub version : Version
   pub all : List Record
-  pub records : AreRecords nothing all
+  pub records : AreRecords version nothing all
   pub fold : store.kept ≡ store_of all
   pub holds : HoldsFirst octets all (records_of due)
 
