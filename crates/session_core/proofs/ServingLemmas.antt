@@ -27,7 +27,7 @@ use Rattle.session_core.specs.Oracles.{Oracles, AreOracles, WithOracles}
 use Rattle.session_core.specs.Moments.{Moment, IsTold}
 use Rattle.session_core.specs.Protocol.{Protocol, IsFitTurn}
 use Rattle.session_core.specs.Served.{met_of, served_of}
-use Rattle.session_core.specs.Serving.{Instance, instance_of, turns_for, acts_for, asked_for, replies_to, changes_by, EndsBy, IsSent, IsPrefixOf, MayTake, ServesLawfully, Serves, ServesBy, ServesFrom}
+use Rattle.session_core.specs.Serving.{Instance, instance_of, turns_for, acts_for, asked_for, replies_to, changes_by, EndsBy, IsSent, IsPrefixOf, MayTake, ServesLawfully, ServesBy, ServesFrom}
 use Rattle.session_core.specs.Sessions.{BeginsSession, Feeds, FeedsBy, HasEnded, StandsFor}
 use Rattle.session_core.specs.Steps.{Standing}
 use Rattle.session_core.specs.declared.desk.Desk.{Desk}
