@@ -11,7 +11,7 @@ use Rattle.relay_choice.specs.declared.mail_objects.Act.{Act}
 use Rattle.relay_choice.specs.declared.mail_objects.Act.TheVariants.{Say, SayData}
 use Rattle.relay_choice.specs.Offers.{is_completed, is_intermediate, is_permanent, offer_of}
 use Rattle.relay_choice.specs.Said.{data_line, reset_line, rcpt_line, mail_line, ehlo_line}
-use Rattle.relay_choice.specs.Relay.{End, finished, waits, stopped, Run, Transaction, done, ended, after_acts, after_act, says, is_answer, is_some_accepted, outcome_by, settled, sent_to}
+use Rattle.relay_choice.specs.Relay.{End, finished, waits, stopped, Run, Transaction, done, ended, after_acts, after_act, is_answer, is_some_accepted, outcome_by, settled, sent_to}
 use Rattle.relay_choice.specs.Relay.{reset_transaction, end_transaction, data_transaction, answered_transaction, answer_transaction, rcpt_transaction, mail_transaction, transaction_to, mail_object_transaction, followed, mail_objects_run, ehlo_run, relay_of}
 
 -- these acts come first

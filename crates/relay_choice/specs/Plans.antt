@@ -1,6 +1,6 @@
 -- Which form a queued message is sent in (RFC 6531, 3.2 and 3.6; RFC 6152, 3; RFC 5890, 2.3.2.1; RFC 5891, 4). Which of several reasons is told is this
 -- project's choice.
-use Rattle.std.specs.Prelude.{Bool, true, false, ◌&&◌, ◌||◌, not, is_some, if◌then◌else◌}
+use Rattle.std.specs.Prelude.{ℕ, ◌/◌, ◌%◌, ◌==◌, Bool, true, false, ◌&&◌, ◌||◌, not, is_some, if◌then◌else◌}
 use Rattle.mail_wire.specs.Octets.{is_high}
 use Rattle.ace_domains.specs.Domains.{normal_form}
 use Rattle.address_grammar.specs.declared.Address.{Address}
@@ -36,6 +36,12 @@ abbrev pub is_utf8 : Form → Bool
 is_utf8 form.Ascii = false
 is_utf8 form.Normal = false
 is_utf8 form.Utf8 = true
+
+-- ---- marks
+
+-- the bit of this value is in the mark
+abbrev pub has_bit : (value mark : ℕ) → Bool
+has_bit value mark = mark / value % 2 == 1
 
 -- ---- the choice
 

@@ -2,6 +2,7 @@
 ghost use Rattle.std.specs.Prelude.{◌≡◌, ◌++◌, ℕ, ◌<◌, ◌≤◌, List, [], Option, true, false, Some, length, slice_get, flat_map, sum_by, Contains};
 ghost use Rattle.std.specs.List.{All, range_with_len};
 ghost use Rattle.address_grammar.specs.declared.Address.{Address};
+ghost use Rattle.journal_records.specs.Stored.{mark_in};
 ghost use Rattle.mail_wire.specs.Octets.{is_high};
 ghost use Rattle.mime_tree.specs.declared.entity.Entity.{Entity};
 ghost use Rattle.mime_tree.specs.Tree.{has_high_block};
@@ -19,7 +20,7 @@ ghost use Rattle.relay_choice.specs.declared.replies.ReplyRead.TheVariants as re
 ghost use Rattle.relay_choice.specs.MailObjects.{demands_of};
 ghost use Rattle.relay_choice.specs.Offers.{offer_of};
 ghost use Rattle.relay_choice.specs.Pieces.{BeginsBy, DecidesBy};
-ghost use Rattle.relay_choice.specs.Plans.{form_of, is_sent, plan_for};
+ghost use Rattle.relay_choice.specs.Plans.{form_of, has_bit, is_sent, plan_for};
 ghost use Rattle.relay_choice.specs.Relay.{Run, after_acts, finished, left_count, outcomes_in, relay_of, stopped, waits};
 ghost use Rattle.relay_choice.specs.Replies.{IsDecided, IsReply, IsReplyRead};
 ghost use Rattle.relay_choice.specs.Said.{said_path};
@@ -27,6 +28,12 @@ ghost use Rattle.relay_choice.specs.Settling.{AreItsOutcomes, HasCode, IsFitOutc
 ghost use Rattle.relay_choice.specs.Standing.{rest_of};
 ghost use Rattle.relay_choice.specs.declared.states.Client.{Client};
 ghost use Rattle.relay_choice.specs.declared.replies.TheConstants.{REPLY_LINES, REPLY_LINE_MAX};
+
+/// The first bit of a message's mark says whether a header block has an octet above 127, and the second whether the message has one.
+pub fn marks_say_what_is_needed()
+    ensures header { (octets : List ℕ) (entities : List Entity) → has_bit 1 (mark_in octets entities) ≡ has_high_block octets entities }
+    ensures eight { (octets : List ℕ) (entities : List Entity) → has_bit 2 (mark_in octets entities) ≡ is_high octets }
+{}
 
 /// A header in UTF-8 goes to no server that doesn't offer SMTPUTF8, and such an offer has 8BITMIME.
 pub fn utf8_headers_go_where_they_are_read()

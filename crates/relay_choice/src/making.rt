@@ -1,14 +1,14 @@
 //! Mail objects, made of what a queue keeps.
-ghost use Rattle.std.specs.Prelude.{◌≡◌, IfOk, IfSome, map};
+ghost use Rattle.std.specs.Prelude.{◌≡◌, ℕ, List, IfOk, IfSome, map};
 ghost use Rattle.std.specs.List.{All};
-ghost use Rattle.mime_tree.specs.Tree.{HasTree};
+ghost use Rattle.journal_records.specs.Stored.{HasMark, mark_in};
+ghost use Rattle.mime_tree.specs.declared.entity.Entity.{Entity};
 ghost use Rattle.relay_choice.specs.MailObjects.{HasTextDomain, IsAddressed, mail_object_of as mail_object_at_addresses, path_form as path_form_of, recipient_at as recipient_at_address};
 
 use crate::mail_objects::{MailObject, Recipient, Recipients};
 use crate::plans::{Form, form_of, needs};
 use address_grammar::Address;
 use mail_wire::{Items, Memory};
-use mime_tree::Tree;
 use std::alloc::Global;
 
 #[tactic(auto, using(crate::proofs::TextLemmas::text_domain))]
@@ -43,25 +43,25 @@ fn path_form(alloc: Global, path: &Option<Address>) -> Result<Form, Memory>
     }
 }
 
-/// The mail object of a queued message with this tree, from a path to recipients at these addresses.
+/// The mail object of a queued message whose octets have this mark, from a path to recipients at these addresses.
 pub fn mail_object_of(
     alloc: Global,
     path: Option<Address>,
     addresses: Items<Address>,
-    octets: &[u8],
-    tree: &Tree,
+    mark: u8,
 ) -> Result<MailObject, Memory>
-    requires tree { HasTree octets.now tree.now.entities }
+    requires mark { (octets : List ℕ) × HasMark octets mark }
     requires path { IfSome path HasTextDomain }
     requires addresses { All HasTextDomain addresses }
-    ensures mail_object { IfOk result (λ mail_object. mail_object ≡ mail_object_at_addresses path addresses octets.now tree.now.entities) }
+    ensures mail_object { IfOk result (λ mail_object. (octets : List ℕ) (entities : List Entity) → mark ≡ mark_in octets entities
+        → mail_object ≡ mail_object_at_addresses path addresses octets entities) }
     ensures addressed { IfOk result IsAddressed }
 {
     let form = path_form(alloc, &path)?;
     let recipients = recipients_at(alloc, addresses)?;
     Ok(MailObject {
         path,
-        demands: needs(form, octets, tree),
+        demands: needs(form, mark),
         recipients,
     })
 }

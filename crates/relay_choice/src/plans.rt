@@ -1,12 +1,9 @@
 //! The form in which a queued message is sent.
-ghost use Rattle.std.specs.Prelude.{◌≡◌, IfOk, IsUtf8};
-ghost use Rattle.mail_wire.specs.Octets.{is_high};
-ghost use Rattle.mime_tree.specs.Tree.{HasTree, has_high_block};
-ghost use Rattle.relay_choice.specs.Plans.{form_of as form_of_address, is_normal as is_normal_form, is_sent as is_sent_by, is_utf8 as is_utf8_form, plan_for};
+ghost use Rattle.std.specs.Prelude.{◌≡◌, ◌<◌, IfOk, IsUtf8};
+ghost use Rattle.relay_choice.specs.Plans.{form_of as form_of_address, has_bit, is_normal as is_normal_form, is_sent as is_sent_by, is_utf8 as is_utf8_form, plan_for};
 
 use address_grammar::Address;
 use mail_wire::{Memory, is_ascii};
-use mime_tree::{Tree, has_high_block};
 use std::alloc::Global;
 
 /// How an address can be written.
@@ -69,16 +66,16 @@ pub fn form_of(alloc: Global, address: &Address) -> Result<Form, Memory>
     }
 }
 
-/// What a message that came from a path of this form asks for.
-pub fn needs(path: Form, octets: &[u8], tree: &Tree) -> Demands
-    requires { HasTree octets.now tree.now.entities }
-    ensures header { result.header ≡ has_high_block octets.now tree.now.entities }
-    ensures eight { result.eight ≡ is_high octets.now }
+/// What a message with this mark asks for that came from a path of this form.
+pub fn needs(path: Form, mark: u8) -> Demands
+    requires mark { mark < 4 }
+    ensures header { result.header ≡ has_bit 1 mark }
+    ensures eight { result.eight ≡ has_bit 2 mark }
     ensures path { result.path ≡ path }
 {
     Demands {
-        header: has_high_block(octets, tree),
-        eight: !is_ascii(octets),
+        header: mark & 1 != 0,
+        eight: mark & 2 != 0,
         path,
     }
 }

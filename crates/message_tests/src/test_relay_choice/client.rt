@@ -4,8 +4,8 @@ ghost use Rattle.std.specs.List.{All};
 ghost use Rattle.relay_choice.specs.MailObjects.{HasTextDomain, IsAddressed};
 
 use address_grammar::Address;
+use journal_records::mark_of;
 use mail_wire::{Items, Memory, Octets};
-use mime_tree::read_tree;
 use relay_choice::{
     Act, Acts, Client, MailObject, MailObjects, Outcome, ReplyRead, ReplyReader, Taken, Turn,
     mail_object_of, push_data, read_reply,
@@ -57,12 +57,12 @@ fn path_of(alloc: Global, parts: Option<Parts>) -> Result<Option<Address>, Memor
 fn queued_mail_object(alloc: Global, queued: &Queued) -> Result<Option<MailObject>, Memory>
     ensures { IfOk result (λ found. IfSome found IsAddressed) }
 {
-    let Ok(tree) = read_tree(alloc, queued.octets) else {
+    let Some(mark) = mark_of(alloc, queued.octets)? else {
         return Ok(None);
     };
     let path = path_of(alloc, queued.path)?;
     let recipients = addresses_of(alloc, queued.recipients)?;
-    Ok(Some(mail_object_of(alloc, path, recipients, queued.octets, &tree)?))
+    Ok(Some(mail_object_of(alloc, path, recipients, mark)?))
 }
 
 fn queued_mail_objects(alloc: Global, queue: &[Queued]) -> Result<Option<MailObjects>, Memory>
