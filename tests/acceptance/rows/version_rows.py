@@ -97,7 +97,7 @@ def of_relays(program, tally):
     more = queue("é@y.org".encode(), [b"d@y.org"], b"A: b\r\n")
     for name, before, changed, told, records in (
         ("sent", OLDER, {}, b"sent 1, reported 0, left 0\r\n", settle(0, 1)),
-        ("left", OLDER, {b"MAIL": b"451 4.3.0 no\r\n"}, b"sent 0, reported 0, left 1\r\n", b""),
+        ("left", OLDER, {b"MAIL FROM:": b"451 4.3.0 no\r\n"}, b"sent 0, reported 0, left 1\r\n", b""),
         ("sent in both versions", OLDER + GOES_ON + more, {}, b"sent 2, reported 0, left 0\r\n", settle(0, 1) + settle(1, 0)),
     ):
         with Place(program, before) as place, NextServer(changed=changed) as server:
@@ -114,21 +114,18 @@ def of_relays(program, tally):
         tally.note("relay: an entry of version 1 is reported", faults)
 
 
-def serve_once(program, place, word="pop"):
-    """What a client of `serve` is told, what the program said on standard error, and its status."""
-    with Service(program.path, place.path, word, connections=1) as service:
-        given = talk(service, QUIT) if service.running.poll() is None and len(service.lines()) == 1 else b""
-        status = service.end()
-    return given, service.said, status
+def serve_faults(program, place, is_served):
+    """What is wrong with `serve` and one client. Nobody is served where the journal has no domain."""
+    with Service(program.path, place.path, connections=1) as service:
+        found = (talk(service, QUIT) if is_served else b""), service.end()
+    return differs("answer", found, (NOTHING[0][2][1], 0) if is_served else (b"", 2))
 
 
 def of_services(program, tally):
     """The same of `serve`, which opens the journal once, and again where another file has its name."""
     for before, after in ((OLDER_ORG, OLDER_ORG + GOES_ON), (OLDER, OLDER + GOES_ON), (OLDER_ORG + GOES_ON, OLDER_ORG + GOES_ON), (OLDER_ORG[:-1], OLDER_FIRST_OCTETS + GOES_ON)):
         with Place(program, before) as place:
-            given, _, status = serve_once(program, place)
-            is_served = bool(open_journal(before)[0].domains)
-            faults = differs("answer", (given, status), (NOTHING[0][2][1], 0) if is_served else (b"", 2)) + differs("journal", read_journal(place.journal), after)
+            faults = serve_faults(program, place, bool(open_journal(before)[0].domains)) + differs("journal", read_journal(place.journal), after)
             tally.note(f"serve: a journal of version 1, {len(before)} octets, goes on", faults)
     with Place(program, OLDER_ORG) as place:
         with Service(program.path, place.path, "smtp") as service:
@@ -162,22 +159,24 @@ def behind_words(before, words, octets):
     return outcome(before, words if len(words) == 3 or words[0] == b"domain" else [*words, octets.strip()])[2]
 
 
-def cut_faults(program, count):
-    """What is wrong where a journal of both versions has so many octets alone."""
-    before, faults = BOTH[:count], []
+def cut_at(count):
+    """The first octets of a journal of both versions, so many; what they leave once they are opened; and what is cut of them."""
+    before = BOTH[:count]
     after = open_journal(before)[1]
     whole = end_of_shared(before, after) if count >= len(OLDER_FIRST_OCTETS) else 0
-    rest = before[whole:]
+    return before, after, before[whole:]
+
+
+def cut_faults(program, count):
+    """What is wrong with what the commands make of them."""
+    before, _, rest = cut_at(count)
+    faults = []
     for words, octets, _ in NOTHING:
         with Place(program, before) as place:
             said = place.run(words, octets)[2]
             found = differs("what is told of a cut", (said.startswith(told_cut(len(rest))), said.count(b"cut")), (True, 2)) if rest else differs("cuts", said.count(b"cut"), 0)
             faults += [f"{words[0].decode()}: {fault}" for fault in found + left_faults(place, behind_words(before, words, octets), rest or None)]
-    with Place(program, before) as place:
-        given, _, status = serve_once(program, place)
-        is_served = bool(open_journal(before)[0].domains)
-        found = differs("answer", (given, status), (NOTHING[0][2][1], 0) if is_served else (b"", 2)) + left_faults(place, after, rest or None)
-        return faults + [f"serve: {fault}" for fault in found]
+    return faults
 
 
 def of_cuts(program, tally):
@@ -185,6 +184,12 @@ def of_cuts(program, tally):
     counts = range(len(BOTH) + 1)
     for count, faults in zip(counts, in_lanes(lambda count: cut_faults(program, count), counts)):
         tally.note(f"a journal of both versions, {count} octets of it", faults)
+    # one after the other, since two could find the same port free
+    for count in counts:
+        before, after, rest = cut_at(count)
+        with Place(program, before) as place:
+            faults = serve_faults(program, place, bool(open_journal(before)[0].domains)) + left_faults(place, after, rest or None)
+            tally.note(f"serve: a journal of both versions, {count} octets of it", faults)
 
 
 def check(program, tally):
