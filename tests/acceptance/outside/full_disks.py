@@ -190,8 +190,7 @@ def of_older_journals(program, tally):
         disk.fill()
         with Service(program.path, disk.path, "smtp", preexec=disk.before) as service:
             status = service.end()
-        faults = differs("status", status, 2) + disk.changes() + differs("standard error", service.said, [])
-        faults += differs("told", service.unready, [f"it began with {line(KEPT, disk.reason).decode().strip()!r} on standard error"])
+        faults = differs("status", status, 2) + disk.changes() + service.faults(2, said=[line(KEPT, disk.reason).decode().strip()])
         tally.note("serve smtp: no room for the end of version 1", faults)
 
 

@@ -30,6 +30,18 @@ OPENED = re.compile(r'(?:AT_FDCWD, )?"((?:[^"\\]|\\.)*)", (.*)')
 WRITES, SYNCS = {"write", "writev", "pwrite64", "sendto", "sendmsg"}, {"fsync", "fdatasync"}
 CUT, FOLDER = JOURNAL + ".cut", "."
 BROKEN_OFF = account(b"b@x.org", b"p")[:-1]
+SECTOR = 512
+LARGE = CAFE + b"x" * 2_000 + b"\r\n"
+
+
+def sectors_of(before, record):
+    """What is left of a record behind this journal, where it has zeros from each border of a sector on that lies within it."""
+    end = len(before) + len(record)
+    borders = range(-(-len(before) // SECTOR) * SECTOR, end, SECTOR)
+    return [record[: border - len(before)] + bytes(end - border) for border in borders]
+
+
+TORN = sectors_of(STORE, message(0, LARGE))[1]
 MAIL = journal(domain(b"x.org"), account(b"a@x.org", b"p"), message(0, CAFE), message(0, CAFE))
 OLDER = older_journal(domain(b"x.org"), account(b"a@x.org", b"p"))
 WAITING = journal(domain(b"x.org"), account(b"a@x.org", b"p"), queue(b"a@x.org", [b"b@y.org"], b"Subject: a\r\n\r\nb\r\n"))
@@ -42,11 +54,10 @@ SESSIONS = [
     ([b"smtp"], STORE, SENDS + SENDS[8:] + b"QUIT\r\n", b"250 2.0.0 stored\r\n221 2.0.0 bye\r\n", 2), ([b"imap"], MAIL, IMAP, b"h OK done\r\n", 4),
     ([b"pop"], MAIL, DELETES, b"+OK bye\r\n", 1), (DOMAIN, STORE, b"", b"", 1), (ACCOUNT, STORE, b"", b"", 1), (DOMAIN, None, b"", b"", 2),
     ([b"smtp"], STORE + BROKEN_OFF, SENDS + b"QUIT\r\n", b"250 2.0.0 stored\r\n221 2.0.0 bye\r\n", 3),
-    ([b"smtp"], STORE + BROKEN_OFF[:9] + bytes(900), SENDS + b"QUIT\r\n", b"250 2.0.0 stored\r\n221 2.0.0 bye\r\n", 3),
+    ([b"smtp"], STORE + TORN, SENDS + b"QUIT\r\n", b"250 2.0.0 stored\r\n221 2.0.0 bye\r\n", 3),
     ([b"pop"], OLDER, b"QUIT\r\n", b"+OK bye\r\n", 1), ([b"smtp"], OLDER, SENDS + b"QUIT\r\n", b"250 2.0.0 stored\r\n221 2.0.0 bye\r\n", 2), (DOMAIN, OLDER, b"", b"", 2),
     ([b"imap"], OLDER + BROKEN_OFF, b"a LOGOUT\r\n", b"a OK done\r\n", 3), ([b"relay", b"next.invalid"], OLDER, b"", b"sent 0, reported 0, left 0\r\n", 1),
 ]
-SECTOR = 512
 
 
 class Log:
@@ -158,13 +169,6 @@ def of_relays(program, tally, folder):
     tally.note("relay: what was sent is synced", differs("answer", (status, given), (0, b"sent 1, reported 0, left 0\r\n")) + log_faults(read_log(log), 1, 0))
 
 
-def sectors_of(before, record):
-    """What is left of a record behind this journal, where it has zeros from each border of a sector on that lies within it."""
-    end = len(before) + len(record)
-    borders = range(-(-len(before) // SECTOR) * SECTOR, end, SECTOR)
-    return [record[: border - len(before)] + bytes(end - border) for border in borders]
-
-
 def tails_of(before, record):
     """What a loss of power may leave of a record that is written behind this journal."""
     rests = [record[:count] for count in (1, 3, 4, 5, 30, len(record) - 1)]
@@ -191,14 +195,13 @@ def tail_faults(program, before, after, tail, words, octets):
 
 def of_tails(program, tally):
     """The unfinished record is a message that fills some sectors, in either version."""
-    large = CAFE + b"x" * 2_000 + b"\r\n"
     cases = []
     for name, before, faults in told_journals(program):
         tally.note(f"{name}: done", faults)
-        tails = tails_of(before, message(0, large)) + tails_of(before, queue(b"a@x.org", [b"b@y.org"], large))[6:]
+        tails = tails_of(before, message(0, LARGE)) + tails_of(before, queue(b"a@x.org", [b"b@y.org"], LARGE))[6:]
         cases += [(name, before, before, tail, *command) for number, tail in enumerate(tails) for command in [WITH_JOURNAL[number % len(WITH_JOURNAL)]]]
     for older in (OLDER, OLDER + older_message(0, CAFE) + expunge(0)):
-        tails = tails_of(older, older_message(0, large)) + tails_of(older, older_queue(b"a@x.org", [b"b@y.org"], large))[6:]
+        tails = tails_of(older, older_message(0, LARGE)) + tails_of(older, older_queue(b"a@x.org", [b"b@y.org"], LARGE))[6:]
         cases += [("version 1", older, older + version(), tail, *command) for tail in tails for command in WITH_JOURNAL]
     for case, faults in zip(cases, in_lanes(lambda case: tail_faults(program, *case[1:]), cases)):
         tally.note(name_of(case[4], f"{len(case[3])} octets behind what was told, {case[0]}"), faults)
