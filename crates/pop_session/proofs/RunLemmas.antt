@@ -1,12 +1,12 @@
 -- Runs of octets before which at most one dot is put.
-use Rattle.std.proofs.Common.{◌≡◌, ℕ, zero, suc, ◌+◌, ◌<◌, ◌≤◌, List, [], ◌∷◌, ◌++◌, length, take, drop, get_or, Bool, true, false, ◌==◌, ◌&&◌, cond, refl, sym, ap, ◌∙◌, arith, append_assoc, append-nil, inl, inr, Some, None, add-zero}
+use Rattle.std.proofs.Common.{◌≡◌, ℕ, zero, suc, ◌+◌, ◌<◌, ◌≤◌, List, [], ◌∷◌, ◌++◌, length, take, drop, get_or, Bool, true, false, ◌==◌, ◌&&◌, cond, refl, sym, ap, ◌∙◌, arith, append_assoc, inl, inr, Some, None, add-zero}
 use Rattle.std.proofs.lemmas.Bool.{cases_lt}
 use Rattle.std.proofs.lemmas.Bool.Decides.{nat_tests}
 use Rattle.std.proofs.lemmas.List.{take-append-drop}
 use Rattle.memchr.specs.Find.{FindsNeedle, OccursAt}
 use Rattle.pop_session.specs.declared.stuffing.Place.{Place}
 use Rattle.pop_session.specs.declared.stuffing.Place.TheVariants.{LineStart, AfterCr, Within}
-use Rattle.pop_session.specs.private.Stuffing.{is_start, is_after_cr, next_place, place_after, needs_dot, stuffed_octet, stuffed_from, begins_with_dot, dot_before, HasNoLfDot}
+use Rattle.pop_session.specs.private.Stuffing.{is_start, is_after_cr, next_place, place_after, needs_dot, stuffed_octet, stuffed_from, dot_before, HasNoLfDot}
 use Rattle.pop_session.proofs.StuffingLemmas.{stuffed_from-append, place_after-append}
 
 -- ---- the place after octets

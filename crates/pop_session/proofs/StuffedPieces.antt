@@ -1,5 +1,5 @@
 -- Octets that are given stuffed, run by run.
-use Rattle.std.proofs.Common.{◌≡◌, ◌<◌, ◌≤◌, ◌+◌, ◌-◌, ℕ, zero, suc, List, [], ◌∷◌, ◌++◌, length, take, drop, min, refl, sym, ap, ◌∙◌, arith, append-nil, append_assoc, Result, cond, codes, Bool}
+use Rattle.std.proofs.Common.{◌≡◌, ◌≤◌, ◌+◌, ◌-◌, ℕ, zero, suc, List, [], ◌∷◌, ◌++◌, length, take, drop, min, refl, sym, ap, ◌∙◌, arith, append-nil, append_assoc, Result, cond, codes, Bool}
 use Rattle.std.proofs.lemmas.List.{take-append-drop, take-append-le, drop-take, drop-drop, length-take, length-drop, drop_all}
 use Rattle.mail_wire.specs.Lines.{crlf}
 use Rattle.mail_wire.specs.WireState.{WireState}
@@ -10,7 +10,7 @@ use Rattle.pop_session.specs.declared.stuffing.Place.TheVariants.{LineStart}
 use Rattle.pop_session.specs.Replies.{ended_lines}
 use Rattle.mail_wire.specs.Dots.{stuffed, missing_end, are_complete}
 use Rattle.pop_session.specs.private.Stuffing.{is_start, stuffed_from, place_after}
-use Rattle.pop_session.proofs.StuffingLemmas.{stuffed-from, stuffed_from-append, are_complete-from}
+use Rattle.pop_session.proofs.StuffingLemmas.{stuffed_from-append, are_complete-from}
 use Rattle.pop_session.proofs.RunLemmas.{last_two}
 
 -- ---- what was given so far
