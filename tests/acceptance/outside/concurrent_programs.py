@@ -1,6 +1,6 @@
 """Programs that run at once on one journal: they work one after the other, and nothing that was told is lost.
 
-A round begins with a journal of some accounts, each with some messages. Sessions of SMTP, sessions of POP3 that delete what they
+A round begins with a journal of some accounts, each with some messages; every third one has version 1, which ends once. Sessions of SMTP, sessions of POP3 that delete what they
 fetch, and `account` run at once. In every other round the sessions get their input only once all of them have had the time to open the
 journal: each that did so knows nothing of what the others bring. Afterwards the journal opens; each message that was told
 `250 2.0.0 stored` is there once for each recipient, and each of those from before, but for what a session took out that was told
@@ -17,7 +17,7 @@ import subprocess
 import tempfile
 import time
 
-from journal import account, domain, journal
+from journal import account, domain, journal, older_journal, older_message
 from oracle.pop_store import Unopened, open_journal
 from oracle.records import message
 from rows.downgrade_rows import CAFE, CAFE_SURROGATE
@@ -52,11 +52,12 @@ def text(mark):
     return b"Subject: %s\r\n\r\n" % mark + BODY * BODY_LINES
 
 
-def before():
+def before(is_older=False):
     """The journal, and the marks of the messages of each account."""
+    begun, written = (older_journal, older_message) if is_older else (journal, message)
     marks = {number: [b"old-%d-%d" % (number, it) for it in range(OLD_MESSAGES)] for number in range(ACCOUNTS)}
-    mail = [message(number, text(mark)) for number in marks for mark in marks[number]]
-    return journal(domain(b"example.org"), *(account(address(number), PASSWORD) for number in marks), *mail), marks
+    mail = [written(number, text(mark)) for number in marks for mark in marks[number]]
+    return begun(domain(b"example.org"), *(account(address(number), PASSWORD) for number in marks), *mail), marks
 
 
 class Sending:
@@ -225,7 +226,7 @@ def kept_faults(octets, works, ended, marks):
 
 def round_faults(program, number):
     with tempfile.TemporaryDirectory(dir=program.folder.name) as folder:
-        octets, marks = before()
+        octets, marks = before(number % 3 == 0)
         path = place_journal(folder, octets)
         it = Round(program, folder, number % 2 == 1)
         ended = it.run()

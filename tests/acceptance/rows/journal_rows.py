@@ -3,7 +3,8 @@
 Most are of version 2. What their records have is tried in a journal of version 1 too."""
 
 import journal as own
-from journal import FIRST_OCTETS, OLDER_FIRST_OCTETS, account, domain, expunge, flags, folder, journal, older_journal, older_message, older_queue, settle, version
+from journal import FIRST_OCTETS, OLDER_FIRST_OCTETS, account, domain, expunge, flags, folder, journal, number, older_journal, older_message, older_queue
+from journal import settle, version
 from oracle.records import mailbox, message, older, queue
 from rows.downgrade_rows import CAFE, MIXED
 from support.moments import records_of
@@ -14,8 +15,9 @@ OLDER_ANN = OLDER_FIRST_OCTETS + ANN[len(FIRST_OCTETS) :]
 MAIL = b"A: b\r\n"
 TYPED = b"Content-Type: a/b\r\n"
 SECTOR = 512
+# by version: what makes a journal, a record of version 2 in it, and what opening appends
 BOTH = {"version 1": (older_journal, older, version()), "version 2": (journal, bytes, b"")}
-# accounts, domains and folders, changes, and what is settled, between records of each version
+# a date of a record, with its length
 DATED = "0000001A 30312D4A616E2D313937302030303A30303A3030202B30303030"
 EVERY_KIND = [
     "4D41494C4A4E4C32",
@@ -196,10 +198,6 @@ def of_lost_power():
             behind(begun(account(b"a@b", bytes(2_000))), name_of("a bad record behind a password of zeros"), domain(b"-")),
         ]
     return rows
-
-
-def number(value):
-    return value.to_bytes(4, "big")
 
 
 def of_accounts():

@@ -8,7 +8,7 @@ from oracle.pop_store import open_journal
 from oracle.records import message, queue
 from oracle.word_oracle import outcome
 from outside.failures import Place, ended, name_of
-from outside.journal_files import told_cut
+from outside.journal_files import cut_path, told_cut
 from outside.serve_outside import talk
 from rows.downgrade_rows import CAFE
 from rows.smtp_rows import octets_of, trace
@@ -54,15 +54,9 @@ BAD = [
 ]
 
 
-def files_of(place):
-    """The journal, and what was cut of it."""
-    return read_journal(place.journal), read_journal(place.journal + ".cut")
-
-
 def left_faults(place, journal, cut=None):
-    """What is wrong with these."""
-    found = files_of(place)
-    return differs("journal", found[0], journal) + differs("what was cut", found[1], cut)
+    """What is wrong with the journal, and with what was cut of it."""
+    return differs("journal", read_journal(place.journal), journal) + differs("what was cut", read_journal(cut_path(place)), cut)
 
 
 def of_the_end(program, tally):
@@ -123,7 +117,8 @@ def serve_faults(program, place, is_served):
 
 def of_services(program, tally):
     """The same of `serve`, which opens the journal once, and again where another file has its name."""
-    for before, after in ((OLDER_ORG, OLDER_ORG + GOES_ON), (OLDER, OLDER + GOES_ON), (OLDER_ORG + GOES_ON, OLDER_ORG + GOES_ON), (OLDER_ORG[:-1], OLDER_FIRST_OCTETS + GOES_ON)):
+    cases = [(OLDER_ORG, OLDER_ORG + GOES_ON), (OLDER, OLDER + GOES_ON), (OLDER_ORG + GOES_ON, OLDER_ORG + GOES_ON), (OLDER_ORG[:-1], OLDER_FIRST_OCTETS + GOES_ON)]
+    for before, after in cases:
         with Place(program, before) as place:
             faults = serve_faults(program, place, bool(open_journal(before)[0].domains)) + differs("journal", read_journal(place.journal), after)
             tally.note(f"serve: a journal of version 1, {len(before)} octets, goes on", faults)
@@ -136,6 +131,18 @@ def of_services(program, tally):
             told += [talk(service, QUIT) for _ in range(2)]
         faults = differs("told", told, [NOTHING[1][2][1]] * 3) + left_faults(place, OLDER + GOES_ON) + service.faults()
         tally.note("serve: a journal of version 1 comes between connections", faults)
+
+
+def of_other_programs(program, tally):
+    """What another program writes behind the end of version 1, while `serve` is between two connections, is there for the next one."""
+    with Place(program, OLDER) as place:
+        with Service(program.path, place.path) as service:
+            counts = talk(service, LOGS_IN + b"STAT\r\n" + QUIT)
+            faults = differs("smtp", place.run([b"smtp"], SENDS)[0], 0) + differs("domain", place.run([b"domain", b"z.org"])[0], 0)
+            again = talk(service, LOGS_IN + b"STAT\r\nTOP 2 0\r\n" + QUIT)
+        faults += differs("before", b"+OK 1 " in counts, True) + differs("behind it", (b"+OK 2 " in again, b"Downgraded-Return-Path:" in again), (True, True))
+        found = Moments(OLDER, 0).seen(read_journal(place.journal))
+        tally.note("serve: what others write behind version 1", faults + service.faults() + differs("journal", found, OLDER + GOES_ON + STORED + domain(b"z.org")))
 
 
 def of_bad_ones(program, tally):
@@ -174,7 +181,8 @@ def cut_faults(program, count):
     for words, octets, _ in NOTHING:
         with Place(program, before) as place:
             said = place.run(words, octets)[2]
-            found = differs("what is told of a cut", (said.startswith(told_cut(len(rest))), said.count(b"cut")), (True, 2)) if rest else differs("cuts", said.count(b"cut"), 0)
+            # what `relay` says of a server that isn't there comes behind it
+            found = differs("standard error", said[: len(told_cut(len(rest)))] if rest else said.count(b" cut "), told_cut(len(rest)) if rest else 0)
             faults += [f"{words[0].decode()}: {fault}" for fault in found + left_faults(place, behind_words(before, words, octets), rest or None)]
     return faults
 
@@ -193,5 +201,5 @@ def of_cuts(program, tally):
 
 
 def check(program, tally):
-    for checks in (of_the_end, of_changes, of_relays, of_services, of_bad_ones, of_cuts):
+    for checks in (of_the_end, of_changes, of_relays, of_services, of_other_programs, of_bad_ones, of_cuts):
         checks(program, tally)
