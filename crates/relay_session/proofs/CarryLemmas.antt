@@ -32,8 +32,8 @@ Reports-onward path_of store queued message outcomes told later made count (nobo
     record { used = []; told_are = sym left; onward = λ more. nobody none refl no_changes no_count }
 Reports-onward path_of store queued message outcomes told later made count (unsigned null left no_changes no_count) =
     record { used = []; told_are = sym left; onward = λ more. unsigned null refl no_changes no_count }
-Reports-onward path_of store queued message outcomes told later made count (told_once moment path text delivery signed some once report to changes_are count_is) =
-    record { used = moment ∷ []; told_are = once; onward = λ more. told_once moment path text delivery signed some refl report to changes_are count_is }
+Reports-onward path_of store queued message outcomes told later made count (told_once moment path text mark delivery signed some once report marked to changes_are count_is) =
+    record { used = moment ∷ []; told_are = once; onward = λ more. told_once moment path text mark delivery signed some refl report marked to changes_are count_is }
 
 if_one : (kept : Bool) (count : ℕ) → count ≡ (if kept then 1 else 0) → count ≤ 1
 if_one true count is = omega (arith, is)
@@ -44,7 +44,7 @@ pub Reports-one : (path_of : List ℕ → Option (Option Address)) (store : Stor
     → Reports path_of store queued message outcomes told later made count → count ≤ 1
 Reports-one path_of store queued message outcomes told later made count (nobody none left no_changes no_count) = omega (arith, no_count)
 Reports-one path_of store queued message outcomes told later made count (unsigned null left no_changes no_count) = omega (arith, no_count)
-Reports-one path_of store queued message outcomes told later made count (told_once moment path text delivery signed some once report to changes_are count_is) = if_one _ count count_is
+Reports-one path_of store queued message outcomes told later made count (told_once moment path text mark delivery signed some once report marked to changes_are count_is) = if_one _ count count_is
 
 -- ---- acts after others
 

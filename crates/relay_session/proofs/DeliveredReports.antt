@@ -6,7 +6,7 @@ use Rattle.mail_wire.specs.declared.outside.Fault.TheVariants as fault
 use Rattle.address_grammar.specs.declared.Address.{Address}
 use Rattle.journal_records.specs.Addresses.{IsSendable, WithPaths}
 use Rattle.journal_records.specs.Grammar.{IsDate}
-use Rattle.journal_records.specs.Stored.{IsStored}
+use Rattle.journal_records.specs.Stored.{HasMark}
 use Rattle.kept_mail.specs.Kept.{Kept, name_of}
 use Rattle.kept_mail.specs.declared.delivery.Delivery.{Delivery}
 use Rattle.mail_store.specs.Changing.{IsDeliverable}
@@ -19,7 +19,6 @@ use Rattle.session_core.specs.Doing.{Makes}
 use Rattle.session_core.specs.Keeps.{fault_of}
 use Rattle.session_core.specs.Moments.{IsMoment, IsTold, Moment, moment_of}
 use Rattle.session_core.specs.declared.outside.Timestamp.{Timestamp}
-use Rattle.session_core.proofs.StoredLemmas.{stored-nothing}
 use Rattle.utf8_reports.specs.Reports.{IsReportOn}
 use Rattle.utf8_reports.specs.declared.failure.FailedRecipient.{FailedRecipient}
 use Rattle.relay_session.specs.MailObjects.{entry_octets}
@@ -28,51 +27,54 @@ use Rattle.relay_session.specs.declared.reporting.Destination.{Destination}
 use Rattle.relay_session.specs.declared.reporting.Destination.TheVariants.{Account, Nowhere, Queue}
 use Rattle.relay_session.specs.private.Acting.{IsDestinationIn, MadeReport, MakesReport}
 use Rattle.relay_session.specs.private.Reported.{IsReported}
+use Rattle.relay_session.proofs.ReportMarks.{marked-nothing}
 
 -- ---- what is delivered
 
 -- to a place that is there
-pub deliverable : (store : StoreState) (destination : Destination) (path : Address) (report date : List ℕ) (delivery : Option Delivery) → delivery ≡ delivery_to destination path report date
-    → IsDestinationIn store.kept path destination → IsStored report → IsDate date → IfSome delivery (IsDeliverable store)
-deliverable store (Account account) path report date delivery is there stored dated = rw is (record {
+pub deliverable : (store : StoreState) (destination : Destination) (path : Address) (report : List ℕ) (mark : ℕ) (date : List ℕ) (delivery : Option Delivery) → delivery ≡ delivery_to destination path report mark date
+    → IsDestinationIn store.kept path destination → HasMark report mark → IsDate date → IfSome delivery (IsDeliverable store)
+deliverable store (Account account) path report mark date delivery is there marked dated = rw is (record {
   known = All-cons (λ (a : ℕ). a < length store.kept.accounts) account [] there (All-nil (λ (a : ℕ). a < length store.kept.accounts));
   dated = dated;
-  local_tree = stored;
-  remote_tree = stored-nothing;
+  local_marked = marked;
+  remote_marked = marked-nothing;
   path = tt;
   addresses = All-nil IsSendable;
   few = omega arith;
 })
-deliverable store Queue path report date delivery is there stored dated = rw is (record {
+deliverable store Queue path report mark date delivery is there marked dated = rw is (record {
   known = All-nil (λ (a : ℕ). a < length store.kept.accounts);
   dated = dated;
-  local_tree = stored-nothing;
-  remote_tree = stored;
+  local_marked = marked-nothing;
+  remote_marked = marked;
   path = tt;
   addresses = All-cons IsSendable path [] there (All-nil IsSendable);
   few = omega arith;
 })
-deliverable store Nowhere path report date delivery is there stored dated = rw is tt
+deliverable store Nowhere path report mark date delivery is there marked dated = rw is tt
 
 -- so it is of what a call makes
-pub deliverable_made : {E : Type 0} (store : StoreState) (destination : Destination) (path : Address) (report date : List ℕ) (result : Result (Option Delivery) E)
-    → IfOk result (λ delivery. delivery ≡ delivery_to destination path report date) → IsDestinationIn store.kept path destination → IsStored report → IsDate date
+pub deliverable_made : {E : Type 0} (store : StoreState) (destination : Destination) (path : Address) (report : List ℕ) (mark : ℕ) (date : List ℕ) (result : Result (Option Delivery) E)
+    → IfOk result (λ delivery. delivery ≡ delivery_to destination path report mark date) → IsDestinationIn store.kept path destination → HasMark report mark → IsDate date
     → IfOk result (λ delivery. IfSome delivery (IsDeliverable store))
-deliverable_made store destination path report date (Ok delivery) is there stored dated = deliverable store destination path report date delivery is there stored dated
-deliverable_made store destination path report date (Err met) is there stored dated = tt
+deliverable_made store destination path report mark date (Ok delivery) is there marked dated = deliverable store destination path report mark date delivery is there marked dated
+deliverable_made store destination path report mark date (Err met) is there marked dated = tt
 
 -- it is the report of these failures at a moment
-pub reported_as : {E : Type 0} (kept : Kept) (queued : Queued) (path : Address) (failed : List FailedRecipient) (timestamp : Timestamp) (destination : Destination) (text : List ℕ)
+pub reported_as : {E : Type 0} (kept : Kept) (queued : Queued) (path : Address) (failed : List FailedRecipient) (timestamp : Timestamp) (destination : Destination) (text : List ℕ) (mark : ℕ)
     (result : Result (Option Delivery) E) → IsMoment timestamp.seconds (moment_of timestamp)
-    → IsReportOn (record { path = path; name = name_of kept; failed = failed; seconds = timestamp.seconds }) (entry_octets kept queued.entry) text
-    → WithPaths (λ path_of. destination ≡ destination_of path_of kept path) → IfOk result (λ delivery. delivery ≡ delivery_to destination path text timestamp.internal)
+    → IsReportOn (record { path = path; name = name_of kept; failed = failed; seconds = timestamp.seconds }) (entry_octets kept queued.entry) text → HasMark text mark
+    → WithPaths (λ path_of. destination ≡ destination_of path_of kept path) → IfOk result (λ delivery. delivery ≡ delivery_to destination path text mark timestamp.internal)
     → IfOk result (λ delivery. WithPaths (λ path_of. IsReported path_of kept queued path failed (moment_of timestamp) delivery))
-reported_as kept queued path failed timestamp destination text (Ok delivery) moment report goes is = λ path_of reads. record {
+reported_as kept queued path failed timestamp destination text mark (Ok delivery) moment report marked goes is = λ path_of reads. record {
   text = text;
   report = record { seconds = timestamp.seconds; is = moment; report_is = report };
-  delivery_is = subst (λ (d : Destination). delivery ≡ delivery_to d path text timestamp.internal) (goes path_of reads) is;
+  mark = mark;
+  marked = marked;
+  delivery_is = subst (λ (d : Destination). delivery ≡ delivery_to d path text mark timestamp.internal) (goes path_of reads) is;
 }
-reported_as kept queued path failed timestamp destination text (Err met) moment report goes is = tt
+reported_as kept queued path failed timestamp destination text mark (Err met) moment report marked goes is = tt
 
 -- ---- what a report comes to
 
@@ -109,7 +111,8 @@ told_report path_of before now queued outcomes path failed moment delivery met d
   told = moment ∷ [];
   are_told = All-cons (IsTold before.clock) moment [] due.told (All-nil (IsTold before.clock));
   changes = report_changes before.desk.store delivery;
-  reports = told_once moment path due.reported.text delivery due.path_is (λ none. due.some (due.failed_are ∙ none)) refl (rw due.failed_are at due.reported.report) due.reported.delivery_is refl refl;
+  reports = told_once moment path due.reported.text due.reported.mark delivery due.path_is (λ none. due.some (due.failed_are ∙ none)) refl (rw due.failed_are at due.reported.report)
+      due.reported.marked due.reported.delivery_is refl refl;
   makes = makes;
 }
 

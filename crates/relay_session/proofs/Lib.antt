@@ -6,6 +6,7 @@ pub mod OneAct
 pub mod MailObjectAddresses
 pub mod StatusCodes
 pub mod ReportedFailures
+pub mod ReportMarks
 pub mod DeliveredReports
 pub mod RisingPlaces
 pub mod QueueFacts

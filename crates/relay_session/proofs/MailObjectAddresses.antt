@@ -1,5 +1,5 @@
 -- What is known of a queue makes mail objects.
-use Rattle.std.proofs.Common.{◌≡◌, ℕ, ◌+◌, ◌<◌, List, [], ◌∷◌, ◌++◌, length, take, get_or, Option, None, Some, IfSome, All, option_map, slice_get, refl, sym, ap, ◌∙◌}
+use Rattle.std.proofs.Common.{◌≡◌, ℕ, zero, suc, ◌+◌, ◌<◌, List, [], ◌∷◌, ◌++◌, length, take, get_or, Option, None, Some, IfSome, All, slice_get, refl, sym, ap, ◌∙◌, arith}
 use Rattle.std.specs.List.{AllZip}
 use Rattle.std.proofs.lemmas.List.{take_more}
 use Rattle.std.proofs.lemmas.List.Elements.{All-map, All-weaker}
@@ -8,8 +8,8 @@ use Rattle.std.proofs.lemmas.Str.{is_utf8-from_IsUtf8}
 use Rattle.address_grammar.specs.declared.Address.{Address}
 use Rattle.address_grammar.specs.Paths.{ComesInPath}
 use Rattle.address_grammar.proofs.PathParts.{path_utf8}
+use Rattle.journal_records.specs.Stored.{HasMark, mark_in}
 use Rattle.mime_tree.specs.declared.entity.Entity.{Entity as MimeEntity}
-use Rattle.mime_tree.specs.Tree.{HasTree}
 use Rattle.kept_mail.specs.declared.kept.Entry.{Entry}
 use Rattle.kept_mail.specs.Kept.{Kept}
 use Rattle.mail_store.specs.declared.queue.Queued.{Queued}
@@ -35,22 +35,25 @@ text_addresses unsettled all =
 
 -- ---- the mail object of an entry
 
--- an entry that has these octets is there
-entry_of : (found : Option Entry) (octets : List ℕ) → option_map (λ (entry : Entry). entry.octets) found ≡ Some octets → (entry : Entry) × (found ≡ Some entry) × (entry.octets ≡ octets)
-entry_of None octets is = absurd cc
-entry_of (Some entry) octets is = (entry, refl, cc)
+-- an entry that is there, whose octets have this mark
+pub entry_marked : (entries : List Entry) (number mark : ℕ) → number < length entries → IfSome (slice_get entries number) (λ (entry : Entry). HasMark entry.octets mark)
+    → (entry : Entry) × (slice_get entries number ≡ Some entry) × HasMark entry.octets mark
+entry_marked [] number mark there has = absurd (omega (arith, there))
+entry_marked (entry ∷ entries) zero mark there has = (entry, refl, has)
+entry_marked (entry ∷ entries) (suc number) mark there has = entry_marked entries number mark (omega (arith, there)) has
 
-pub mail_object_there : (kept : Kept) (queued : Queued) (path : Option Address) (addresses : List Address) (octets : List ℕ) (entities : List MimeEntity) (mail_object : MailObject)
-    → option_map (λ (entry : Entry). entry.octets) (slice_get kept.entries queued.entry) ≡ Some octets → HasTree octets entities → path ≡ queued.path
-    → addresses ≡ addresses_of queued.unsettled → mail_object ≡ mail_object_of path addresses octets entities → IsMailObjectAt kept queued mail_object
-mail_object_there kept queued path addresses octets entities mail_object is tree path_is addresses_are mail_object_is =
-    let found = entry_of (slice_get kept.entries queued.entry) octets is in
+pub mail_object_there : (kept : Kept) (queued : Queued) (path : Option Address) (addresses : List Address) (mark : ℕ) (mail_object : MailObject) → queued.entry < length kept.entries
+    → IfSome (slice_get kept.entries queued.entry) (λ (entry : Entry). HasMark entry.octets mark) → path ≡ queued.path → addresses ≡ addresses_of queued.unsettled
+    → ((octets : List ℕ) (entities : List MimeEntity) → mark ≡ mark_in octets entities → mail_object ≡ mail_object_of path addresses octets entities) → IsMailObjectAt kept queued mail_object
+mail_object_there kept queued path addresses mark mail_object there has path_is addresses_are is =
+    let found = entry_marked kept.entries queued.entry mark there has in
+    let marked = found.2 in
     record {
       entry = found.0;
       there = found.1;
-      entities = entities;
-      tree = rw found.2 tree;
-      is = mail_object_is ∙ rw (path_is, addresses_are, found.2) refl;
+      entities = marked.entities;
+      tree = marked.tree;
+      is = is found.0.octets marked.entities marked.mark_is ∙ rw (path_is, addresses_are) refl;
     }
 
 -- and those of the entries before the next

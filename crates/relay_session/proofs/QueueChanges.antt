@@ -30,12 +30,12 @@ use Rattle.relay_session.proofs.RisingPlaces.{above_place}
 
 -- it holds of each message, and of each entry of the queue
 pub record HoldsOfMail (P : Record → Type 0) : Type 0 where
-  pub message : (folder flags : ℕ) (date octets : List ℕ) → P (records.Message folder flags date octets)
-  pub entry : (path : List ℕ) (addresses : List (List ℕ)) (octets : List ℕ) → P (records.Queue path addresses octets)
+  pub message : (folder flags : ℕ) (mark : Option ℕ) (date octets : List ℕ) → P (records.Message folder flags mark date octets)
+  pub entry : (path : List ℕ) (addresses : List (List ℕ)) (mark : Option ℕ) (octets : List ℕ) → P (records.Queue path addresses mark octets)
 
-copies_are : (P : Record → Type 0) → HoldsOfMail P → (date octets folders : List ℕ) → AllByRecursion P (map (copy_for date octets) folders)
-copies_are P holds date octets [] = tt
-copies_are P holds date octets (folder ∷ folders) = (holds.message folder 0 date octets, copies_are P holds date octets folders)
+copies_are : (P : Record → Type 0) → HoldsOfMail P → (date : List ℕ) (mark : ℕ) (octets folders : List ℕ) → AllByRecursion P (map (copy_for date mark octets) folders)
+copies_are P holds date mark octets [] = tt
+copies_are P holds date mark octets (folder ∷ folders) = (holds.message folder 0 (Some mark) date octets, copies_are P holds date mark octets folders)
 
 entry_is : (P : Record → Type 0) (none : Bool) (one : Record) → P one → AllByRecursion P (cond none [] (one ∷ []))
 entry_is P true one holds = tt
@@ -43,8 +43,8 @@ entry_is P false one holds = (holds, tt)
 
 pub delivered_are : (P : Record → Type 0) → HoldsOfMail P → (kept : Kept) (delivery : Delivery) → AllByRecursion P (delivered kept delivery)
 delivered_are P holds kept delivery =
-    all-append P (map (copy_for delivery.date delivery.local_octets) (inboxes_of kept delivery.local)) (queued_by delivery)
-    (copies_are P holds delivery.date delivery.local_octets (inboxes_of kept delivery.local)) (entry_is P (length delivery.remote == 0) _ (holds.entry _ _ _))
+    all-append P (map (copy_for delivery.date delivery.local_mark delivery.local_octets) (inboxes_of kept delivery.local)) (queued_by delivery)
+    (copies_are P holds delivery.date delivery.local_mark delivery.local_octets (inboxes_of kept delivery.local)) (entry_is P (length delivery.remote == 0) _ (holds.entry _ _ _ _))
 
 unless_are : (P : Record → Type 0) (refusal : Option StoreFault) (all : List Record) → AllByRecursion P all → AllByRecursion P (records_of (unless_refused refusal all))
 unless_are P None all holds = all-append P all [] holds tt
@@ -62,7 +62,7 @@ pub reported_are : (P : Record → Type 0) → HoldsOfMail P → (path_of : List
     (told later : List Moment) (changes : List (List Record)) (count : ℕ) → Reports path_of store queued message outcomes told later changes count → AllByRecursion P (records_of changes)
 reported_are P holds path_of store queued message outcomes told later changes count (nobody fine left none count_is) = none_are P changes none
 reported_are P holds path_of store queued message outcomes told later changes count (unsigned null left none count_is) = none_are P changes none
-reported_are P holds path_of store queued message outcomes told later changes count (told_once moment path text delivery signed some at is made_is made count_is) =
+reported_are P holds path_of store queued message outcomes told later changes count (told_once moment path text mark delivery signed some at is marked made_is made count_is) =
     subst (λ (all : List (List Record)). AllByRecursion P (records_of all)) (sym made) (report_are P holds store delivery)
 
 -- ---- the records of an entry that is done with
@@ -85,10 +85,10 @@ settled_are P mail path_of store queued outcomes told later made count taken set
     (taken_are P queued.entry taken queued.unsettled outcomes))
 
 mail_domains : HoldsOfMail AddsNoDomain
-mail_domains = record { message = λ folder flags date octets. tt; entry = λ path addresses octets. tt }
+mail_domains = record { message = λ folder flags mark date octets. tt; entry = λ path addresses mark octets. tt }
 
 mail_spares : (entry index : ℕ) → HoldsOfMail (Spares entry index)
-mail_spares entry index = record { message = λ folder flags date octets. tt; entry = λ path addresses octets. tt }
+mail_spares entry index = record { message = λ folder flags mark date octets. tt; entry = λ path addresses mark octets. tt }
 
 -- ---- what a report leaves
 

@@ -164,10 +164,10 @@ pub StandsOn-record : (kept : Kept) (one : Record) → AddsNoDomain one → Stan
 StandsOn-record kept (records.Account address password) none = stands_plainly kept (after_record kept (records.Account address password)) refl refl
 StandsOn-record kept (records.Domain name) none = absurd none
 StandsOn-record kept (records.Folder account name) none = stands_plainly kept (after_record kept (records.Folder account name)) refl refl
-StandsOn-record kept (records.Message folder flags date octets) none = stands_plainly kept (after_record kept (records.Message folder flags date octets)) refl refl
+StandsOn-record kept (records.Message folder flags mark date octets) none = stands_plainly kept (after_record kept (records.Message folder flags mark date octets)) refl refl
 StandsOn-record kept (records.Flags message flags) none = stands_plainly kept (after_record kept (records.Flags message flags)) refl refl
 StandsOn-record kept (records.Expunge message) none = stands_plainly kept (after_record kept (records.Expunge message)) refl refl
-StandsOn-record kept (records.Queue path addresses octets) none = record {
+StandsOn-record kept (records.Queue path addresses mark octets) none = record {
   longer = grows kept.entries _;
   octets = λ number there. front_same (λ (entry : Entry). entry.octets) [] kept.entries _ number there;
   name = refl;
@@ -177,6 +177,7 @@ StandsOn-record kept (records.Settle entry index) none = record {
   octets = λ number there. changed_kept (λ (one : Entry). one.octets) [] (without index) (λ one. refl) kept.entries entry number;
   name = refl;
 }
+StandsOn-record kept records.Version none = StandsOn-same kept
 
 pub StandsOn-records : (kept : Kept) (all : List Record) → AllByRecursion AddsNoDomain all → StandsOn kept (after_all kept all)
 StandsOn-records kept [] none = StandsOn-same kept
@@ -227,12 +228,13 @@ pub unsettled_after : (kept : Kept) (one : Record) (entry index : ℕ) → Spare
 unsettled_after kept (records.Account address password) entry index spares still = still
 unsettled_after kept (records.Domain name) entry index spares still = still
 unsettled_after kept (records.Folder account name) entry index spares still = still
-unsettled_after kept (records.Message folder flags date octets) entry index spares still = still
+unsettled_after kept (records.Message folder flags mark date octets) entry index spares still = still
 unsettled_after kept (records.Flags message flags) entry index spares still = still
 unsettled_after kept (records.Expunge message) entry index spares still = still
-unsettled_after kept (records.Queue path addresses octets) entry index spares still =
+unsettled_after kept (records.Queue path addresses mark octets) entry index spares still =
     front_stays (λ (one : Entry). option_map_or (λ (recipient : Recipient). recipient.waits) (slice_get one.recipients index) false) kept.entries _ entry still
 unsettled_after kept (records.Settle other at) entry index spares still = settled_elsewhere kept entry index other at spares ∙ still
+unsettled_after kept records.Version entry index spares still = still
 
 pub unsettled_after_all : (kept : Kept) (all : List Record) (entry index : ℕ) → AllByRecursion (Spares entry index) all → is_unsettled kept entry index ≡ true
     → is_unsettled (after_all kept all) entry index ≡ true

@@ -36,10 +36,10 @@ use Rattle.relay_session.specs.declared.ends.LeftCause.TheVariants as cause
 use Rattle.relay_session.specs.declared.ends.Tally.{Tally}
 use Rattle.relay_session.specs.declared.running.Run.{Run}
 use Rattle.relay_session.specs.private.Acting.{ActsBroken, SaysInPart, tallied}
-use Rattle.relay_session.specs.private.Running.{IsAtWork, IsRunning}
+use Rattle.relay_session.specs.private.Running.{IsAtWork, IsRunning, end_of}
 use Rattle.relay_session.proofs.ActsLemmas.{first_all}
 use Rattle.relay_session.proofs.CarryLemmas.{Carries-onward, Carries-over}
-use Rattle.relay_session.proofs.RunPieces.{end_of, stopped_after}
+use Rattle.relay_session.proofs.RunPieces.{stopped_after}
 use Rattle.relay_session.proofs.RunSteps.{AreReplies-reply, CarriesOn, Entered, acts_so_far, carried_more, carries_on, done_more, entered_more}
 use Rattle.relay_session.proofs.TallyLemmas.{left_count-append, outcomes_in-append, same_tally, sent_count-append, tallied-is}
 

@@ -30,10 +30,9 @@ use Rattle.relay_session.specs.declared.ends.LeftCause.TheVariants as cause
 use Rattle.relay_session.specs.declared.ends.Tally.{Tally}
 use Rattle.relay_session.specs.declared.running.Run.{Run}
 use Rattle.relay_session.specs.private.Acting.{ActsDone, SaysInPart, tallied}
-use Rattle.relay_session.specs.private.Running.{IsAtWork, IsRunning, IsWireCause}
+use Rattle.relay_session.specs.private.Running.{IsAtWork, IsRunning, IsWireCause, end_of}
 use Rattle.relay_session.proofs.ListEnds.{heads, tails}
 use Rattle.relay_session.proofs.RunEnds.{ReplyComes, after_replies, counts_by, in_part, not_settle, part_tally}
-use Rattle.relay_session.proofs.RunPieces.{end_of}
 use Rattle.relay_session.proofs.RunSteps.{acts_so_far, carried_more, does_more, entered_more}
 
 -- ---- QUIT is the last act

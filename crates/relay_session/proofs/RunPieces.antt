@@ -24,13 +24,11 @@ use Rattle.session_core.proofs.KeepsLemmas.{Keeps-nil, Keeps-then, keeper_fine}
 use Rattle.relay_session.specs.MailObjects.{Mailbag, messages_of}
 use Rattle.relay_session.specs.Relaying.{Done, IsAnswered, RelaysTo, SpeaksInTurn, by_end, run_of}
 use Rattle.relay_session.specs.Streams.{AreReplies}
-use Rattle.relay_session.specs.declared.ends.LeftCause.{LeftCause}
 use Rattle.relay_session.specs.declared.ends.LeftCause.TheVariants as cause
 use Rattle.relay_session.specs.declared.ends.RelayEnd.{RelayEnd}
-use Rattle.relay_session.specs.declared.ends.Tally.{Tally}
 use Rattle.relay_session.specs.declared.running.Run.{Run}
 use Rattle.relay_session.specs.private.Acting.{AreKnown, AreOpenFrom, settled_count}
-use Rattle.relay_session.specs.private.Running.{IsAtWork, IsRunning, IsWireCause}
+use Rattle.relay_session.specs.private.Running.{IsAtWork, IsRunning, IsWireCause, end_of}
 use Rattle.relay_session.proofs.ListEnds.{heads, tails}
 
 -- ---- one take
@@ -133,10 +131,6 @@ running_taken path_of before a b bag run n into piece leaves keeps running =
     }
 
 -- ---- ends
-
--- the end of a tally
-abbrev pub end_of : Tally → Option LeftCause → RelayEnd
-end_of tally cause = record { sent = tally.sent; reported = tally.reported; left = tally.left; cause = cause }
 
 -- all these acts were done, and nothing after them
 pub stopped_after : (old new : StoreState) (had has : Option (List ℕ)) (acts : List (Act (List ℕ))) (given : List ℕ) → IsDone (λ octets. octets) old new had has None acts given

@@ -3,6 +3,7 @@ use Rattle.std.specs.Prelude.{◌≡◌, ◌≢◌, ◌==◌, ℕ, List, [], ◌
 use Rattle.std.specs.Option.{option_map_or}
 use Rattle.address_grammar.specs.Addresses.{address_text}
 use Rattle.address_grammar.specs.declared.Address.{Address}
+use Rattle.journal_records.specs.Stored.{HasMark}
 use Rattle.journal_records.specs.declared.limits.TheConstants.{TEXT_MAX}
 use Rattle.journal_records.specs.declared.records.Record.{Record}
 use Rattle.kept_mail.specs.Kept.{Kept, find_account, is_local, name_of}
@@ -47,12 +48,13 @@ remote_destination path = if nat_le (length (address_text path)) TEXT_MAX then Q
 abbrev pub destination_of : (List ℕ → Option (Option Address)) → Kept → (path : Address) → Destination
 destination_of path_of kept path = if is_local kept path.domain then option_map_or Account (find_account path_of kept path) Nowhere else remote_destination path
 
--- exactly the report's octets are delivered, from the null path
-abbrev pub delivery_to : Destination → (path : Address) → (report date : List ℕ) → Option Delivery
-delivery_to (Account account) path report date =
-    Some (record { path = None; local = account ∷ []; local_octets = report; remote = []; remote_octets = []; date = date })
-delivery_to Queue path report date = Some (record { path = None; local = []; local_octets = []; remote = path ∷ []; remote_octets = report; date = date })
-delivery_to Nowhere path report date = None
+-- exactly the report's octets are delivered, with their mark, from the null path
+abbrev pub delivery_to : Destination → (path : Address) → (report : List ℕ) → (mark : ℕ) → (date : List ℕ) → Option Delivery
+delivery_to (Account account) path report mark date =
+    Some (record { path = None; local = account ∷ []; local_octets = report; local_mark = mark; remote = []; remote_octets = []; remote_mark = 0; date = date })
+delivery_to Queue path report mark date =
+    Some (record { path = None; local = []; local_octets = []; local_mark = 0; remote = path ∷ []; remote_octets = report; remote_mark = mark; date = date })
+delivery_to Nowhere path report mark date = None
 
 -- one for which there is no room is dropped
 abbrev pub report_changes : StoreState → Option Delivery → List (List Record)
@@ -80,8 +82,8 @@ pub data Reports (path_of : List ℕ → Option (Option Address)) (store : Store
   -- the null path is told nothing
   unsigned : queued.path ≡ None → later ≡ told → changes ≡ [] → count ≡ 0 → Reports path_of store queued message outcomes told later changes count
   -- one report tells of all who failed
-  told_once : (moment : Moment) (path : Address) (text : List ℕ) (delivery : Option Delivery) → queued.path ≡ Some path → failed_of queued.unsettled outcomes ≢ []
+  told_once : (moment : Moment) (path : Address) (text : List ℕ) (mark : ℕ) (delivery : Option Delivery) → queued.path ≡ Some path → failed_of queued.unsettled outcomes ≢ []
       → told ≡ moment ∷ later → IsReportAt moment (name_of store.kept) path (failed_of queued.unsettled outcomes) message text
-      → delivery ≡ delivery_to (destination_of path_of store.kept path) path text moment.internal
+      → HasMark text mark → delivery ≡ delivery_to (destination_of path_of store.kept path) path text mark moment.internal
       → changes ≡ report_changes store delivery → count ≡ (if is_report_kept store delivery then 1 else 0)
       → Reports path_of store queued message outcomes told later changes count

@@ -1,8 +1,6 @@
 //! The queue as mail objects.
 ghost use Rattle.std.specs.Prelude.{◌≡◌, IfOk};
 ghost use Rattle.std.specs.List.{All, AllZip};
-ghost use Rattle.journal_records.specs.Stored.{IsStored};
-ghost use Rattle.mime_tree.specs.Tree.{HasTree};
 ghost use Rattle.relay_choice.specs.MailObjects.{IsAddressed};
 ghost use Rattle.relay_session.specs.MailObjects.{IsMailObjectAt, addresses_of as addresses_in};
 ghost use Rattle.relay_session.specs.private.Acting.{IsKnownEntry};
@@ -10,7 +8,6 @@ ghost use Rattle.relay_session.specs.private.Acting.{IsKnownEntry};
 use address_grammar::Address;
 use mail_store::{Queued, Store, Unsettled};
 use mail_wire::{Items, Memory, Octets};
-use mime_tree::{Tree, TreeFault, read_tree};
 use relay_choice::{MailObject, MailObjects, mail_object_of};
 use std::alloc::Global;
 
@@ -45,19 +42,6 @@ fn addresses_of(alloc: Global, unsettled: &[Unsettled]) -> Result<Items<Address>
     Ok(addresses)
 }
 
-/// The tree of a message that is kept.
-pub fn tree_of(alloc: Global, octets: &[u8]) -> Result<Tree, Memory>
-    requires { IsStored octets.now }
-    ensures { IfOk result (λ tree. HasTree octets.now tree.entities) }
-{
-    match read_tree(alloc, octets) {
-        Ok(tree) => Ok(tree),
-        Err(TreeFault::Memory) => Err(Memory),
-        // It has a tree.
-        Err(_) => unreachable!(),
-    }
-}
-
 // The mail object of an entry of the queue.
 #[tactic(auto, using(crate::proofs::MailObjectAddresses::text_path, crate::proofs::MailObjectAddresses::mail_object_there))]
 fn mail_object_at(alloc: Global, store: &Store, queued: &Queued) -> Result<MailObject, Memory>
@@ -65,11 +49,10 @@ fn mail_object_at(alloc: Global, store: &Store, queued: &Queued) -> Result<MailO
     ensures mail_object { IfOk result (IsMailObjectAt store.now.kept queued.now) }
     ensures addressed { IfOk result IsAddressed }
 {
-    let octets = store.queue_octets(queued.entry);
-    let tree = tree_of(alloc, octets)?;
+    let mark = store.queue_mark(queued.entry);
     let path = path_of(alloc, &queued.path)?;
     let addresses = addresses_of(alloc, queued.unsettled.as_slice())?;
-    mail_object_of(alloc, path, addresses, octets, &tree)
+    mail_object_of(alloc, path, addresses, mark)
 }
 
 /// The mail objects of a queue, in order.

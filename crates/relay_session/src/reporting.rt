@@ -3,10 +3,11 @@ ghost use Rattle.std.specs.Prelude.{◌≡◌, ◌≢◌, ◌++◌, [], Some, Er
 ghost use Rattle.std.specs.List.{All};
 ghost use Rattle.address_grammar.specs.Paths.{ComesInPath};
 ghost use Rattle.journal_records.specs.Addresses.{WithPaths};
-ghost use Rattle.journal_records.specs.Stored.{IsStored};
+ghost use Rattle.journal_records.specs.Stored.{HasMark, IsStored};
 ghost use Rattle.kept_mail.specs.Kept.{name_of};
 ghost use Rattle.mail_store.specs.Changing.{IsDeliverable};
 ghost use Rattle.mail_wire.specs.declared.outside.Fault.TheVariants as fault;
+ghost use Rattle.mime_tree.specs.Tree.{HasTree};
 ghost use Rattle.relay_choice.specs.Settling.{IsFitOutcome};
 ghost use Rattle.session_core.specs.Desks.{IsOpen, IsStoreName};
 ghost use Rattle.session_core.specs.Doing.{Makes};
@@ -19,13 +20,14 @@ ghost use Rattle.relay_session.specs.Reporting.{delivery_to, destination_of as d
 ghost use Rattle.relay_session.specs.private.Acting.{IsDestinationIn, IsKnownEntry, MakesReport};
 ghost use Rattle.relay_session.specs.private.Reported.{IsReported};
 
-use crate::mail_objects::{copy_of, tree_of};
+use crate::mail_objects::copy_of;
 use address_grammar::{Address, write_address};
 use itoa::Buffer;
-use journal_records::TEXT_MAX;
+use journal_records::{TEXT_MAX, mark_of};
 use kept_mail::Delivery;
 use mail_store::{Queued, Store};
-use mail_wire::{Clock, Fault, Items, Keeper, Memory, Octets, Wire};
+use mail_wire::{Clock, Fault, Items, Keeper, Memory, Octets, Wire, is_ascii};
+use mime_tree::{Tree, TreeFault, read_tree};
 use relay_choice::Outcome;
 use session_core::{Delivered, Outside, Timestamp};
 use std::alloc::Global;
@@ -115,26 +117,28 @@ fn destination_of(alloc: Global, store: &Store, path: &Address) -> Result<Destin
     }
 }
 
-// The report as a delivery from the null path (RFC 5321, 4.5.5); none where it goes nowhere.
+// The report, which has this mark, as a delivery from the null path (RFC 5321, 4.5.5); none where it goes nowhere.
 fn delivery_of(
     alloc: Global,
     destination: Destination,
     path: &Address,
     report: Octets,
+    mark: u8,
     date: Octets,
 ) -> Result<Option<Delivery>, Memory>
-    ensures { IfOk result (λ delivery. delivery ≡ delivery_to destination path.now report date) }
+    ensures { IfOk result (λ delivery. delivery ≡ delivery_to destination path.now report mark date) }
 {
     let mut local = Items::new(alloc);
     let mut remote = Items::new(alloc);
-    let (local_octets, remote_octets) = match destination {
+    // No octets have the mark 0.
+    let (local_octets, local_mark, remote_octets, remote_mark) = match destination {
         Destination::Account(account) => {
             local.push(account)?;
-            (report, Octets::new(alloc))
+            (report, mark, Octets::new(alloc), 0)
         }
         Destination::Queue => {
             remote.push(copy_of(alloc, path)?)?;
-            (Octets::new(alloc), report)
+            (Octets::new(alloc), 0, report, mark)
         }
         Destination::Nowhere => return Ok(None),
     };
@@ -142,10 +146,25 @@ fn delivery_of(
         path: None,
         local,
         local_octets,
+        local_mark,
         remote,
         remote_octets,
+        remote_mark,
         date,
     }))
+}
+
+// The tree of a message that is kept.
+fn tree_of(alloc: Global, octets: &[u8]) -> Result<Tree, Memory>
+    requires { IsStored octets.now }
+    ensures { IfOk result (λ tree. HasTree octets.now tree.entities) }
+{
+    match read_tree(alloc, octets) {
+        Ok(tree) => Ok(tree),
+        Err(TreeFault::Memory) => Err(Memory),
+        // It has a tree.
+        Err(_) => unreachable!(),
+    }
 }
 
 // The report of these failures, with this moment.
@@ -173,6 +192,22 @@ fn report_of(
     make_report(alloc, &failure, octets, &tree)
 }
 
+// The mark of a report. Most are in ASCII, and have the mark 0.
+#[tactic(auto, using(crate::proofs::ReportMarks::ascii_mark))]
+fn report_mark(alloc: Global, report: &[u8]) -> Result<u8, Memory>
+    requires { IsStored report.now }
+    ensures { IfOk result (HasMark report.now) }
+{
+    if is_ascii(report) {
+        return Ok(0);
+    }
+    match mark_of(alloc, report)? {
+        Some(mark) => Ok(mark),
+        // It has a tree, and so a mark.
+        None => unreachable!(),
+    }
+}
+
 // The report of failures at this moment, as a delivery; none where it goes nowhere.
 fn reported(
     alloc: Global,
@@ -198,7 +233,8 @@ fn reported(
     } = timestamp;
     let destination = destination_of(alloc, store, path)?;
     let report = report_of(alloc, store, queued, path, failed, seconds)?;
-    delivery_of(alloc, destination, path, report, internal)
+    let mark = report_mark(alloc, report.as_slice())?;
+    delivery_of(alloc, destination, path, report, mark, internal)
 }
 
 // Delivers a report. Whether it was kept: one for which there is no room is dropped.

@@ -9,8 +9,8 @@ ghost use Rattle.session_core.specs.Desks.{IsOpen};
 ghost use Rattle.session_core.specs.Doing.{Replies};
 ghost use Rattle.session_core.specs.Keeps.{Keeps, fault_of};
 ghost use Rattle.relay_session.specs.MailObjects.{Mailbag, entry_octets};
-ghost use Rattle.relay_session.specs.private.Acting.{ActsBy, AreKnown, AreOpenFrom, CanCount, IsActIn, KeepsQueue, SettleFrom};
-ghost use Rattle.relay_session.specs.private.Running.{AdvancesTo, IsAtWork, IsRunning, IsWireCause, OnEnds, OnGoes, StaysShort};
+ghost use Rattle.relay_session.specs.private.Acting.{ActsBy, AreKnown, AreOpenFrom, CanCount, IsActIn, KeepsQueue, SettleFrom, WereDone};
+ghost use Rattle.relay_session.specs.private.Running.{AdvancesBy, AdvancesTo, IsAtWork, IsOfSome, IsRunning, IsWireCause, OnEnds, OnGoes, StaysAtWork, StaysShort, TurnsBy, ending_with, going_on};
 
 use crate::ends::{LeftCause, RelayEnd, Tally};
 use crate::settling::settle;
@@ -18,6 +18,7 @@ use mail_store::Queued;
 use mail_wire::{Clock, Fault, Keeper, Memory, Octets, Wire};
 use relay_choice::{Act, Acts, Client, ReplyRead, ReplyReader, Taken, Turn, push_data, read_reply};
 use session_core::Outside;
+use std::alloc::Global;
 
 /// A run that awaits a reply: its client, what came of the reply, and what was done.
 #[derive(Drop)]
@@ -96,6 +97,60 @@ fn do_acts<W: Wire, J: Keeper, C: Clock>(
     Ok(())
 }
 
+// Does the acts, in order, unless a fault breaks them off. Whether the wire took what they give.
+fn all_done<W: Wire, J: Keeper, C: Clock>(
+    acts: &Acts,
+    queue: &[Queued],
+    tally: &mut Tally,
+    outside: &mut Outside<W, J, C>,
+) -> Result<bool, Fault>
+    requires opens { IsOpen outside.old.desk }
+    requires known { AreKnown outside.old.desk.store.kept queue.now }
+    requires within { All (IsActIn queue.now) acts.now }
+    requires order { (place : ℕ) × AreOpenFrom outside.old.desk.store.kept queue.now place × SettleFrom place acts.now }
+    requires room { CanCount tally.old acts.now }
+    ensures done { WereDone outside.old outside.new queue.now acts.now tally.old tally.new result }
+{
+    match do_acts(acts, queue, tally, outside) {
+        Ok(()) => Ok(true),
+        Err(Fault::Wire) => Ok(false),
+        Err(Fault::Keeper) => Err(Fault::Keeper),
+        Err(Fault::Memory) => Err(Fault::Memory),
+    }
+}
+
+// The turn of a client after octets that are a reply, or that begin none and so stop the run.
+fn turn_after(alloc: Global, client: Client, octets: &[u8]) -> Result<Turn, Memory>
+    requires { IsDecided octets.now }
+    ensures { IfOk result (TurnsBy client octets.now) }
+{
+    let ReplyRead::Whole { reply, .. } = read_reply(alloc, octets)? else {
+        return Ok(Turn::Stops);
+    };
+    client.take(&reply)
+}
+
+// A run that awaits a further reply, where all was done.
+fn go_on(run: Run, done: Result<bool, Fault>) -> Result<Advance, Fault>
+    ensures { result ≡ going_on run done }
+{
+    match done {
+        Ok(true) => Ok(Advance::Goes(run)),
+        Ok(false) => Ok(Advance::Ends(run.tally.end(Some(LeftCause::Wire)))),
+        Err(fault) => Err(fault),
+    }
+}
+
+// The end of a run whose last acts were done. Of these QUIT alone gives octets, and it doesn't matter whether it arrives.
+fn end_with(tally: Tally, done: Result<bool, Fault>) -> Result<Advance, Fault>
+    ensures { result ≡ ending_with tally done }
+{
+    match done {
+        Ok(_) => Ok(Advance::Ends(tally.end(None))),
+        Err(fault) => Err(fault),
+    }
+}
+
 // What the run comes to by octets that are a reply, or that begin none.
 fn take_reply<W: Wire, J: Keeper, C: Clock>(
     run: Run,
@@ -106,43 +161,38 @@ fn take_reply<W: Wire, J: Keeper, C: Clock>(
     requires opens { IsOpen outside.old.desk }
     requires decided { IsDecided octets }
     requires anew { run.reader.octets ≡ [] }
-    requires work { (before : Around) × (bag : Mailbag before.desk.store.kept) × (rest : List ℕ) × (bag.queue ≡ queue.now) × IsAtWork before outside.old bag run (octets ++ rest) }
-    ensures advance { WithPaths (λ path_of. (before : Around) (bag : Mailbag before.desk.store.kept) (rest : List ℕ) → bag.queue ≡ queue.now
-        → IsRunning path_of before outside.old bag run (octets ++ rest) → AdvancesTo path_of before outside.new bag rest result) }
-    ensures work { IfOk result (OnGoes (λ next. (before : Around) (bag : Mailbag before.desk.store.kept) (rest : List ℕ) → bag.queue ≡ queue.now
-        → IsAtWork before outside.old bag run (octets ++ rest) → IsAtWork before outside.new bag next rest)) }
+    requires work { IsOfSome outside.old queue.now run octets }
+    ensures advance { AdvancesBy outside.old outside.new queue.now run octets result }
+    ensures work { IfOk result (StaysAtWork outside.old outside.new queue.now run octets) }
     ensures short { IfOk result (StaysShort run octets) }
     ensures cause { IfOk result (OnEnds (IsWireCause outside.old outside.new)) }
     ensures keeps { Keeps outside.old outside.new (fault_of result) }
 {
-    let alloc = outside.alloc();
     let Run {
         client,
         reader,
         mut tally,
     } = run;
-    let ReplyRead::Whole { reply, .. } = read_reply(alloc, octets.as_slice())? else {
-        return Ok(Advance::Ends(tally.end(Some(LeftCause::Reply(octets)))));
-    };
-    match client.take(&reply)? {
+    match turn_after(outside.alloc(), client, octets.as_slice())? {
         Turn::Stops => Ok(Advance::Ends(tally.end(Some(LeftCause::Reply(octets))))),
-        Turn::Goes { client, acts } => match do_acts(&acts, queue, &mut tally, outside) {
-            Ok(()) => Ok(Advance::Goes(Run {
+        Turn::Goes { client, acts } => {
+            drop(octets);
+            let done = all_done(&acts, queue, &mut tally, outside);
+            drop(acts);
+            let next = Run {
                 client,
                 reader,
                 tally,
-            })),
-            Err(Fault::Wire) => Ok(Advance::Ends(tally.end(Some(LeftCause::Wire)))),
-            Err(Fault::Keeper) => Err(Fault::Keeper),
-            Err(Fault::Memory) => Err(Fault::Memory),
-        },
-        Turn::Ends(acts) => match do_acts(&acts, queue, &mut tally, outside) {
-            Ok(()) => Ok(Advance::Ends(tally.end(None))),
-            // Of these acts QUIT alone gives octets, and it doesn't matter whether it arrives.
-            Err(Fault::Wire) => Ok(Advance::Ends(tally.end(None))),
-            Err(Fault::Keeper) => Err(Fault::Keeper),
-            Err(Fault::Memory) => Err(Fault::Memory),
-        },
+            };
+            go_on(next, done)
+        }
+        Turn::Ends(acts) => {
+            drop(octets);
+            drop(reader);
+            let done = all_done(&acts, queue, &mut tally, outside);
+            drop(acts);
+            end_with(tally, done)
+        }
     }
 }
 

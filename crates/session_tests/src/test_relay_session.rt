@@ -15,23 +15,23 @@ const EIGHT: &[u8] = b"220 x\r\n250-x\r\n250 8BITMIME\r\n";
 
 // It is of the account `ann@example.org`.
 const FROM_ACCOUNT: &[u8] =
-    b"\0\0\0\x40\x07\0\0\0\x0fann@example.org\0\0\0\x01\0\0\0\x11jos\xc3\xa9@example.com\0\0\0\x0fSubject: \xc3\xa9\r\n\r\n";
+    b"\0\0\0\x41\x0a\0\0\0\x0fann@example.org\0\0\0\x01\0\0\0\x11jos\xc3\xa9@example.com\x03\0\0\0\x0fSubject: \xc3\xa9\r\n\r\n";
 
 // It is of the null path.
 const FROM_NULL_PATH: &[u8] =
-    b"\0\0\0\x31\x07\0\0\0\0\0\0\0\x01\0\0\0\x11jos\xc3\xa9@example.com\0\0\0\x0fSubject: \xc3\xa9\r\n\r\n";
+    b"\0\0\0\x32\x0a\0\0\0\0\0\0\0\x01\0\0\0\x11jos\xc3\xa9@example.com\x03\0\0\0\x0fSubject: \xc3\xa9\r\n\r\n";
 
 // It is of `é@x.example`.
 const FROM_UTF8: &[u8] =
-    b"\0\0\0\x3d\x07\0\0\0\x0c\xc3\xa9@x.example\0\0\0\x01\0\0\0\x11jos\xc3\xa9@example.com\0\0\0\x0fSubject: \xc3\xa9\r\n\r\n";
+    b"\0\0\0\x3e\x0a\0\0\0\x0c\xc3\xa9@x.example\0\0\0\x01\0\0\0\x11jos\xc3\xa9@example.com\x03\0\0\0\x0fSubject: \xc3\xa9\r\n\r\n";
 
 // It is of an account that isn't there.
 const FROM_GONE: &[u8] =
-    b"\0\0\0\x43\x07\0\0\0\x12nobody@example.org\0\0\0\x01\0\0\0\x11jos\xc3\xa9@example.com\0\0\0\x0fSubject: \xc3\xa9\r\n\r\n";
+    b"\0\0\0\x44\x0a\0\0\0\x12nobody@example.org\0\0\0\x01\0\0\0\x11jos\xc3\xa9@example.com\x03\0\0\0\x0fSubject: \xc3\xa9\r\n\r\n";
 
 // An entry of a message of the account `ann@example.org` to `x@example.com` and `y@example.com`, with lines that begin with dots.
 const WITH_DOTS: &[u8] =
-    b"\0\0\0\x4c\x07\0\0\0\x0fann@example.org\0\0\0\x02\0\0\0\x0dx@example.com\0\0\0\x0dy@example.com\0\0\0\x0eA: b\r\n\r\n.\r\n..x";
+    b"\0\0\0\x4d\x0a\0\0\0\x0fann@example.org\0\0\0\x02\0\0\0\x0dx@example.com\0\0\0\x0dy@example.com\0\0\0\0\x0eA: b\r\n\r\n.\r\n..x";
 
 // The record by which the recipient is taken off.
 const SETTLED: &[u8] = b"\0\0\0\x09\x08\0\0\0\0\0\0\0\0";
@@ -224,9 +224,10 @@ const REPORTED: [(&str, &[RelayRow]); 5] = [
             counts: [0, 1, 0],
             cause: Cause::None,
             given: b"EHLO example.org\r\nQUIT\r\n",
-            // the recipient is taken off
+            // the report has the mark 0, and the recipient is taken off
             kept: Kept::EndsSaying(
                 &[
+                    b"\x09\0\0\0\0\0\0\0\0\0\x1a01-Jan-1970 00:00:00 +0000",
                     b"Final-Recipient: utf-8; jos\\x{E9}@example.com\r\n",
                     b"Action: failed\r\nStatus: 5.6.9\r\n",
                     b"To: ann@example.org\r\nDate: Thu, 01 Jan 1970 00:00:00 +0000\r\n",
@@ -258,7 +259,9 @@ const REPORTED: [(&str, &[RelayRow]); 5] = [
             counts: [0, 1, 0],
             cause: Cause::None,
             given: b"EHLO example.org\r\nQUIT\r\n",
+            // its report has the mark 3
             kept: Kept::Says(&[
+                b"\x0a\0\0\0\0\0\0\0\x01\0\0\0\x0c\xC3\xA9@x.example\x03",
                 b"Final-Recipient: utf-8; jos\xC3\xA9@example.com\r\n",
                 b"Content-Type: message/global-headers\r\n\r\nSubject: \xC3\xA9\r\n",
             ]),

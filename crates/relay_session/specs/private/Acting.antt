@@ -1,9 +1,9 @@
 -- What single acts of a client come to.
-use Rattle.std.specs.Prelude.{◌≡◌, ◌⊎◌, ℕ, ◌+◌, ◌-◌, ◌<◌, ◌≤◌, ◌^◌, List, [], ◌∷◌, ◌++◌, length, map, Bool, true, if◌then◌else◌, Option, None, Some, Result, Ok, Err, drop, slice_get}
+use Rattle.std.specs.Prelude.{◌≡◌, ◌⊎◌, ℕ, ◌+◌, ◌-◌, ◌<◌, ◌≤◌, ◌^◌, List, [], ◌∷◌, ◌++◌, length, map, Bool, true, false, if◌then◌else◌, Option, None, Some, Result, Ok, Err, drop, slice_get}
 use Rattle.std.specs.List.{All, flat_map}
 use Rattle.std.specs.List.Sorted.{IsStrictlyIncreasing}
 use Rattle.address_grammar.specs.declared.Address.{Address}
-use Rattle.journal_records.specs.Addresses.{IsSendable}
+use Rattle.journal_records.specs.Addresses.{IsSendable, WithPaths}
 use Rattle.journal_records.specs.declared.records.Record.{Record}
 use Rattle.kept_mail.specs.Kept.{Kept}
 use Rattle.mail_store.specs.Changing.{is_unsettled}
@@ -20,6 +20,7 @@ use Rattle.relay_choice.specs.declared.mail_objects.Outcome.{Outcome}
 use Rattle.session_core.specs.Acts.{Act, changes, gives}
 use Rattle.session_core.specs.Around.{Around}
 use Rattle.session_core.specs.Doing.{Does, Makes, Replies}
+use Rattle.session_core.specs.Keeps.{Keeps}
 use Rattle.session_core.specs.Moments.{IsTold, Moment}
 use Rattle.relay_session.specs.Carrying.{CarriesActs, IsSettled}
 use Rattle.relay_session.specs.MailObjects.{entry_octets, messages_of}
@@ -180,3 +181,16 @@ ActsBy path_of before now queue all old new None =
 ActsBy path_of before now queue all old new (Some fault.Wire) = SaysInPart path_of before now queue all old new
 ActsBy path_of before now queue all old new (Some fault.Keeper) = ActsBroken path_of before now queue all fault.Keeper
 ActsBy path_of before now queue all old new (Some fault.Memory) = ActsBroken path_of before now queue all fault.Memory
+
+-- the fault that broke acts off, where the answer is whether the wire took what they give
+abbrev pub met_by : Result Bool Fault → Option Fault
+met_by (Ok true) = None
+met_by (Ok false) = Some fault.Wire
+met_by (Err met) = Some met
+
+-- all acts were done, or the wire or another fault broke them off
+pub record WereDone (before now : Around) (queue : List Queued) (acts : List ClientAct) (old new : Tally) (done : Result Bool Fault) : Type 0 where
+  pub acts_by : WithPaths (λ path_of. ActsBy path_of before now queue acts old new (met_by done))
+  pub stays : done ≡ Ok true → KeepsQueue before now queue acts
+  pub fine : ¬ (done ≡ Err fault.Wire)
+  pub keeps : Keeps before now (met_by done)

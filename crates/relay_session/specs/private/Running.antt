@@ -1,25 +1,34 @@
 -- A run in the midst of its replies.
-use Rattle.std.specs.Prelude.{◌≡◌, ℕ, ◌+◌, ◌-◌, ◌*◌, ◌≤◌, List, ◌++◌, length, IsTrue, Option, Some, Result, Ok, Err}
+use Rattle.std.specs.Prelude.{◌≡◌, ◌⊎◌, ℕ, ◌+◌, ◌-◌, ◌*◌, ◌<◌, ◌≤◌, List, [], ◌∷◌, ◌++◌, length, Bool, true, false, IsTrue, Option, None, Some, Result, Ok, Err}
 use Rattle.address_grammar.specs.declared.Address.{Address}
+use Rattle.journal_records.specs.Addresses.{WithPaths}
 use Rattle.kept_mail.specs.Kept.{name_of}
 use Rattle.kept_mail.specs.declared.limits.TheConstants.{THINGS_MAX}
 use Rattle.mail_store.specs.Queue.{told_count}
+use Rattle.mail_store.specs.declared.queue.Queued.{Queued}
 use Rattle.mail_wire.specs.Causes.{Rose}
 use Rattle.mail_wire.specs.Moves.{Moves}
 use Rattle.mail_wire.specs.Transcript.{given_of, taken_of}
 use Rattle.mail_wire.specs.declared.outside.Entry.{Entry}
 use Rattle.mail_wire.specs.declared.outside.Fault.{Fault}
 use Rattle.relay_choice.specs.Pieces.{HasBegunReply}
-use Rattle.relay_choice.specs.Relay.{after_acts, left_count, sent_count, sent_octets, waits}
-use Rattle.relay_choice.specs.Standing.{replies_left, rest_of, standing_of}
+use Rattle.relay_choice.specs.Relay.{after_acts, finished, left_count, sent_count, sent_octets, stopped, waits}
+use Rattle.relay_choice.specs.Replies.{IsNoFront, IsReply}
+use Rattle.relay_choice.specs.Standing.{TakesLeave as LeavesLast, replies_left, rest_of, standing_of}
+use Rattle.relay_choice.specs.declared.client.Turn.{Turn}
+use Rattle.relay_choice.specs.declared.client.Turn.TheVariants as turn
+use Rattle.relay_choice.specs.declared.mail_objects.Act.{Act as ClientAct}
 use Rattle.relay_choice.specs.declared.replies.TheConstants.{REPLY_LINES, REPLY_LINE_MAX}
 use Rattle.relay_choice.specs.declared.replies.Reply.{Reply}
+use Rattle.relay_choice.specs.declared.states.Client.{Client}
 use Rattle.session_core.specs.Around.{Around}
 use Rattle.relay_session.specs.MailObjects.{Mailbag, messages_of}
 use Rattle.relay_session.specs.Relaying.{DoesRun, RelaysTo, SpeaksInTurn, run_of}
 use Rattle.relay_session.specs.Streams.{AreReplies}
+use Rattle.relay_session.specs.declared.ends.LeftCause.{LeftCause}
 use Rattle.relay_session.specs.declared.ends.LeftCause.TheVariants as cause
 use Rattle.relay_session.specs.declared.ends.RelayEnd.{RelayEnd}
+use Rattle.relay_session.specs.declared.ends.Tally.{Tally}
 use Rattle.relay_session.specs.declared.running.Advance.{Advance}
 use Rattle.relay_session.specs.declared.running.Advance.TheVariants as advance
 use Rattle.relay_session.specs.declared.running.Run.{Run}
@@ -81,3 +90,63 @@ StaysShort run taken advance = OnGoes (λ next. octets_left next + length taken 
 -- the wire is told to have failed only where it did
 abbrev pub IsWireCause : Around → Around → RelayEnd → Type 0
 IsWireCause before now end = end.cause ≡ Some cause.Wire → Rose before.wire.faults now.wire.faults × ¬ IsTrue before.wire.never_fails
+
+-- ---- what a reply comes to
+
+-- a reply after which the client goes on with these acts, and awaits fewer
+pub record TurnsOn (client : Client) (octets : List ℕ) (next : Client) (acts : List ClientAct) : Type 0 where
+  pub reply : Reply
+  pub is : IsReply octets reply
+  pub comes : (left : List Reply) → rest_of client (reply ∷ left) ≡ after_acts acts (rest_of next left)
+  pub fewer : replies_left (standing_of next) < replies_left (standing_of client)
+
+-- one after which it does these acts and takes leave
+pub record TurnsLast (client : Client) (octets : List ℕ) (acts : List ClientAct) : Type 0 where
+  pub reply : Reply
+  pub is : IsReply octets reply
+  pub comes : (left : List Reply) → rest_of client (reply ∷ left) ≡ record { acts = acts; end = finished }
+  pub leave : LeavesLast acts
+
+-- one that stops the run
+pub record StopsBy (client : Client) (octets : List ℕ) : Type 0 where
+  pub reply : Reply
+  pub is : IsReply octets reply
+  pub comes : (left : List Reply) → rest_of client (reply ∷ left) ≡ record { acts = []; end = stopped reply }
+
+-- The turn of a client after octets that are a reply. Octets that begin none stop the run, as some replies do.
+abbrev pub TurnsBy : Client → (octets : List ℕ) → Turn → Type 0
+TurnsBy client octets (turn.Goes next acts) = TurnsOn client octets next acts
+TurnsBy client octets (turn.Ends acts) = TurnsLast client octets acts
+TurnsBy client octets turn.Stops = StopsBy client octets ⊎ IsNoFront octets
+
+-- the end of a run that did so much
+abbrev pub end_of : Tally → Option LeftCause → RelayEnd
+end_of tally cause = record { sent = tally.sent; reported = tally.reported; left = tally.left; cause = cause }
+
+-- what a run comes to whose acts were done, unless the wire or another fault broke them off
+abbrev pub going_on : Run → (done : Result Bool Fault) → Result Advance Fault
+going_on run (Ok true) = Ok (advance.Goes run)
+going_on run (Ok false) = Ok (advance.Ends (end_of run.tally (Some cause.Wire)))
+going_on run (Err met) = Err met
+
+-- and one whose last acts were done, the end of which need not arrive
+abbrev pub ending_with : Tally → (done : Result Bool Fault) → Result Advance Fault
+ending_with tally (Ok arrived) = Ok (advance.Ends (end_of tally None))
+ending_with tally (Err met) = Err met
+
+-- ---- whatever run it is
+
+-- the run is one over this queue, and these octets are the first that it didn't look at
+abbrev pub IsOfSome : (now : Around) → List Queued → Run → (octets : List ℕ) → Type 0
+IsOfSome now queue run octets = (before : Around) × (bag : Mailbag before.desk.store.kept) × (rest : List ℕ) × (bag.queue ≡ queue) × IsAtWork before now bag run (octets ++ rest)
+
+-- what each such run comes to by them
+abbrev pub AdvancesBy : (old new : Around) → List Queued → Run → (octets : List ℕ) → Result Advance Fault → Type 0
+AdvancesBy old new queue run octets result =
+    WithPaths (λ path_of. (before : Around) (bag : Mailbag before.desk.store.kept) (rest : List ℕ) → bag.queue ≡ queue → IsRunning path_of before old bag run (octets ++ rest)
+    → AdvancesTo path_of before new bag rest result)
+
+-- where it goes on, it is at work
+abbrev pub StaysAtWork : (old new : Around) → List Queued → Run → (octets : List ℕ) → Advance → Type 0
+StaysAtWork old new queue run octets advance =
+    OnGoes (λ next. (before : Around) (bag : Mailbag before.desk.store.kept) (rest : List ℕ) → bag.queue ≡ queue → IsAtWork before old bag run (octets ++ rest) → IsAtWork before new bag next rest) advance

@@ -9,10 +9,10 @@ report_of-requires-clause-failure c =
 
 pub returns-clause-deliverable : goal.returns-clause-deliverable
 returns-clause-deliverable c =
-    deliverable_made c.args.store.now c.in_ok-destination.destination c.args.path.now c.in_ok-report.report c.args.timestamp.internal c.delivery_of.result c.delivery_of.ensures
-    c.in_ok-destination.ensures.known c.in_ok-report.ensures.stored (moment_date c.args.timestamp.seconds c.args.timestamp.internal c.requires.moment.internal)
+    deliverable_made c.args.store.now c.in_ok-destination.destination c.args.path.now c.in_ok-report.report c.in_ok-mark.mark c.args.timestamp.internal c.delivery_of.result c.delivery_of.ensures
+    c.in_ok-destination.ensures.known (rw c.as_slice.ensures at c.in_ok-mark.ensures) (moment_date c.args.timestamp.seconds c.args.timestamp.internal c.requires.moment.internal)
 
 pub returns-clause-reported : goal.returns-clause-reported
 returns-clause-reported c =
-    reported_as c.args.store.now.kept c.args.queued.now c.args.path.now c.args.failed c.args.timestamp c.in_ok-destination.destination c.in_ok-report.report c.delivery_of.result
-    c.requires.moment c.in_ok-report.ensures.report c.in_ok-destination.ensures.destination c.delivery_of.ensures
+    reported_as c.args.store.now.kept c.args.queued.now c.args.path.now c.args.failed c.args.timestamp c.in_ok-destination.destination c.in_ok-report.report c.in_ok-mark.mark c.delivery_of.result
+    c.requires.moment c.in_ok-report.ensures.report (rw c.as_slice.ensures at c.in_ok-mark.ensures) c.in_ok-destination.ensures.destination c.delivery_of.ensures
