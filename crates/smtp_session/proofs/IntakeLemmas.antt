@@ -101,11 +101,12 @@ inboxes_after kept (records.Account address password) have = λ account there.
     ]
 inboxes_after kept (records.Domain name) have = have
 inboxes_after kept (records.Folder owner name) have = λ account there. still_found account 0 kept.folders _ (have account there)
-inboxes_after kept (records.Message folder flags date octets) have = have
+inboxes_after kept (records.Message folder flags mark date octets) have = have
 inboxes_after kept (records.Flags message flags) have = have
 inboxes_after kept (records.Expunge message) have = have
-inboxes_after kept (records.Queue path addresses octets) have = have
+inboxes_after kept (records.Queue path addresses mark octets) have = have
 inboxes_after kept (records.Settle entry index) have = have
+inboxes_after kept records.Version have = have
 
 pub inboxes_after_all : (kept : Kept) (all : List Record) → HaveInboxes kept → HaveInboxes (after_all kept all)
 inboxes_after_all kept [] have = have
@@ -193,11 +194,11 @@ one_copy kept date octets (account ∷ accounts) have distinct = (
 
 -- ---- what a delivery leaves
 
-queue_after : (kept : Kept) (path octets : List ℕ) (addresses : List Address)
-    → after_all kept (if length addresses == 0 then [] else records.Queue path (map address_text addresses) octets ∷ [])
+queue_after : (kept : Kept) (path : List ℕ) (mark : ℕ) (octets : List ℕ) (addresses : List Address)
+    → after_all kept (if length addresses == 0 then [] else records.Queue path (map address_text addresses) (Some mark) octets ∷ [])
     ≡ (let new : Kept = record kept { entries = kept.entries ++ entries_for path octets addresses } in new)
-queue_after kept path octets [] = ap (λ es. let new : Kept = record kept { entries = es } in new) (sym (append-nil kept.entries))
-queue_after kept path octets (address ∷ addresses) = rw (not_zero (length addresses)) refl
+queue_after kept path mark octets [] = ap (λ es. let new : Kept = record kept { entries = es } in new) (sym (append-nil kept.entries))
+queue_after kept path mark octets (address ∷ addresses) = rw (not_zero (length addresses)) refl
 
 -- what is kept after a delivery
 abbrev with_delivery : Kept → Delivery → Kept
@@ -209,9 +210,9 @@ with_delivery kept delivery = record kept {
 delivered_leaves : (kept : Kept) (delivery : Delivery) → after_all kept (delivered kept delivery) ≡ with_delivery kept delivery
 delivered_leaves kept delivery =
     let inboxes = inboxes_of kept delivery.local in
-    after_all-append kept (map (copy_for delivery.date delivery.local_octets) inboxes) (queued delivery)
-    ∙ ap (λ k. after_all k (queued delivery)) (after-copies kept delivery.date delivery.local_octets inboxes)
-    ∙ queue_after (let new : Kept = record kept { messages = kept.messages ++ copies kept delivery.date delivery.local_octets delivery.local } in new) (path_text delivery.path) delivery.remote_octets delivery.remote
+    after_all-append kept (map (copy_for delivery.date delivery.local_mark delivery.local_octets) inboxes) (queued delivery)
+    ∙ ap (λ k. after_all k (queued delivery)) (after-copies kept delivery.date delivery.local_mark delivery.local_octets inboxes)
+    ∙ queue_after (let new : Kept = record kept { messages = kept.messages ++ copies kept delivery.date delivery.local_octets delivery.local } in new) (path_text delivery.path) delivery.remote_mark delivery.remote_octets delivery.remote
 
 -- the INBOX of an account with a copy has one message more
 more_in_inbox : (kept : Kept) (delivery : Delivery) (own : Option ℕ)
@@ -307,16 +308,16 @@ delivered_once kept delivery envelope local remote have are =
 
 pub accepted_kept_once : (oracles : Oracles) (store : StoreState) (client : Client) (envelope : Envelope) (moment : Moment) (octets : List ℕ)
     → IsFold store.kept → AreRecipients store.kept envelope → (end_data oracles store client envelope moment octets).reply ≡ acceptance
-    → IsKeptOnce store.kept (kept_after store (end_data oracles store client envelope moment octets)) (delivery_of store client envelope moment octets)
+    → IsKeptOnce store.kept (kept_after store (end_data oracles store client envelope moment octets)) (delivery_of oracles store client envelope moment octets)
 accepted_kept_once oracles store client envelope moment octets fold are accepted =
-    let delivery = delivery_of store client envelope moment octets in
+    let delivery = delivery_of oracles store client envelope moment octets in
     let made = accepted_is (oracles.has_tree octets) (is_looping octets) store client delivery accepted in
     rw made (rw (append-nil (delivered store.kept delivery)) (delivered_once store.kept delivery envelope refl refl (have_inboxes store.kept fold) are))
 
 pub refused_kept_none : (oracles : Oracles) (store : StoreState) (client : Client) (envelope : Envelope) (moment : Moment) (octets : List ℕ)
     → (end_data oracles store client envelope moment octets).reply ≢ acceptance → (end_data oracles store client envelope moment octets).changes ≡ []
-refused_kept_none oracles store client envelope moment octets = refused_is (oracles.has_tree octets) (is_looping octets) store client (delivery_of store client envelope moment octets)
+refused_kept_none oracles store client envelope moment octets = refused_is (oracles.has_tree octets) (is_looping octets) store client (delivery_of oracles store client envelope moment octets)
 
 pub data_forget : (oracles : Oracles) (store : StoreState) (client : Client) (envelope : Envelope) (moment : Moment) (octets : List ℕ)
     → (end_data oracles store client envelope moment octets).state ≡ greeted client
-data_forget oracles store client envelope moment octets = left_is (oracles.has_tree octets) (is_looping octets) store client (delivery_of store client envelope moment octets)
+data_forget oracles store client envelope moment octets = left_is (oracles.has_tree octets) (is_looping octets) store client (delivery_of oracles store client envelope moment octets)

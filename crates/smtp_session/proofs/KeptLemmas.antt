@@ -1,18 +1,19 @@
 -- What is kept of a message.
-use Rattle.std.proofs.Common.{◌≡◌, ℕ, ◌+◌, ◌-◌, ◌/◌, ◌%◌, ◌<◌, ◌≤◌, ◌==◌, Bool, true, false, ◌&&◌, List, [], ◌∷◌, ◌++◌, length, take, Option, Some, None, refl, sym, subst, arith, inl, inr}
+use Rattle.std.proofs.Common.{◌≡◌, ℕ, ◌+◌, ◌-◌, ◌/◌, ◌%◌, ◌<◌, ◌≤◌, ◌==◌, Bool, true, false, ◌&&◌, ◌||◌, List, [], ◌∷◌, ◌++◌, length, take, Option, Some, None, refl, sym, ap, ap₂, subst, ◌∙◌, arith, inl, inr, if◌then◌else◌}
 use Rattle.std.specs.Prelude.{nat_le, nat_lt, nat_eq, codes, not, IfSome}
-use Rattle.std.specs.List.{AllByRecursion, list_all}
+use Rattle.std.specs.List.{All, AllByRecursion, concat, list_all, list_any}
 use Rattle.std.specs.Str.{IsAscii, IsUtf8}
 use Rattle.std.proofs.lemmas.Bool.{and_parts, and_from}
 use Rattle.std.proofs.lemmas.Bool.Decides.{nat_tests}
 use Rattle.std.proofs.lemmas.List.{append-nil}
+use Rattle.std.proofs.lemmas.List.Folds.{list_all-append}
 use Rattle.std.proofs.lemmas.List.Elements.{All-from_recursion}
 use Rattle.std.proofs.lemmas.Str.{IsUtf8-append, IsUtf8-from_ascii}
 use Rattle.std.proofs.lemmas.Str.Ascii.{IsAscii-cons, IsAscii-nil}
 use Rattle.mail_wire.proofs.AllLemmas.{pass-append, pass-weaker, pass-take}
 use Rattle.mail_wire.specs.Dates.{IsDateText}
 use Rattle.mail_wire.specs.Lines.{crlf}
-use Rattle.mail_wire.specs.Octets.{is_line_end, same_name}
+use Rattle.mail_wire.specs.Octets.{is_ascii, is_high, is_line_end, same_name}
 use Rattle.mail_wire.proofs.Folded.{IsFolded-plain}
 use Rattle.ace_domains.specs.Domains.{is_host_octet as is_domain_octet}
 use Rattle.ace_domains.proofs.FormLemmas.{form_name}
@@ -21,17 +22,18 @@ use Rattle.address_grammar.specs.Addresses.{address_text}
 use Rattle.address_grammar.specs.Paths.{ComesInPath, in_angles}
 use Rattle.address_grammar.proofs.WritingLemmas.{path_again}
 use Rattle.mime_tree.specs.Openings.{IsOtherField}
+use Rattle.mime_tree.specs.Tree.{has_high_block}
 use Rattle.mime_tree.proofs.FieldLines.{is_safe, no_nul_in_safe}
-use Rattle.mime_tree.proofs.KeptTrees.{fields_before}
+use Rattle.mime_tree.proofs.KeptTrees.{fields_before, high_after}
 use Rattle.journal_records.specs.Addresses.{IsSendable}
 use Rattle.mail_store.specs.Changing.{IsDeliverable}
 use Rattle.journal_records.specs.Grammar.{months}
-use Rattle.kept_mail.specs.Kept.{name_of}
-use Rattle.journal_records.specs.Stored.{IsStored}
+use Rattle.journal_records.specs.Stored.{HasMark}
 use Rattle.mail_store.specs.StoreState.{StoreState}
 use Rattle.smtp_grammar.specs.Commands.{is_client, is_client_octet}
-use Rattle.smtp_session.specs.Machine.{delivery_of, trace}
+use Rattle.smtp_session.specs.Machine.{delivery_with}
 use Rattle.smtp_session.specs.Session.{Knows}
+use Rattle.smtp_session.specs.private.Steps.{AreMarked}
 use Rattle.session_core.specs.Desks.{IsStoreName}
 use Rattle.smtp_session.specs.Trace.{protocol, received, return_path}
 use Rattle.session_core.proofs.MomentLemmas.{AreShort, day_letters, days, moment_date, moment_text, month_letters, numbers_short, two_digits}
@@ -236,41 +238,77 @@ received-other client name date seconds of_client of_name of_date smtputf8 exten
     let body : List ℕ = codes " from " ++ client ++ codes " by " ++ name ++ codes " with " ++ way ++ codes "; " ++ date in
     other_field (codes "Received") body received_name (plain_text body all)
 
+-- ---- marks
+
+-- a number of these two bits
+abbrev two_bits : Bool → Bool → ℕ
+two_bits header any = (if header then 1 else 0) + (if any then 2 else 0)
+
+not_both : (a b : Bool) → not (a && b) ≡ (not a || not b)
+not_both true b = refl
+not_both false b = refl
+
+-- two texts are high where one of them is
+high_append : (xs ys : List ℕ) → is_high (xs ++ ys) ≡ (is_high xs || is_high ys)
+high_append xs ys = ap not (list_all-append is_ascii xs ys) ∙ not_both (list_all is_ascii xs) (list_all is_ascii ys)
+
+-- and so it is with many
+high_concat : (texts : List (List ℕ)) → list_any is_high texts ≡ is_high (concat texts)
+high_concat [] = refl
+high_concat (text ∷ texts) = ap (λ b. is_high text || b) (high_concat texts) ∙ sym (high_append text (concat texts))
+
+-- a message after other fields, whose mark is told by whether they are high
+after_fields : (content : List ℕ) (fields : List (List ℕ)) (mark : ℕ) (high : Bool) → is_high (concat fields) ≡ high → All IsOtherField fields → HasMark content mark
+    → HasMark (concat fields ++ content) (if high then 3 else mark)
+after_fields content fields mark high is others has =
+    let found = fields_before content fields has.entities has.tree others in
+    let header = high_after content fields has.entities found.0 has.tree others found.1 ∙ ap (λ b. b || has_high_block content has.entities) (high_concat fields ∙ is) in
+    let any = high_append (concat fields) content ∙ ap (λ b. b || is_high content) is in
+    record {
+      entities = found.0;
+      tree = found.1;
+      mark_is = told high (has_high_block content has.entities) (is_high content) has.mark_is ∙ sym (ap₂ two_bits header any);
+    }
+  where
+    told : (high header any : Bool) → mark ≡ two_bits header any → (if high then 3 else mark) ≡ two_bits (high || header) (high || any)
+    told true header any same = refl
+    told false header any same = same
+
+abbrev AfterFields : List ℕ → ℕ → ℕ → Type 0
+AfterFields front mark new = (content : List ℕ) (fields : List (List ℕ)) → front ≡ concat fields → All IsOtherField fields → HasMark content mark → HasMark (front ++ content) new
+
+-- fields of ASCII leave the mark as it is
+pub marked_low : (front : List ℕ) (mark : ℕ) → list_all is_ascii front ≡ true → AfterFields front mark mark
+marked_low front mark ascii content fields is others has =
+    subst (λ text. HasMark (text ++ content) mark) (sym is) (after_fields content fields mark false (ap is_high (sym is) ∙ ap not ascii) others has)
+
+-- others make the header high
+pub marked_high : (front : List ℕ) (mark : ℕ) → list_all is_ascii front ≡ false → AfterFields front mark 3
+marked_high front mark high content fields is others has =
+    subst (λ text. HasMark (text ++ content) 3) (sym is) (after_fields content fields mark true (ap is_high (sym is) ∙ ap not high) others has)
+
+-- what holds after all fields holds after one
+pub marked_field : (field octets : List ℕ) (mark new : ℕ) → AfterFields field mark new → IsOtherField field → HasMark octets mark → HasMark (field ++ octets) new
+marked_field field octets mark new after other has =
+    after octets (field ∷ []) (sym (append-nil field)) (All-from_recursion IsOtherField (field ∷ []) (other, tt)) has
+
 -- ---- what is kept
 
--- octets that may be kept may be kept after another field
-pub after_field : (field octets : List ℕ) → IsOtherField field → IsStored octets → IsStored (field ++ octets)
-after_field field octets other stored =
-    let found = fields_before octets (field ∷ []) stored.entities stored.tree (All-from_recursion IsOtherField (field ∷ []) (other, tt)) in
-    record { entities = found.0; tree = rw (append-nil field) at found.1 }
-
--- what waits for others may be kept
-pub kept-stored : (client name date octets : List ℕ) (seconds : ℕ) → is_client client ≡ true → IsStoreName name → IsDateText seconds date → IsStored octets → (smtputf8 extended : Bool)
-    → IsStored (received client name (protocol smtputf8 extended) date ++ octets)
-kept-stored client name date octets seconds of_client of_name of_date stored smtputf8 extended =
-    after_field (received client name (protocol smtputf8 extended) date) octets (received-other client name date seconds of_client of_name of_date smtputf8 extended) stored
-
--- and what local accounts get
-pub kept-with_path : (path : Option Address) (octets : List ℕ) → IfSome path ComesInPath → IsStored octets → IsStored (return_path path ++ octets)
-kept-with_path path octets comes stored = after_field (return_path path) octets (return_path-other path comes) stored
-
 -- an address that may be sent to stands in some path
-path_comes : (path : Option Address) → IfSome path IsSendable → IfSome path ComesInPath
+pub path_comes : (path : Option Address) → IfSome path IsSendable → IfSome path ComesInPath
 path_comes None sendable = sendable
 path_comes (Some address) sendable = sendable.0
 
 -- what the end of data keeps may be delivered
-pub delivery-deliverable : (store : StoreState) (client : Client) (envelope : Envelope) (moment : Moment) (octets : List ℕ) (seconds : ℕ)
-    → Knows store envelope → is_client client.name ≡ true → IsStoreName (name_of store.kept) → IsMoment seconds moment → IsStored octets
-    → IsDeliverable store (delivery_of store client envelope moment octets)
-delivery-deliverable store client envelope moment octets seconds knows of_client of_name of_moment stored =
-    let remote = kept-stored client.name (name_of store.kept) moment.date octets seconds of_client of_name of_moment.date stored envelope.smtputf8 client.extended in
-    record {
-      known = knows.local;
-      dated = moment_date seconds moment.internal of_moment.internal;
-      local_tree = kept-with_path envelope.path (trace store client envelope moment ++ octets) (path_comes envelope.path knows.path) remote;
-      remote_tree = remote;
-      path = knows.path;
-      addresses = knows.remote;
-      few = omega (arith, knows.few);
-    }
+pub delivery-deliverable : (store : StoreState) (client : Client) (envelope : Envelope) (moment : Moment) (octets : List ℕ) (local_mark remote_mark seconds : ℕ)
+    → let delivery = delivery_with local_mark remote_mark store client envelope moment octets in
+    Knows store envelope → IsMoment seconds moment → AreMarked delivery → IsDeliverable store delivery
+delivery-deliverable store client envelope moment octets local_mark remote_mark seconds knows of_moment marked = record {
+  known = knows.local;
+  dated = moment_date seconds moment.internal of_moment.internal;
+  local_marked = marked.local;
+  remote_marked = marked.remote;
+  path = knows.path;
+  addresses = knows.remote;
+  few = omega (arith, knows.few);
+}

@@ -166,7 +166,7 @@ data_brings : (oracles : Oracles) (machine : Machine) (client : Client) (envelop
 data_brings oracles machine client envelope None turn stays are is = absurd (none-some _ is)
 data_brings oracles machine client envelope (Some cut) turn stays are is =
     let moment = next_moment machine.moments in
-    let delivery = delivery_of machine.store client envelope moment (unstuffed cut.line) in
+    let delivery = delivery_of oracles machine.store client envelope moment (unstuffed cut.line) in
     subst (IsTurn machine.store) (same_Some _ _ is)
     (end_turn machine.store client delivery envelope (later_moments machine.moments) cut.rest (end_data oracles machine.store client envelope moment (unstuffed cut.line)) refl refl
     stays.inboxes are stays.named (ends_by (oracles.has_tree (unstuffed cut.line)) (is_looping (unstuffed cut.line)) machine.store client delivery))

@@ -96,13 +96,13 @@ kept_by is_message loops store client delivery is straight within =
     (not_refused (has_large_octets store.message_max delivery) (has_many_things store.kept delivery) large (not_many store delivery within))
 
 data_kept : (oracles : Oracles) (store : StoreState) (client : Client) (envelope : Envelope) (moment : Moment) (octets : List ℕ)
-    → TellsTrees oracles.has_tree → IsStored octets → is_looping octets ≡ false → IsWithinLimits store (delivery_of store client envelope moment octets)
-    → end_data oracles store client envelope moment octets ≡ keeping store client (delivery_of store client envelope moment octets)
+    → TellsTrees oracles.has_tree → IsStored octets → is_looping octets ≡ false → IsWithinLimits store (delivery_of oracles store client envelope moment octets)
+    → end_data oracles store client envelope moment octets ≡ keeping store client (delivery_of oracles store client envelope moment octets)
 data_kept oracles store client envelope moment octets observed tree straight within =
-    kept_by (oracles.has_tree octets) (is_looping octets) store client (delivery_of store client envelope moment octets) (tells_true oracles.has_tree octets observed tree) straight within
+    kept_by (oracles.has_tree octets) (is_looping octets) store client (delivery_of oracles store client envelope moment octets) (tells_true oracles.has_tree octets observed tree) straight within
 
 pub data_accepted : (oracles : Oracles) (store : StoreState) (client : Client) (envelope : Envelope) (moment : Moment) (octets : List ℕ)
-    → TellsTrees oracles.has_tree → IsStored octets → is_looping octets ≡ false → IsWithinLimits store (delivery_of store client envelope moment octets)
+    → TellsTrees oracles.has_tree → IsStored octets → is_looping octets ≡ false → IsWithinLimits store (delivery_of oracles store client envelope moment octets)
     → (end_data oracles store client envelope moment octets).reply ≡ acceptance
 data_accepted oracles store client envelope moment octets observed tree straight within =
     ap (λ (taken : Step). taken.reply) (data_kept oracles store client envelope moment octets observed tree straight within)
@@ -131,14 +131,14 @@ abbrev brings : Oracles → StoreState → List Moment → List ℕ → Step →
 brings oracles store moments rest taken = following (acts_in taken) (turns_of oracles (after_step store (later_moments moments) taken) rest)
 
 pub sent_kept : (oracles : Oracles) (store : StoreState) (client : Client) (envelope : Envelope) (moments : List Moment) (octets rest : List ℕ) → TellsTrees oracles.has_tree
-    → IsEnded octets → IsStored octets → is_looping octets ≡ false → let delivery = delivery_of store client envelope (next_moment moments) octets in IsWithinLimits store delivery
+    → IsEnded octets → IsStored octets → is_looping octets ≡ false → let delivery = delivery_of oracles store client envelope (next_moment moments) octets in IsWithinLimits store delivery
     → turns_of oracles (record { state = collecting client envelope; store = store; moments = moments }) (sent octets rest)
     ≡ following (changes (delivered store.kept delivery) ∷ gives stored_line ∷ [])
     (turns_of oracles (record { state = greeted client; store = with_records store (delivered store.kept delivery); moments = later_moments moments }) rest)
 sent_kept oracles store client envelope moments octets rest observed ended tree straight within =
     let machine : Machine = record { state = collecting client envelope; store = store; moments = moments } in
     let moment = next_moment moments in
-    let delivery = delivery_of store client envelope moment octets in
+    let delivery = delivery_of oracles store client envelope moment octets in
     let records = delivered store.kept delivery in
     let next : List Record → Turn Machine (Act (List ℕ)) = λ all.
     following (changes records ∷ gives stored_line ∷ []) (turns_of oracles (record { state = greeted client; store = with_records store all; moments = later_moments moments }) rest) in

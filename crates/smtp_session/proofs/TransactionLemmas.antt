@@ -267,7 +267,7 @@ pub transaction_kept : (oracles : Oracles) (store : StoreState) (client : Client
 transaction_kept oracles store client envelope moment octets fold are accepted = record {
   trace = received client.name (name_of store.kept) (protocol envelope.smtputf8 client.extended) moment.date;
   trace_is = refl;
-  delivery = delivery_of store client envelope moment octets;
+  delivery = delivery_of oracles store client envelope moment octets;
   path = refl;
   local = refl;
   remote = refl;

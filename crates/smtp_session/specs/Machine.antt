@@ -251,16 +251,24 @@ line_step oracles state store line =
 abbrev pub trace : StoreState → Client → Envelope → Moment → List ℕ
 trace store client envelope moment = received client.name (name_of store.kept) (protocol envelope.smtputf8 client.extended) moment.date
 
--- What is kept: for local accounts with the path, for the queue without it.
-abbrev pub delivery_of : StoreState → Client → Envelope → Moment → List ℕ → Delivery
-delivery_of store client envelope moment octets = record {
+-- What is kept, with these marks: for local accounts with the path, for the queue without it.
+abbrev pub delivery_with : (local_mark remote_mark : ℕ) → StoreState → Client → Envelope → Moment → List ℕ → Delivery
+delivery_with local_mark remote_mark store client envelope moment octets = record {
   path = envelope.path;
   local = envelope.local;
   local_octets = return_path envelope.path ++ (trace store client envelope moment ++ octets);
+  local_mark = local_mark;
   remote = envelope.remote;
   remote_octets = trace store client envelope moment ++ octets;
+  remote_mark = remote_mark;
   date = moment.internal;
 }
+
+-- What is kept, with the marks of its octets.
+abbrev pub delivery_of : Oracles → StoreState → Client → Envelope → Moment → List ℕ → Delivery
+delivery_of oracles store client envelope moment octets =
+    let remote = trace store client envelope moment ++ octets in
+    delivery_with (oracles.mark_of (return_path envelope.path ++ remote)) (oracles.mark_of remote) store client envelope moment octets
 
 -- Data that would be kept too large are refused before those that are no message, and these before a message that goes in a circle
 -- (RFC 5321, 6.3). A store that would pass another limit has the reply of the first.
@@ -274,4 +282,5 @@ end_by is_message loops store client delivery =
 
 -- The end of the data: the message is stored and queued, or it is refused (RFC 5321, 4.1.1.4).
 abbrev pub end_data : Oracles → StoreState → Client → Envelope → Moment → List ℕ → Step
-end_data oracles store client envelope moment octets = end_by (oracles.has_tree octets) (is_looping octets) store client (delivery_of store client envelope moment octets)
+end_data oracles store client envelope moment octets =
+    end_by (oracles.has_tree octets) (is_looping octets) store client (delivery_of oracles store client envelope moment octets)

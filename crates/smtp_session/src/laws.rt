@@ -34,11 +34,11 @@ pub fn whole_data_are_taken()
     ensures begun { (oracles : Oracles) (client : Client) (envelope : Envelope) (store : StoreState) (argument : List ℕ) → 0 < envelope_recipient_count envelope
         → step oracles (mail client envelope) store verb.Data argument ≡ says (codes "354 go ahead") (collecting client envelope) }
     ensures accepted { (oracles : Oracles) (store : StoreState) (client : Client) (envelope : Envelope) (moment : Moment) (octets : List ℕ)
-        → TellsTrees oracles.has_tree → IsStored octets → is_looping octets ≡ false → IsWithinLimits store (delivery_of store client envelope moment octets)
+        → TellsTrees oracles.has_tree → IsStored octets → is_looping octets ≡ false → IsWithinLimits store (delivery_of oracles store client envelope moment octets)
         → (end_data oracles store client envelope moment octets).reply ≡ acceptance }
     ensures stream { (oracles : Oracles) (store : StoreState) (client : Client) (envelope : Envelope) (moments : List Moment) (octets rest : List ℕ)
         → TellsTrees oracles.has_tree → IsEnded octets → IsStored octets → is_looping octets ≡ false
-        → let delivery = delivery_of store client envelope (next_moment moments) octets in IsWithinLimits store delivery
+        → let delivery = delivery_of oracles store client envelope (next_moment moments) octets in IsWithinLimits store delivery
         → turns_of oracles (record { state = collecting client envelope; store = store; moments = moments }) (sent octets rest)
         ≡ following (changes (delivered store.kept delivery) ∷ gives stored_line ∷ [])
         (turns_of oracles (record { state = greeted client; store = with_records store (delivered store.kept delivery); moments = later_moments moments }) rest) }
@@ -75,7 +75,7 @@ pub fn accepted_mail_is_kept_once()
     ensures stored { (oracles : Oracles) (store : StoreState) (client : Client) (envelope : Envelope) (moment : Moment) (octets : List ℕ)
         → IsFold store.kept → AreRecipients store.kept envelope
         → let taken = end_data oracles store client envelope moment octets in taken.reply ≡ acceptance
-        → IsKeptOnce store.kept (kept_after store taken) (delivery_of store client envelope moment octets) }
+        → IsKeptOnce store.kept (kept_after store taken) (delivery_of oracles store client envelope moment octets) }
     ensures transaction { (oracles : Oracles) (store : StoreState) (client : Client) (envelope : Envelope) (moment : Moment) (octets : List ℕ)
         → IsFold store.kept → AreRecipients store.kept envelope
         → let taken = end_data oracles store client envelope moment octets in taken.reply ≡ acceptance

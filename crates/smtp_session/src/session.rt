@@ -1,33 +1,34 @@
 //! A session over its outside.
-ghost use Rattle.std.specs.Prelude.{◌≡◌, ◌++◌, ◌<◌, ◌≤◌, ℕ, List, Bool, IfOk, IfSome, string_bytes, IsTrue, ◌↔◌, [], drop, length};
+ghost use Rattle.std.specs.Prelude.{◌≡◌, ◌++◌, ◌<◌, ◌≤◌, ℕ, List, IfOk, IfSome, string_bytes, IsTrue, [], length};
 ghost use Rattle.mail_wire.specs.Dots.{unstuffed};
 ghost use Rattle.address_grammar.specs.Paths.{ComesInPath};
-ghost use Rattle.journal_records.specs.Stored.{IsStored};
+ghost use Rattle.journal_records.specs.Stored.{HasMark};
 ghost use Rattle.mail_store.specs.Changing.{IsDeliverable};
 ghost use Rattle.kept_mail.specs.Kept.{name_of};
+ghost use Rattle.mime_tree.specs.Openings.{IsOtherField};
 ghost use Rattle.mail_store.specs.StoreState.{StoreState};
 ghost use Rattle.session_core.specs.Desks.{IsOpen};
 ghost use Rattle.session_core.specs.Doing.{Does, Makes, Replies};
 ghost use Rattle.session_core.specs.Keeps.{Keeps, fault_of};
-ghost use Rattle.session_core.specs.Oracles.{TellsTrees, WithOracles};
+ghost use Rattle.session_core.specs.Oracles.{WithOracles};
 ghost use Rattle.session_core.specs.Moments.{IsMoment, moment_of};
 ghost use Rattle.session_core.specs.Served.{met_of};
 ghost use Rattle.session_core.specs.Serving.{ServesBy};
 ghost use Rattle.session_core.specs.Steps.{IsReadyAfter, Steps};
 ghost use Rattle.session_core.specs.declared.desk.Desk.{Desk};
 ghost use Rattle.smtp_grammar.specs.Reading.{DataHaveEnded};
-ghost use Rattle.smtp_session.specs.Machine.{acts_in, delivery_of, end_data as end_of};
-ghost use Rattle.smtp_session.specs.Loops.{is_looping as is_looping_of};
+ghost use Rattle.smtp_session.specs.Machine.{acts_in, delivery_with, end_data as end_of};
 ghost use Rattle.smtp_session.specs.Session.{SmtpReady, KnowsState, SmtpStands, greeting, line_octets, reply_octets, smtp_protocol, state_of, state_or_ended};
 ghost use Rattle.smtp_session.specs.Trace.{protocol as protocol_of, received, return_path};
 ghost use Rattle.smtp_session.specs.laws.SmtpLaws.{begins_fit_by, fits_by, framed_by, goes_on_by, quiet_by, waits_by};
-ghost use Rattle.smtp_session.specs.private.Steps.{DoesBy, IsFirst, IsFirstNext, ReadsLines, accepted_content, due_by, state_after, stepped};
+ghost use Rattle.smtp_session.specs.private.Steps.{AreMarked, IsFirst, IsFirstNext, IsJudged, ReadsLines, due_of, state_after, stepped};
 
 use crate::loops::is_looping;
 use crate::rows::{Reply, TOO_LARGE, answer};
 use crate::states::{Client, Data, Envelope, Fresh, Greeted, Smtp, SmtpState};
-use crate::trace::{received_field, return_path_field};
+use crate::trace::{mark_after, received_field, return_path_field};
 use address_grammar::Address;
+use journal_records::mark_in;
 use kept_mail::{Delivery, has_large_octets};
 use mail_wire::{Clock, Fault, FoundLine, Keeper, Memory, Octets, Wire, find_line};
 use mime_tree::{TreeFault, read_tree};
@@ -68,13 +69,18 @@ fn protocol(smtputf8: bool, extended: bool) -> &'static [u8]
     }
 }
 
-// The octets that are kept of data: those for accounts, and those for addresses elsewhere. The content of the latter stands
-// after the trace, which is so long.
+// Octets that are kept, and their mark.
+#[derive(Debug, Drop)]
+struct Marked {
+    octets: Octets,
+    mark: u8,
+}
+
+// The octets that are kept of data: those for accounts, and those for addresses elsewhere.
 #[derive(Debug, Drop)]
 struct KeptOctets {
-    local: Octets,
-    remote: Octets,
-    trace_len: usize,
+    local: Marked,
+    remote: Marked,
 }
 
 // The field that tells where a message came from, with this date.
@@ -91,48 +97,74 @@ fn trace_field(
     received_field(alloc, client.name.as_slice(), name, with, date)
 }
 
-// The octets for accounts, which tell the path too.
-fn local_octets(alloc: Global, path: &Option<Address>, remote: &[u8]) -> Result<Octets, Memory>
-    requires { IfSome path.now ComesInPath }
-    ensures { IfOk result (λ octets. octets ≡ return_path path.now ++ remote.now) }
+// Octets that have this mark, after one more field.
+fn after_field(field: Octets, octets: &[u8], mark: u8) -> Result<Marked, Memory>
+    ensures octets { IfOk result (λ marked. marked.octets ≡ field ++ octets.now) }
+    ensures mark { IfOk result (λ marked. IsOtherField field → HasMark octets.now mark → HasMark marked.octets marked.mark) }
 {
-    let mut octets = return_path_field(alloc, path)?;
-    octets.push_slice(remote)?;
-    Ok(octets)
-}
-
-// The octets that are kept of this content, which came at this date.
-fn kept_octets(
-    alloc: Global,
-    client: &Client,
-    envelope: &Envelope,
-    name: &[u8],
-    content: &[u8],
-    date: &[u8],
-) -> Result<KeptOctets, Memory>
-    requires { IfSome envelope.now.path ComesInPath }
-    ensures local { IfOk result (λ kept. kept.local ≡ return_path envelope.now.path ++ kept.remote) }
-    ensures remote { IfOk result (λ kept. kept.remote
-        ≡ received client.now.name name.now (protocol_of envelope.now.smtputf8 client.now.extended) date.now ++ content.now) }
-    ensures within { IfOk result (λ kept. kept.trace_len ≤ length kept.remote) }
-    ensures content { IfOk result (λ kept. drop kept.trace_len kept.remote ≡ content.now) }
-{
-    let mut remote = trace_field(alloc, client, envelope, name, date)?;
-    let trace_len = remote.len();
-    remote.push_slice(content)?;
-    let local = local_octets(alloc, &envelope.path, remote.as_slice())?;
-    Ok(KeptOctets {
-        local,
-        remote,
-        trace_len,
+    let mark = mark_after(field.as_slice(), mark);
+    let mut whole = field;
+    whole.push_slice(octets)?;
+    Ok(Marked {
+        octets: whole,
+        mark,
     })
 }
 
-// What is kept of data, and how long the trace is that stands before their content.
+// The octets that are kept of this content, which has this mark, with the field that tells where it came from: those for accounts
+// tell the path too.
+fn kept_octets(
+    alloc: Global,
+    trace: Octets,
+    path: &Option<Address>,
+    content: &[u8],
+    mark: u8,
+) -> Result<KeptOctets, Memory>
+    requires { IfSome path.now ComesInPath }
+    ensures local { IfOk result (λ kept. kept.local.octets ≡ return_path path.now ++ kept.remote.octets) }
+    ensures remote { IfOk result (λ kept. kept.remote.octets ≡ trace ++ content.now) }
+    ensures marks { IfOk result (λ kept. IsOtherField trace → HasMark content.now mark
+        → HasMark kept.local.octets kept.local.mark × HasMark kept.remote.octets kept.remote.mark) }
+{
+    let remote = after_field(trace, content, mark)?;
+    let field = return_path_field(alloc, path)?;
+    let local = after_field(field, remote.octets.as_slice(), remote.mark)?;
+    Ok(KeptOctets { local, remote })
+}
+
+// Whether octets have a tree of entities, and what is then known of them: whether they are a message that goes in a circle, and
+// their mark.
+#[derive(Debug, Clone, Copy)]
+struct Judged {
+    is_message: bool,
+    loops: bool,
+    mark: u8,
+}
+
+// The tree is read here alone.
+fn judge(alloc: Global, octets: &[u8]) -> Result<Judged, Memory>
+    ensures { IfOk result (IsJudged octets.now) }
+{
+    match read_tree(alloc, octets) {
+        Ok(tree) => Ok(Judged {
+            is_message: true,
+            loops: is_looping(octets, &tree),
+            mark: mark_in(octets, &tree),
+        }),
+        Err(TreeFault::Memory) => Err(Memory),
+        Err(_) => Ok(Judged {
+            is_message: false,
+            loops: false,
+            mark: 0,
+        }),
+    }
+}
+
+// What is kept of data, and what their content is. The marks are right where it is a message.
 #[derive(Debug, Drop)]
 struct Accepted {
     delivery: Delivery,
-    trace_len: usize,
+    judged: Judged,
 }
 
 // What is kept of this content, which came at this moment.
@@ -146,48 +178,31 @@ fn accept_data(
 ) -> Result<Accepted, Memory>
     requires { IfSome envelope.path ComesInPath }
     ensures delivery { IfOk result (λ accepted. (store : StoreState) → name.now ≡ name_of store.kept
-        → accepted.delivery ≡ delivery_of store client.now envelope (moment_of timestamp) content.now) }
-    ensures within { IfOk result (λ accepted. accepted.trace_len ≤ length accepted.delivery.remote_octets) }
-    ensures content { IfOk result (λ accepted. accepted_content accepted ≡ content.now) }
+        → accepted.delivery ≡ delivery_with accepted.delivery.local_mark accepted.delivery.remote_mark store client.now envelope (moment_of timestamp) content.now) }
+    ensures judged { IfOk result (λ accepted. IsJudged content.now accepted.judged) }
+    ensures marks { IfOk result (λ accepted. IsTrue accepted.judged.is_message
+        → IsOtherField (received client.now.name name.now (protocol_of envelope.smtputf8 client.now.extended) timestamp.date) → AreMarked accepted.delivery) }
 {
-    let date = timestamp.date.as_slice();
-    let octets = kept_octets(alloc, client, &envelope, name, content, date)?;
+    let judged = judge(alloc, content)?;
+    let trace = trace_field(alloc, client, &envelope, name, timestamp.date.as_slice())?;
+    let KeptOctets { local, remote } = kept_octets(
+        alloc,
+        trace,
+        &envelope.path,
+        content,
+        judged.mark,
+    )?;
     let delivery = Delivery {
         path: envelope.path,
         local: envelope.local,
-        local_octets: octets.local,
+        local_octets: local.octets,
+        local_mark: local.mark,
         remote: envelope.remote,
-        remote_octets: octets.remote,
+        remote_octets: remote.octets,
+        remote_mark: remote.mark,
         date: timestamp.internal,
     };
-    Ok(Accepted {
-        delivery,
-        trace_len: octets.trace_len,
-    })
-}
-
-// Whether octets have a tree of entities, and whether they are then a message that goes in a circle.
-#[derive(Clone, Copy)]
-struct Judged {
-    is_message: bool,
-    loops: bool,
-}
-
-fn judge(alloc: Global, octets: &[u8]) -> Result<Judged, Memory>
-    ensures message { IfOk result (λ judged. IsTrue judged.is_message ↔ IsStored octets.now) }
-    ensures loops { IfOk result (λ judged. IsTrue judged.is_message → judged.loops ≡ is_looping_of octets.now) }
-{
-    match read_tree(alloc, octets) {
-        Ok(tree) => Ok(Judged {
-            is_message: true,
-            loops: is_looping(octets, &tree),
-        }),
-        Err(TreeFault::Memory) => Err(Memory),
-        Err(_) => Ok(Judged {
-            is_message: false,
-            loops: false,
-        }),
-    }
+    Ok(Accepted { delivery, judged })
 }
 
 // Keeps a message, or tells why not.
@@ -196,27 +211,19 @@ fn deliver<W: Wire, J: Keeper, C: Clock>(
     outside: &mut Outside<W, J, C>,
 ) -> Result<&'static [u8], Fault>
     requires opens { IsOpen outside.old.desk }
-    requires within { accepted.now.trace_len ≤ length accepted.now.delivery.remote_octets }
-    requires deliverable { IsStored (accepted_content accepted.now) → IsDeliverable outside.old.desk.store accepted.now.delivery }
-    ensures reply { IfOk result (λ reply. (has_tree : List ℕ → Bool) → TellsTrees has_tree → (client : Client)
-        → reply.now ≡ reply_octets (due_by has_tree outside.old.desk.store client accepted.now).reply) }
-    ensures makes { (has_tree : List ℕ → Bool) → TellsTrees has_tree → (client : Client) → Makes outside.old outside.new (fault_of result)
-        (due_by has_tree outside.old.desk.store client accepted.now).changes }
+    requires deliverable { IsTrue accepted.now.judged.is_message → IsDeliverable outside.old.desk.store accepted.now.delivery }
+    ensures reply { IfOk result (λ reply. (client : Client) → reply.now ≡ reply_octets (due_of outside.old.desk.store client accepted.now).reply) }
+    ensures makes { (client : Client) → Makes outside.old outside.new (fault_of result) (due_of outside.old.desk.store client accepted.now).changes }
     ensures keeps { Keeps outside.old outside.new (fault_of result) }
 {
     let delivery = &accepted.delivery;
     if has_large_octets(delivery, outside.store().message_max()) {
         return Ok(TOO_LARGE);
     }
-    let (_, content) = delivery
-        .remote_octets
-        .as_slice()
-        .split_at(accepted.trace_len);
-    let judged = judge(outside.alloc(), content)?;
-    if !judged.is_message {
+    if !accepted.judged.is_message {
         return Ok(NOT_A_MESSAGE);
     }
-    if judged.loops {
+    if accepted.judged.loops {
         return Ok(ROUTING_LOOP);
     }
     match outside.deliver(delivery)? {
@@ -246,9 +253,8 @@ fn finish_data<W: Wire, J: Keeper, C: Clock>(
     outside: &mut Outside<W, J, C>,
 ) -> Result<Smtp<Greeted>, Fault>
     requires opens { IsOpen outside.old.desk }
-    requires within { accepted.trace_len ≤ length accepted.delivery.remote_octets }
-    requires deliverable { IsStored (accepted_content accepted) → IsDeliverable outside.old.desk.store accepted.delivery }
-    ensures does { DoesBy outside.old outside.new (fault_of result) (λ has_tree. due_by has_tree outside.old.desk.store client accepted) }
+    requires deliverable { IsTrue accepted.judged.is_message → IsDeliverable outside.old.desk.store accepted.delivery }
+    ensures does { Does line_octets outside.old outside.new (fault_of result) (acts_in (due_of outside.old.desk.store client accepted)) }
     ensures client { IfOk result (λ next. next.state.client ≡ client) }
     ensures keeps { Keeps outside.old outside.new (fault_of result) }
 {

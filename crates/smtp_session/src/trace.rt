@@ -1,13 +1,19 @@
-//! The fields that are put before the data of a message (RFC 5321, 4.4).
-ghost use Rattle.std.specs.Prelude.{◌≡◌, ◌++◌, IfOk, IfSome, OnOk, codes};
+//! The fields that are put before the data of a message (RFC 5321, 4.4), and the mark of what stands after them.
+ghost use Rattle.std.specs.Prelude.{◌≡◌, ◌++◌, ℕ, List, IfOk, IfSome, OnOk, codes};
+ghost use Rattle.std.specs.List.{All, concat};
 ghost use Rattle.mail_wire.specs.Lines.{crlf};
 ghost use Rattle.address_grammar.specs.Paths.{ComesInPath};
+ghost use Rattle.mime_tree.specs.Openings.{IsOtherField};
+ghost use Rattle.journal_records.specs.Stored.{HasMark};
 ghost use Rattle.smtp_session.specs.Trace.{received, return_path as return_path_of};
 
 use address_grammar::Address;
 use journal_records::path_text;
-use mail_wire::{Memory, Octets};
+use mail_wire::{Memory, Octets, is_ascii};
 use std::alloc::Global;
+
+// The mark of a message whose header block has octets above 127.
+const HIGH_HEADER: u8 = 3;
 
 // Puts two texts last.
 fn push_both(field: &mut Octets, first: &[u8], second: &[u8]) -> Result<(), Memory>
@@ -60,4 +66,12 @@ pub fn return_path_field(alloc: Global, path: &Option<Address>) -> Result<Octets
     field.push_slice(text.as_slice())?;
     field.push_slice(b">\r\n")?;
     Ok(field)
+}
+
+/// The mark of a message after these fields, by its mark without them. A path may be UTF-8 (RFC 6531, 3.3), and so may its field.
+pub fn mark_after(front: &[u8], mark: u8) -> u8
+    ensures { (content : List ℕ) (fields : List (List ℕ)) → front.now ≡ concat fields → All IsOtherField fields → HasMark content mark
+        → HasMark (front.now ++ content) result }
+{
+    if is_ascii(front) { mark } else { HIGH_HEADER }
 }

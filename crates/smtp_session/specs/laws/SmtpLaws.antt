@@ -341,7 +341,7 @@ data_fit oracles machine client envelope None turn named is = absurd (none-some 
 data_fit oracles machine client envelope (Some cut) turn named is =
     let octets = unstuffed cut.line in
     let moment = next_moment machine.moments in
-    let delivery = delivery_of machine.store client envelope moment octets in
+    let delivery = delivery_of oracles machine.store client envelope moment octets in
     let taken = end_data oracles machine.store client envelope moment octets in
     subst (IsFitFor oracles) (same_Some _ _ is)
     (record {

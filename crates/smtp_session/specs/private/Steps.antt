@@ -1,31 +1,34 @@
 -- What the private functions of a session do.
-use Rattle.std.specs.Prelude.{ℕ, drop, List, [], Bool, Option, None, Some}
-use Rattle.mail_wire.specs.declared.outside.Fault.{Fault}
+use Rattle.std.specs.Prelude.{◌≡◌, ◌↔◌, ℕ, List, [], IsTrue, Option, None, Some}
+use Rattle.journal_records.specs.Stored.{HasMark, IsStored}
+use Rattle.kept_mail.specs.declared.delivery.Delivery.{Delivery}
 use Rattle.mail_store.specs.StoreState.{StoreState}
-use Rattle.session_core.specs.Around.{Around}
-use Rattle.session_core.specs.Doing.{Does}
-use Rattle.session_core.specs.Oracles.{Oracles, TellsTrees}
+use Rattle.session_core.specs.Oracles.{Oracles}
 use Rattle.session_core.specs.declared.desk.Desk.{Desk}
-use Rattle.smtp_session.specs.Machine.{Step, acts_in, end_by, line_step}
-use Rattle.smtp_session.specs.Session.{HasRest, SmtpReady, line_octets, state_of}
+use Rattle.smtp_session.specs.Machine.{Step, end_by, line_step}
+use Rattle.smtp_session.specs.Session.{HasRest, SmtpReady, state_of}
 use Rattle.smtp_session.specs.Loops.{is_looping}
 use Rattle.smtp_session.specs.declared.session.Accepted.{Accepted}
+use Rattle.smtp_session.specs.declared.session.Judged.{Judged}
 use Rattle.smtp_session.specs.declared.session.SmtpMachine.{SmtpMachine}
 use Rattle.smtp_session.specs.declared.states.Client.{Client}
 use Rattle.smtp_session.specs.declared.states.SmtpState.{SmtpState}
 use Rattle.smtp_session.specs.declared.states.SmtpState.TheVariants as smtp
 
--- the content of a message, which stands after the trace
-abbrev pub accepted_content : Accepted → List ℕ
-accepted_content accepted = drop accepted.trace_len accepted.delivery.remote_octets
+-- what was found of octets is so
+pub record IsJudged (octets : List ℕ) (judged : Judged) : Type 0 where
+  pub message : IsTrue judged.is_message ↔ IsStored octets
+  pub loops : IsTrue judged.is_message → judged.loops ≡ is_looping octets
+  pub mark : IsTrue judged.is_message → HasMark octets judged.mark
 
--- what is due at the end of data whose octets, if the function says so, have a tree
-abbrev pub due_by : (List ℕ → Bool) → StoreState → Client → Accepted → Step
-due_by has_tree store client accepted = end_by (has_tree (accepted_content accepted)) (is_looping (accepted_content accepted)) store client accepted.delivery
+-- the marks are those of the octets
+pub record AreMarked (delivery : Delivery) : Type 0 where
+  pub local : HasMark delivery.local_octets delivery.local_mark
+  pub remote : HasMark delivery.remote_octets delivery.remote_mark
 
--- the step that says which octets have a tree was carried out, or after a fault the first of it
-abbrev pub DoesBy : (before now : Around) → Option Fault → ((List ℕ → Bool) → Step) → Type 0
-DoesBy before now met taken = (has_tree : List ℕ → Bool) → TellsTrees has_tree → Does line_octets before now met (acts_in (taken has_tree))
+-- what is due at the end of data of whose content this was found
+abbrev pub due_of : StoreState → Client → Accepted → Step
+due_of store client accepted = end_by accepted.judged.is_message accepted.judged.loops store client accepted.delivery
 
 -- the session that is left stands for this state, and has kept nothing; none is left where the session has ended
 pub record IsFirst (session : SmtpMachine) (desk : Desk) : Type 0 where

@@ -8,8 +8,8 @@ use Rattle.session_core.proofs.DoingLemmas.{DoesFirst-none}
 use Rattle.session_core.proofs.KeepsLemmas.{Keeps-memory, Keeps-nil}
 use Rattle.smtp_session.specs.Machine.{acts_in, end_data}
 use Rattle.smtp_session.specs.Session.{line_octets}
-use Rattle.smtp_session.specs.private.Steps.{accepted_content, due_by}
-use Rattle.smtp_session.proofs.EndLemmas.{Does-refused, Does-same, dropped_is, end_deliverable, end_is, said_none}
+use Rattle.smtp_session.specs.private.Steps.{due_of}
+use Rattle.smtp_session.proofs.EndLemmas.{Does-refused, Does-same, dropped_is, end_deliverable, end_is, end_trace, said_none}
 use Rattle.smtp_session.proofs.session.end_data.Goals as goal
 
 pub returns-in_default-clause-does : goal.returns-in_default-clause-does
@@ -34,11 +34,14 @@ returns-in_err-accepted-clause-keeps g c =
     rw (failed.1, failed.2) (Keeps-memory c.args.outside.now c.args.outside.now (Keeps-nil c.args.outside.now))
 
 pub finish_data-requires-clause-deliverable : goal.finish_data-requires-clause-deliverable
-finish_data-requires-clause-deliverable g c stored =
+finish_data-requires-clause-deliverable g c is =
     let session = c.args.whole.session.state in
     let store = c.args.outside.now.desk.store in
-    end_deliverable store session.client session.envelope (moment_of c.args.timestamp) c.as_slice.result.now c.in_ok-accepted.accepted.delivery c.requires.known c.requires.opens.named c.requires.moment
-    (c.in_ok-accepted.ensures.delivery store (c.as_bytes-name.ensures.value ∙ (rw c.store.ensures at c.name.ensures))) (rw c.in_ok-accepted.ensures.content at stored)
+    let moment = moment_of c.args.timestamp in
+    let named = c.as_bytes-name.ensures.value ∙ (rw c.store.ensures at c.name.ensures) in
+    let other = end_trace store session.client session.envelope moment c.requires.known c.requires.opens.named c.requires.moment in
+    end_deliverable store session.client session.envelope moment c.as_slice.result.now c.in_ok-accepted.accepted.delivery c.requires.known c.requires.moment
+    (c.in_ok-accepted.ensures.delivery store named) (c.in_ok-accepted.ensures.marks is (rw named other))
 
 pub returns-clause-does : goal.returns-clause-does
 returns-clause-does g c oracles are lines ended =
@@ -46,8 +49,10 @@ returns-clause-does g c oracles are lines ended =
     let store = c.args.outside.now.desk.store in
     let moment = moment_of c.args.timestamp in
     let accepted = c.in_ok-accepted.accepted in
-    Does-same c.args.outside.now c.finish_data.new.outside (fault_of c.finish_data.result) (due_by oracles.has_tree store session.client accepted)
+    let named = c.as_bytes-name.ensures.value ∙ (rw c.store.ensures at c.name.ensures) in
+    let other = end_trace store session.client session.envelope moment c.requires.known c.requires.opens.named c.requires.moment in
+    Does-same c.args.outside.now c.finish_data.new.outside (fault_of c.finish_data.result) (due_of store session.client accepted)
     (end_data oracles store session.client session.envelope moment (unstuffed lines))
-    (end_is oracles c.args.whole.reader.limit store session.client session.envelope moment lines c.in-Some.content (accepted_content accepted) accepted.delivery (c.in-Some.ensures lines ended)
-    (c.in_ok-accepted.ensures.content ∙ c.as_slice.ensures) (rw c.as_slice.ensures at (c.in_ok-accepted.ensures.delivery store (c.as_bytes-name.ensures.value ∙ (rw c.store.ensures at c.name.ensures)))))
-    (c.finish_data.ensures.does oracles.has_tree are.trees)
+    (end_is oracles c.args.whole.reader.limit store session.client session.envelope moment lines c.in-Some.content c.as_slice.result.now accepted are.trees are.marks (c.in-Some.ensures lines ended)
+    c.as_slice.ensures (c.in_ok-accepted.ensures.delivery store named) c.in_ok-accepted.ensures.judged (λ is. c.in_ok-accepted.ensures.marks is (rw named other)))
+    c.finish_data.ensures.does
