@@ -310,11 +310,11 @@ module _ (P : Step → Type 0) (tag : List ℕ) (ended_by : (words : List ℕ) (
   append_all oracles now state mode store append None = answers_by (codes "NO no such folder") [] state
   append_all oracles now state mode store append (Some folder) =
       let whole = completed append.octets in
-      let unless : Option StoreFault → Step = append_unless tag state store.kept folder (appended folder append.flags append.date whole) in
+      let unless : Option StoreFault → Step = append_unless tag state store.kept folder (appended folder append.flags (oracles.mark_of whole) append.date whole) in
       let without : Step = says tag (codes "NO not a message") state in
       either_by (append.in_utf8 && not (is_enabled mode)) (says tag (codes "NO not enabled") state) (if oracles.has_tree whole then unless (append_refusal store whole) else without)
       (answers_by (codes "NO not enabled") [] state)
-      (either_by (oracles.has_tree whole) (unless (append_refusal store whole)) without (put_by state store.kept folder (appended folder append.flags append.date whole) (append_refusal store whole)) (answers_by (codes "NO not a message") [] state))
+      (either_by (oracles.has_tree whole) (unless (append_refusal store whole)) without (put_by state store.kept folder (appended folder append.flags (oracles.mark_of whole) append.date whole) (append_refusal store whole)) (answers_by (codes "NO not a message") [] state))
 
   added_all : (oracles : Oracles) (now : List ℕ) (state : State) (mode : Mode) (account : ℕ) (store : StoreState) (said : Command) → adds_to_store said ≡ true
       → P (mailbox_step (context_of oracles now tag store) state mode account said)

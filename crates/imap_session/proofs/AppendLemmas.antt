@@ -10,7 +10,9 @@ use Rattle.mail_wire.specs.declared.outside.Fault.{Fault}
 use Rattle.mail_wire.specs.declared.outside.Fault.TheVariants as fault
 use Rattle.mime_tree.specs.Completing.{IsCompleted, IsLeft}
 use Rattle.journal_records.specs.Grammar.{IsDate}
+use Rattle.journal_records.specs.Stored.{HasMark, IsStored}
 use Rattle.journal_records.specs.declared.records.Record.{Record}
+use Rattle.journal_records.proofs.MarkLemmas.{mark_once, mark_stored}
 use Rattle.kept_mail.specs.Kept.{Kept, after_all, listed}
 use Rattle.kept_mail.specs.declared.kept.Listed.{Listed}
 use Rattle.kept_mail.specs.declared.limits.TheConstants.{THINGS_MAX}
@@ -22,8 +24,9 @@ use Rattle.mail_store.proofs.AppendLemmas.{append_free}
 use Rattle.surrogate_cache.specs.Served.{Mode, is_enabled}
 use Rattle.session_core.specs.Acts.{Act, acts_of, changes, gives}
 use Rattle.session_core.specs.Around.{Around}
+use Rattle.session_core.specs.Changes.{append_changes, unless_refused}
 use Rattle.session_core.specs.Doing.{Does, DoesFirst, Makes, Replies}
-use Rattle.session_core.specs.Oracles.{Oracles, WithOracles}
+use Rattle.session_core.specs.Oracles.{Oracles, AreOracles, WithOracles}
 use Rattle.session_core.proofs.DoingLemmas.{Does-changes, Does-unchanged, Replies-stop}
 use Rattle.session_core.proofs.MeaningLemmas.{oracles_given}
 use Rattle.session_core.proofs.MomentLemmas.{moment_date}
@@ -97,6 +100,25 @@ date_is reading (Some given) date from dated = rw from dated
 
 -- ---- octets that are put
 
+-- octets with a mark have a tree and this mark in the machine too
+has_tree : (oracles : Oracles) → AreOracles oracles → (octets : List ℕ) (mark : ℕ) → HasMark octets mark → oracles.has_tree octets ≡ true
+has_tree oracles are octets mark has = (are.trees octets).1 (mark_stored octets mark has)
+
+same_mark : (oracles : Oracles) → AreOracles oracles → (octets : List ℕ) (mark : ℕ) → HasMark octets mark → oracles.mark_of octets ≡ mark
+same_mark oracles are octets mark has = mark_once octets (oracles.mark_of octets) mark (are.marks octets (mark_stored octets mark has)) has
+
+-- the change, unless the store refused the octets
+unless_changed : (folder flags mark : ℕ) (date octets : List ℕ) (refused : Option StoreFault)
+    → unless_refused refused (appended folder flags mark date octets ∷ []) ≡ put_changes flags mark date octets (put_unless folder refused)
+unless_changed folder flags mark date octets None = refl
+unless_changed folder flags mark date octets (Some other) = refl
+
+pub octets_made : (a b : Around) (met : Option Fault) (folder flags mark : ℕ) (date octets : List ℕ) → HasMark octets mark → Makes a b met (append_changes a.desk.store folder flags mark date octets)
+    → WithOracles (λ oracles. Makes a b met (put_changes flags (oracles.mark_of octets) date octets (put_octets (oracles.has_tree octets) a.desk.store folder octets)))
+octets_made a b met folder flags mark date octets has makes oracles are =
+    rw (has_tree oracles are octets mark has, same_mark oracles are octets mark has)
+    (subst (λ (made : List (List Record)). Makes a b met made) (unless_changed folder flags mark date octets (append_refusal a.desk.store octets)) makes)
+
 -- the folder was found, and the session may put such data there
 pub put_found : (oracles : Oracles) (mode : Mode) (account : ℕ) (store : StoreState) (request : AppendRequest) (folder : ℕ) → Some folder ≡ folder_named oracles mode store account request.written.now
     → (request.in_utf8 && not (is_enabled mode)) ≡ false
@@ -126,8 +148,12 @@ module _ (oracles : Oracles) (a : Around) (now tag : List ℕ) (state : State) (
   abbrev last : Put → List ReplyPart
   last advance = tagged tag (words_of_put advance) ∷ []
 
+  -- the mark of the octets
+  abbrev own_mark : ℕ
+  own_mark = oracles.mark_of (completed request.octets.now)
+
   abbrev made : Put → List (List Record)
-  made advance = put_changes request.flags date (completed request.octets.now) advance
+  made advance = put_changes request.flags own_mark date (completed request.octets.now) advance
 
   -- what is told before the last line
   abbrev told : Put → List ReplyPart
@@ -141,8 +167,8 @@ module _ (oracles : Oracles) (a : Around) (now tag : List ℕ) (state : State) (
   acts_if false x y p q one two = two
 
   unless_acts : (folder : ℕ) (refused : Option StoreFault)
-      → (append_unless tag state a.desk.store.kept folder (appended folder request.flags date (completed request.octets.now)) refused).acts ≡ put_acts (put_unless folder refused)
-  unless_acts folder None = ap (λ (z : List (Act ReplyPart)). changes (appended folder request.flags date (completed request.octets.now) ∷ []) ∷ z) (sym (map-append gives (told (put.In folder)) (last (put.In folder))))
+      → (append_unless tag state a.desk.store.kept folder (appended folder request.flags own_mark date (completed request.octets.now)) refused).acts ≡ put_acts (put_unless folder refused)
+  unless_acts folder None = ap (λ (z : List (Act ReplyPart)). changes (appended folder request.flags own_mark date (completed request.octets.now) ∷ []) ∷ z) (sym (map-append gives (told (put.In folder)) (last (put.In folder))))
   unless_acts folder (Some other) = refl
 
   named_acts : (found : Option ℕ)
@@ -210,20 +236,20 @@ request_state context state mode account request date =
 
 -- ---- the store after it
 
-counts_after : (kept : Kept) (flags : ℕ) (date octets : List ℕ) (advance : Put)
-    → (length (after_all kept (records_of (put_changes flags date octets advance))).accounts ≡ length kept.accounts) × (length (after_all kept (records_of (put_changes flags date octets advance))).folders ≡ length kept.folders)
-counts_after kept flags date octets (put.In folder) = (refl, refl)
-counts_after kept flags date octets put.NoFolder = (refl, refl)
-counts_after kept flags date octets put.NotEnabled = (refl, refl)
-counts_after kept flags date octets put.NoMessage = (refl, refl)
-counts_after kept flags date octets put.TooLarge = (refl, refl)
+counts_after : (kept : Kept) (flags mark : ℕ) (date octets : List ℕ) (advance : Put)
+    → (length (after_all kept (records_of (put_changes flags mark date octets advance))).accounts ≡ length kept.accounts) × (length (after_all kept (records_of (put_changes flags mark date octets advance))).folders ≡ length kept.folders)
+counts_after kept flags mark date octets (put.In folder) = (refl, refl)
+counts_after kept flags mark date octets put.NoFolder = (refl, refl)
+counts_after kept flags mark date octets put.NotEnabled = (refl, refl)
+counts_after kept flags mark date octets put.NoMessage = (refl, refl)
+counts_after kept flags mark date octets put.TooLarge = (refl, refl)
 
 -- it has the accounts and the folders that it had
-pub request_counts : (a b : Around) (flags : ℕ) (date octets : List ℕ) (advance : Oracles → Put) → WithOracles (λ oracles. Makes a b None (put_changes flags date octets (advance oracles)))
+pub request_counts : (a b : Around) (flags : ℕ) (date octets : List ℕ) (advance : Oracles → Put) → WithOracles (λ oracles. Makes a b None (put_changes flags (oracles.mark_of octets) date octets (advance oracles)))
     → HasCounts a.desk.store b.desk.store
 request_counts a b flags date octets advance makes =
     let store = (makes oracles_given.0 oracles_given.1).changes.store in
-    let counts = counts_after a.desk.store.kept flags date octets (advance oracles_given.0) in
+    let counts = counts_after a.desk.store.kept flags (oracles_given.0.mark_of octets) date octets (advance oracles_given.0) in
     record {
       accounts = ap (λ (store : StoreState). length store.kept.accounts) store ∙ counts.0;
       folders = ap (λ (store : StoreState). length store.kept.folders) store ∙ counts.1;
@@ -250,26 +276,27 @@ room_named oracles mode store in_utf8 octets (Some folder) =
     room_if (in_utf8 && not (is_enabled mode)) store.kept put.NotEnabled (put_octets (oracles.has_tree whole) store folder whole) tt
     (room_if (oracles.has_tree whole) store.kept (put_unless folder refused) put.NoMessage (room_unless store folder whole refused refl) tt)
 
-after_put : (kept : Kept) (flags : ℕ) (date octets : List ℕ) (advance : Put) → HadRoom kept advance → IsAfter kept (after_all kept (records_of (put_changes flags date octets advance))) flags advance
-after_put kept flags date octets (put.In folder) room = (date, octets, refl, room)
-after_put kept flags date octets put.NoFolder room = refl
-after_put kept flags date octets put.NotEnabled room = refl
-after_put kept flags date octets put.NoMessage room = refl
-after_put kept flags date octets put.TooLarge room = refl
+after_put : (kept : Kept) (flags mark : ℕ) (date octets : List ℕ) (advance : Put) → HadRoom kept advance → IsAfter kept (after_all kept (records_of (put_changes flags mark date octets advance))) flags advance
+after_put kept flags mark date octets (put.In folder) room = (mark, date, octets, refl, room)
+after_put kept flags mark date octets put.NoFolder room = refl
+after_put kept flags mark date octets put.NotEnabled room = refl
+after_put kept flags mark date octets put.NoMessage room = refl
+after_put kept flags mark date octets put.TooLarge room = refl
 
 -- the messages of the opened folder were these before
 pub request_were : (a b : Around) (mode : Mode) (account : ℕ) (request : AppendRequest) (date : List ℕ) (opened : ℕ) (messages : List Listed) (advance : Put) → messages ≡ listed a.desk.store.kept opened
     → WithOracles (λ oracles. advance ≡ put_of oracles mode account a.desk.store request)
-    → WithOracles (λ oracles. Makes a b None (put_changes request.flags date (completed request.octets.now) (put_of oracles mode account a.desk.store request)))
+    → WithOracles (λ oracles. Makes a b None (put_changes request.flags (oracles.mark_of (completed request.octets.now)) date (completed request.octets.now) (put_of oracles mode account a.desk.store request)))
     → WereListed b.desk.store.kept opened request.flags advance messages
 request_were a b mode account request date opened messages advance were advance_is makes =
     let oracles = oracles_given.0 in
     let before = a.desk.store in
     let octets = completed request.octets.now in
+    let mark = oracles.mark_of octets in
     let was = put_of oracles mode account before request in
-    let kept : b.desk.store.kept ≡ after_all before.kept (records_of (put_changes request.flags date octets was)) =
+    let kept : b.desk.store.kept ≡ after_all before.kept (records_of (put_changes request.flags mark date octets was)) =
     ap (λ (store : StoreState). store.kept) (makes oracles oracles_given.1).changes.store in
     let room = room_named oracles mode before request.in_utf8 request.octets.now (folder_named oracles mode before account request.written.now) in
     let following : IsAfter before.kept b.desk.store.kept request.flags was =
-    subst (λ (new : Kept). IsAfter before.kept new request.flags was) (sym kept) (after_put before.kept request.flags date octets was room) in
+    subst (λ (new : Kept). IsAfter before.kept new request.flags was) (sym kept) (after_put before.kept request.flags mark date octets was room) in
     record { old = before.kept; were = were; following = subst (λ (p : Put). IsAfter before.kept b.desk.store.kept request.flags p) (sym (advance_is oracles oracles_given.1)) following }

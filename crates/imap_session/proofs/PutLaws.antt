@@ -29,22 +29,25 @@ use Rattle.imap_session.proofs.PutLemmas.{listed_put}
 
 -- ---- the step of a message that is put
 
-count_more : (kept : Kept) (folder flags : ℕ) (date octets : List ℕ) → length (listed (after_record kept (appended folder flags date octets)) folder) ≡ length (listed kept folder) + 1
-count_more kept folder flags date octets = ap (λ (l : List Listed). length l) (listed_put kept folder flags date octets) ∙ length-append (listed kept folder) _
+count_more : (kept : Kept) (folder flags mark : ℕ) (date octets : List ℕ) → length (listed (after_record kept (appended folder flags mark date octets)) folder) ≡ length (listed kept folder) + 1
+count_more kept folder flags mark date octets = ap (λ (l : List Listed). length l) (listed_put kept folder flags mark date octets) ∙ length-append (listed kept folder) _
 
 lines_if : (here : Bool) (n more : ℕ) → n ≡ more
     → (if here then untagged (decimal n ++ codes " EXISTS") ∷ [] else []) ≡ (if here then untagged (decimal more ++ codes " EXISTS") ∷ [] else [])
 lines_if here n more same = rw same refl
 
-more_told : (opened : Option ℕ) (kept : Kept) (folder flags : ℕ) (date octets : List ℕ) → exists_lines opened (after_record kept (appended folder flags date octets)) folder ≡ one_more opened kept folder
-more_told None kept folder flags date octets = refl
-more_told (Some opened) kept folder flags date octets = lines_if (opened == folder) _ _ (count_more kept folder flags date octets)
+more_told : (opened : Option ℕ) (kept : Kept) (folder flags mark : ℕ) (date octets : List ℕ) → exists_lines opened (after_record kept (appended folder flags mark date octets)) folder ≡ one_more opened kept folder
+more_told None kept folder flags mark date octets = refl
+more_told (Some opened) kept folder flags mark date octets = lines_if (opened == folder) _ _ (count_more kept folder flags mark date octets)
 
-unless_put : (now tag : List ℕ) (state : State) (store : StoreState) (said : Said) (folder : ℕ)
-    → append_unless tag state store.kept folder (appended folder said.flags (date_or now said.date) (completed said.octets)) None ≡ put_step now tag state store said folder
-unless_put now tag state store said folder =
-    let made : Record = appended folder said.flags (date_or now said.date) (completed said.octets) in
-    ap (λ (lines : List ReplyPart). ends_with tag done (changes (made ∷ []) ∷ reply lines) state) (more_told (opened_in state) store.kept folder said.flags (date_or now said.date) (completed said.octets))
+unless_put : (oracles : Oracles) (now tag : List ℕ) (state : State) (store : StoreState) (said : Said) (folder : ℕ)
+    → let octets = completed said.octets in
+    append_unless tag state store.kept folder (appended folder said.flags (oracles.mark_of octets) (date_or now said.date) octets) None ≡ put_step oracles now tag state store said folder
+unless_put oracles now tag state store said folder =
+    let octets = completed said.octets in
+    let mark = oracles.mark_of octets in
+    let made : Record = appended folder said.flags mark (date_or now said.date) octets in
+    ap (λ (lines : List ReplyPart). ends_with tag done (changes (made ∷ []) ∷ reply lines) state) (more_told (opened_in state) store.kept folder said.flags mark (date_or now said.date) octets)
 
 -- ---- what is asked of it
 
@@ -92,16 +95,16 @@ last_of : (other has_tree : Bool) (x y z : Step) → other ≡ false → has_tre
 last_of other has_tree x y z first second = rw (first, second) refl
 
 pub is_put : (oracles : Oracles) (now tag : List ℕ) (state : State) (mode : Mode) (account : ℕ) (store : StoreState) (said : Said) (folder : ℕ) → TellsTrees oracles.has_tree
-    → IsAuthenticated mode account state → MayBePut oracles mode account store said folder → step oracles now state store tag (append_of said) ≡ put_step now tag state store said folder
+    → IsAuthenticated mode account state → MayBePut oracles mode account store said folder → step oracles now state store tag (append_of said) ≡ put_step oracles now tag state store said folder
 is_put oracles now tag state mode account store said folder observed authenticated may =
     let octets = completed said.octets in
     let date = date_or now said.date in
-    let unless : Option StoreFault → Step = append_unless tag state store.kept folder (appended folder said.flags date octets) in
+    let unless : Option StoreFault → Step = append_unless tag state store.kept folder (appended folder said.flags (oracles.mark_of octets) date octets) in
     step_named oracles now tag state mode account store said authenticated
     ∙ ap (append_in (context_of oracles now tag store) state mode (record { flags = said.flags; date = date; in_utf8 = said.in_utf8; octets = said.octets })) may.named
     ∙ last_of (said.in_utf8 && not (is_enabled mode)) (oracles.has_tree octets) (says tag (codes "NO not enabled") state) (says tag (codes "NO not a message") state) (unless (append_refusal store octets))
     (may_come said.in_utf8 mode may.form) (tells_true (oracles.has_tree octets) (IsStored octets) (observed octets) may.tree)
-    ∙ ap unless (room_free store octets may.room) ∙ unless_put now tag state store said folder
+    ∙ ap unless (room_free store octets may.room) ∙ unless_put oracles now tag state store said folder
 
 -- ---- or it is refused
 
@@ -117,8 +120,9 @@ module _ (oracles : Oracles) (now tag : List ℕ) (state : State) (mode : Mode) 
   either_if false x y one two = two refl
 
   either_room : (folder : ℕ) (refused : Option StoreFault) → named ≡ Some folder → append_refusal store (completed said.octets) ≡ refused
-      → IsEither (append_unless tag state store.kept folder (appended folder said.flags (date_or now said.date) (completed said.octets)) refused)
-  either_room folder None is free = inl (folder, is, unless_put now tag state store said folder)
+      → let octets = completed said.octets in
+      IsEither (append_unless tag state store.kept folder (appended folder said.flags (oracles.mark_of octets) (date_or now said.date) octets) refused)
+  either_room folder None is free = inl (folder, is, unless_put oracles now tag state store said folder)
   either_room folder (Some other) is full = inr (too_large, refused_full store (completed said.octets) other full, refl)
 
   either_found : TellsTrees oracles.has_tree → (found : Option ℕ) → named ≡ found
@@ -126,7 +130,7 @@ module _ (oracles : Oracles) (now tag : List ℕ) (state : State) (mode : Mode) 
   either_found observed None is = inr (no_folder, is, refl)
   either_found observed (Some folder) is =
       let octets = completed said.octets in
-      let unless : Option StoreFault → Step = append_unless tag state store.kept folder (appended folder said.flags (date_or now said.date) octets) in
+      let unless : Option StoreFault → Step = append_unless tag state store.kept folder (appended folder said.flags (oracles.mark_of octets) (date_or now said.date) octets) in
       let without : Step = says tag (codes "NO not a message") state in
       either_if (said.in_utf8 && not (is_enabled mode)) (says tag (codes "NO not enabled") state) (if oracles.has_tree octets then unless (append_refusal store octets) else without)
       (λ other. inr (not_enabled, may_not said.in_utf8 mode other, refl))
@@ -139,10 +143,12 @@ module _ (oracles : Oracles) (now tag : List ℕ) (state : State) (mode : Mode) 
 
 -- ---- what changes
 
-pub put_changes : (now tag : List ℕ) (state : State) (store : StoreState) (said : Said) (folder : ℕ)
-    → changes_in (put_step now tag state store said folder).acts ≡ (appended folder said.flags (date_or now said.date) (completed said.octets) ∷ []) ∷ []
-put_changes now tag state store said folder =
-    let made : Record = appended folder said.flags (date_or now said.date) (completed said.octets) in
+pub put_changes : (oracles : Oracles) (now tag : List ℕ) (state : State) (store : StoreState) (said : Said) (folder : ℕ)
+    → let octets = completed said.octets in
+    changes_in (put_step oracles now tag state store said folder).acts ≡ (appended folder said.flags (oracles.mark_of octets) (date_or now said.date) octets ∷ []) ∷ []
+put_changes oracles now tag state store said folder =
+    let octets = completed said.octets in
+    let made : Record = appended folder said.flags (oracles.mark_of octets) (date_or now said.date) octets in
     let lines = one_more (opened_in state) store.kept folder in
     let last : List ReplyPart = tagged tag done ∷ [] in
     ap (λ (acts : List (Act ReplyPart)). changes_in (changes (made ∷ []) ∷ acts)) (sym (map-append gives lines last)) ∙ changes_in-acts ((made ∷ []) ∷ []) (lines ++ last)

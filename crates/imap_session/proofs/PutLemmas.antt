@@ -51,9 +51,9 @@ other_alone : (own : Bool) (one : Listed) → own ≡ false → in_front own tru
 other_alone own one is = rw is refl
 
 -- the message that was put into the folder is the last one of its list
-pub listed_put : (old : Kept) (folder flags : ℕ) (date octets : List ℕ)
-    → listed (after_record old (appended folder flags date octets)) folder ≡ listed old folder ++ record { id = length old.messages; uid = uid_next old folder; flags = flags } ∷ []
-listed_put old folder flags date octets =
+pub listed_put : (old : Kept) (folder flags mark : ℕ) (date octets : List ℕ)
+    → listed (after_record old (appended folder flags mark date octets)) folder ≡ listed old folder ++ record { id = length old.messages; uid = uid_next old folder; flags = flags } ∷ []
+listed_put old folder flags mark date octets =
     let m : Message = record { folder = folder; flags = flags; live = true; date = date; octets = octets } in
     let count : ℕ = count_by (λ (message : Message). message.folder == folder) old.messages in
     let place : 0 + length old.messages ≡ length old.messages = omega arith in
@@ -64,15 +64,15 @@ listed_put old folder flags date octets =
     (alone ∙ ap (λ (k : ℕ). record { id = k; uid = 1 + count; flags = flags } ∷ []) place ∙ ap (λ (k : ℕ). record { id = length old.messages; uid = k; flags = flags } ∷ []) next)
 
 -- another folder's list is as it was
-listed_beside : (old : Kept) (folder opened flags : ℕ) (date octets : List ℕ) → (folder == opened) ≡ false → listed (after_record old (appended folder flags date octets)) opened ≡ listed old opened
-listed_beside old folder opened flags date octets other =
+listed_beside : (old : Kept) (folder opened flags mark : ℕ) (date octets : List ℕ) → (folder == opened) ≡ false → listed (after_record old (appended folder flags mark date octets)) opened ≡ listed old opened
+listed_beside old folder opened flags mark date octets other =
     let m : Message = record { folder = folder; flags = flags; live = true; date = date; octets = octets } in
     let count : ℕ = count_by (λ (message : Message). message.folder == opened) old.messages in
     listed_from-push opened 0 1 old.messages m
     ∙ ap (λ (l : List Listed). listed old opened ++ l) (other_alone (folder == opened) (record { id = 0 + length old.messages; uid = 1 + count; flags = flags }) other) ∙ append-nil (listed old opened)
 
-next_put : (old : Kept) (folder flags : ℕ) (date octets : List ℕ) → uid_next (after_record old (appended folder flags date octets)) folder ≡ uid_next old folder + 1
-next_put old folder flags date octets =
+next_put : (old : Kept) (folder flags mark : ℕ) (date octets : List ℕ) → uid_next (after_record old (appended folder flags mark date octets)) folder ≡ uid_next old folder + 1
+next_put old folder flags mark date octets =
     let m : Message = record { folder = folder; flags = flags; live = true; date = date; octets = octets } in
     let count : ℕ = count_by (λ (message : Message). message.folder == folder) old.messages in
     let more : count_by (λ (message : Message). message.folder == folder) (old.messages ++ m ∷ []) ≡ count + 1 =
@@ -94,10 +94,11 @@ pub record HasNewest (kept : Kept) (folder flags : ℕ) (messages : List Listed)
 pub newest : (kept : Kept) (opened flags folder : ℕ) (messages : List Listed) → folder ≡ opened → WereListed kept opened flags (put.In folder) messages → HasNewest kept opened flags messages
 newest kept opened flags folder messages same was =
     let old : Kept = was.old in
-    let date = was.following.0 in
-    let octets = was.following.1 in
-    let made = appended opened flags date octets in
-    let is : kept ≡ after_record old made = was.following.2 ∙ ap (λ (f : ℕ). after_record old (appended f flags date octets)) same in
+    let mark = was.following.0 in
+    let date = was.following.1 in
+    let octets = was.following.2 in
+    let made = appended opened flags mark date octets in
+    let is : kept ≡ after_record old made = was.following.3 ∙ ap (λ (f : ℕ). after_record old (appended f flags mark date octets)) same in
     let one : Listed = record { id = length old.messages; uid = uid_next old opened; flags = flags } in
     let count = length-append old.messages (record { folder = opened; flags = flags; live = true; date = date; octets = octets } ∷ []) in
     let few = listed_few old opened in
@@ -105,15 +106,15 @@ newest kept opened flags folder messages same was =
       id = length old.messages;
       uid = uid_next old opened;
       id_is = sym (ap (λ (k : Kept). length k.messages) is ∙ count);
-      uid_is = sym (ap (λ (k : Kept). uid_next k opened) is ∙ next_put old opened flags date octets);
-      few = was.following.3;
+      uid_is = sym (ap (λ (k : Kept). uid_next k opened) is ∙ next_put old opened flags mark date octets);
+      few = was.following.4;
       fewer = rw was.were few;
-      listing = ap (λ (l : List Listed). l ++ one ∷ []) was.were ∙ sym (ap (λ (k : Kept). listed k opened) is ∙ listed_put old opened flags date octets);
+      listing = ap (λ (l : List Listed). l ++ one ∷ []) was.were ∙ sym (ap (λ (k : Kept). listed k opened) is ∙ listed_put old opened flags mark date octets);
     }
 
 pub listed_other : (kept : Kept) (opened flags folder : ℕ) (messages : List Listed) → (folder ≡ opened → ⊥) → WereListed kept opened flags (put.In folder) messages → messages ≡ listed kept opened
 listed_other kept opened flags folder messages other was =
-    was.were ∙ sym (ap (λ (k : Kept). listed k opened) was.following.2 ∙ listed_beside was.old folder opened flags was.following.0 was.following.1 (ne_eqb folder opened other))
+    was.were ∙ sym (ap (λ (k : Kept). listed k opened) was.following.3 ∙ listed_beside was.old folder opened flags was.following.0 was.following.1 was.following.2 (ne_eqb folder opened other))
 
 -- nothing was put
 pub listed_same : (kept : Kept) (opened flags : ℕ) (advance : Put) (messages : List Listed) → ((folder : ℕ) → advance ≡ put.In folder → ⊥) → WereListed kept opened flags advance messages → messages ≡ listed kept opened

@@ -268,9 +268,9 @@ abbrev pub exists_lines : (opened : Option ℕ) → Kept → (folder : ℕ) → 
 exists_lines None kept folder = []
 exists_lines (Some opened) kept folder = if opened == folder then untagged (decimal (length (listed kept folder)) ++ codes " EXISTS") ∷ [] else []
 
--- the record of a message that is put last in a folder
-abbrev pub appended : (folder flags : ℕ) → (date octets : List ℕ) → Record
-appended folder flags date octets = records.Message folder flags date octets
+-- the record of a message that is put last in a folder, with the mark of its octets
+abbrev pub appended : (folder flags mark : ℕ) → (date octets : List ℕ) → Record
+appended folder flags mark date octets = records.Message folder flags (Some mark) date octets
 
 -- APPEND: the message is put last in the folder, unless the store refuses it; a session that has the folder open is told how many there are.
 abbrev pub append_unless : (tag : List ℕ) → State → Kept → (folder : ℕ) → Record → Option StoreFault → Step
@@ -282,7 +282,7 @@ abbrev pub append_octets : Context → State → (folder : ℕ) → Append → S
 append_octets context state folder append =
     let octets = completed append.octets in
     if context.oracles.has_tree octets
-    then append_unless context.tag state context.store.kept folder (appended folder append.flags append.date octets) (append_refusal context.store octets)
+    then append_unless context.tag state context.store.kept folder (appended folder append.flags (context.oracles.mark_of octets) append.date octets) (append_refusal context.store octets)
     else says context.tag (codes "NO not a message") state
 
 -- data in the form with UTF8 are for a session that enabled it (RFC 6855, 4)

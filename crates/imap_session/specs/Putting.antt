@@ -47,10 +47,12 @@ abbrev pub one_more : (opened : Option ℕ) → Kept → (folder : ℕ) → List
 one_more None kept folder = []
 one_more (Some opened) kept folder = if opened == folder then untagged (decimal (length (listed kept folder) + 1) ++ codes " EXISTS") ∷ [] else []
 
--- the message is put last in the folder, and then that is told; the state stays
-abbrev pub put_step : (now tag : List ℕ) → State → StoreState → Said → (folder : ℕ) → Step
-put_step now tag state store said folder =
-    ends_with tag done (changes (appended folder said.flags (date_or now said.date) (completed said.octets) ∷ []) ∷ reply (one_more (opened_in state) store.kept folder)) state
+-- the message is put last in the folder, with the mark of its octets, and then that is told; the state stays
+abbrev pub put_step : Oracles → (now tag : List ℕ) → State → StoreState → Said → (folder : ℕ) → Step
+put_step oracles now tag state store said folder =
+    let octets = completed said.octets in
+    let made = appended folder said.flags (oracles.mark_of octets) (date_or now said.date) octets in
+    ends_with tag done (changes (made ∷ []) ∷ reply (one_more (opened_in state) store.kept folder)) state
 
 -- why a message isn't put
 pub data Cause : Type 0 where
@@ -77,7 +79,7 @@ IsCause oracles mode account store said too_large = ¬ HasRoomFor store (complet
 abbrev pub IsPut : Context → State → Mode → (account : ℕ) → Said → Step → Type 0
 IsPut context state mode account said taken =
     (folder : ℕ) × (folder_named context.oracles mode context.store account said.written ≡ Some folder)
-    × (taken ≡ put_step context.now context.tag state context.store said folder)
+    × (taken ≡ put_step context.oracles context.now context.tag state context.store said folder)
 
 -- a cause is told and nothing else, and nothing changes
 abbrev pub IsRefused : Context → State → Mode → (account : ℕ) → Said → Step → Type 0

@@ -15,9 +15,9 @@ ghost use Rattle.imap_session.specs.private.Selected.{KnowsSelected};
 use crate::folders::find_named;
 use crate::replies::{DONE, NO_SUCH_FOLDER, TOO_LARGE, answer, say};
 use crate::states::{Authenticated, Imap, ImapState, Kind, Selected};
-use journal_records::is_stored;
+use journal_records::mark_of;
 use kept_mail::Listed;
-use mail_store::Store;
+use mail_store::{Attributes, Store};
 use mail_wire::{Clock, Fault, Keeper, Memory, Octets, Wire, is_ended};
 use mime_tree::complete;
 use session_core::{Delivered, Outside};
@@ -77,13 +77,14 @@ fn put_octets<W: Wire, J: Keeper, C: Clock>(
     requires dated { IsDate date.now }
     ensures put { IfOk result (λ put. WithOracles (λ oracles. put ≡ put_octets_of (oracles.has_tree octets.now) outside.old.desk.store folder octets.now)) }
     ensures makes { WithOracles (λ oracles. Makes outside.old outside.new (fault_of result)
-        (put_changes flags date.now octets.now (put_octets_of (oracles.has_tree octets.now) outside.old.desk.store folder octets.now))) }
+        (put_changes flags (oracles.mark_of octets.now) date.now octets.now (put_octets_of (oracles.has_tree octets.now) outside.old.desk.store folder octets.now))) }
     ensures keeps { Keeps outside.old outside.new (fault_of result) }
 {
-    if !is_stored(outside.alloc(), octets)? {
+    let Some(mark) = mark_of(outside.alloc(), octets)? else {
         return Ok(Put::NoMessage);
-    }
-    match outside.append(folder, flags, date, octets)? {
+    };
+    let attributes = Attributes { flags, mark };
+    match outside.append(folder, attributes, date, octets)? {
         Delivered::Stored => Ok(Put::In(folder)),
         Delivered::TooLarge => Ok(Put::TooLarge),
     }
@@ -102,7 +103,8 @@ fn put_completed<W: Wire, J: Keeper, C: Clock>(
     requires dated { IsDate date.now }
     ensures put { IfOk result (λ put. WithOracles (λ oracles.
         put ≡ put_octets_of (oracles.has_tree (completed request.now.octets.now)) outside.old.desk.store folder (completed request.now.octets.now))) }
-    ensures makes { WithOracles (λ oracles. Makes outside.old outside.new (fault_of result) (put_changes request.now.flags date.now (completed request.now.octets.now)
+    ensures makes { WithOracles (λ oracles. Makes outside.old outside.new (fault_of result)
+        (put_changes request.now.flags (oracles.mark_of (completed request.now.octets.now)) date.now (completed request.now.octets.now)
         (put_octets_of (oracles.has_tree (completed request.now.octets.now)) outside.old.desk.store folder (completed request.now.octets.now)))) }
     ensures keeps { Keeps outside.old outside.new (fault_of result) }
 {
@@ -126,7 +128,7 @@ fn put_request<V: Kind, W: Wire, J: Keeper, C: Clock>(
     requires dated { IsDate date.now }
     ensures put { IfOk result (λ put. WithOracles (λ oracles. put ≡ put_of oracles V.mode account outside.old.desk.store request.now)) }
     ensures makes { WithOracles (λ oracles. Makes outside.old outside.new (fault_of result)
-        (put_changes request.now.flags date.now (completed request.now.octets.now) (put_of oracles V.mode account outside.old.desk.store request.now))) }
+        (put_changes request.now.flags (oracles.mark_of (completed request.now.octets.now)) date.now (completed request.now.octets.now) (put_of oracles V.mode account outside.old.desk.store request.now))) }
     ensures keeps { Keeps outside.old outside.new (fault_of result) }
 {
     let found = find_named::<V>(outside.alloc(), outside.store(), account, request.written)?;

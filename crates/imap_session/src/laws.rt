@@ -21,14 +21,15 @@ ghost use Rattle.imap_session.specs.Session.{Machine, next_turn};
 
 /// In an authenticated session an APPEND into a folder that is there puts its message, where the octets, the last line complete, have a tree
 /// and the store has room for them, and the form with UTF8 comes from a session that enabled it: the one change is that message, put last with its
-/// flags and its date or that of the moment, and the reply is OK. Otherwise nothing changes, and the reply is the line that tells the cause.
+/// flags, the mark of its octets, and its date or that of the moment, and the reply is OK. Otherwise nothing changes, and the reply is the line that tells the cause.
 /// Before login it is out of order.
 pub fn whole_messages_are_put()
     ensures put { (oracles : Oracles) (now tag : List ℕ) (state : State) (mode : Mode) (account : ℕ) (store : StoreState) (said : Said) (folder : ℕ)
         → TellsTrees oracles.has_tree → IsAuthenticated mode account state → MayBePut oracles mode account store said folder
-        → step oracles now state store tag (append_of said) ≡ put_step now tag state store said folder }
-    ensures change { (now tag : List ℕ) (state : State) (store : StoreState) (said : Said) (folder : ℕ)
-        → changes_in (put_step now tag state store said folder).acts ≡ (appended folder said.flags (date_or now said.date) (completed said.octets) ∷ []) ∷ [] }
+        → step oracles now state store tag (append_of said) ≡ put_step oracles now tag state store said folder }
+    ensures change { (oracles : Oracles) (now tag : List ℕ) (state : State) (store : StoreState) (said : Said) (folder : ℕ)
+        → let octets = completed said.octets in
+        changes_in (put_step oracles now tag state store said folder).acts ≡ (appended folder said.flags (oracles.mark_of octets) (date_or now said.date) octets ∷ []) ∷ [] }
     ensures either { (oracles : Oracles) (now tag : List ℕ) (state : State) (mode : Mode) (account : ℕ) (store : StoreState) (said : Said)
         → TellsTrees oracles.has_tree → IsAuthenticated mode account state
         → let taken = step oracles now state store tag (append_of said) in

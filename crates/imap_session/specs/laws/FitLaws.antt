@@ -67,7 +67,7 @@ use Rattle.imap_session.specs.laws.ViewLaws.{ascii_envelope, ascii_fields, ascii
 
 -- the message of a record, if it has one, may be kept
 abbrev pub MayBeKept : Record → Type 0
-MayBeKept (records.Message folder flags date octets) = IsDate date × IsStored octets
+MayBeKept (records.Message folder flags mark date octets) = IsDate date × IsStored octets
 MayBeKept other = Unit {0}
 
 -- what is given may be sent, and each message that a change adds may be kept
@@ -91,14 +91,15 @@ stored_after kept (records.Flags message flags) may stored = AreStored-same kept
 stored_after kept (records.Expunge message) may stored = AreStored-same kept.messages _ stored (AreSameMessages-gone kept.messages message)
 stored_after kept (records.Account address password) may stored = stored
 stored_after kept (records.Domain domain) may stored = stored
-stored_after kept (records.Message folder flags date octets) may stored =
+stored_after kept (records.Message folder flags mark date octets) may stored =
     let message : Message = record { folder = folder; flags = flags; live = true; date = date; octets = octets } in
     record {
       each = All-push (λ (one : Message). IsStored one.octets) kept.messages message stored.each may.1;
       dated = All-push (λ (one : Message). IsDate one.date) kept.messages message stored.dated may.0;
     }
-stored_after kept (records.Queue path addresses octets) may stored = stored
+stored_after kept (records.Queue path addresses mark octets) may stored = stored
 stored_after kept (records.Settle entry index) may stored = stored
+stored_after kept records.Version may stored = stored
 
 stored_following : (kept : Kept) (made : List Record) → AllByRecursion MayBeKept made → AreStored kept.messages → (others : List Record)
     → ((between : Kept) → AreStored between.messages → AreStored (after_all between others).messages) → AreStored (after_all kept (made ++ others)).messages
@@ -537,7 +538,7 @@ module _ (oracles : Oracles) (are : AreOracles oracles) (now : List ℕ) (dated 
   octets_right state folder append dated =
       let octets = completed append.octets in
       let refused = append_refusal store octets in
-      let made = appended folder append.flags append.date octets in
+      let made = appended folder append.flags (oracles.mark_of octets) append.date octets in
       cond_both (oracles.has_tree octets) (append_unless tag state store.kept folder made refused) (says tag (codes "NO not a message") state) (λ (one : Step). AreRight oracles one.acts)
       (λ is. unless_kept_right state folder made refused (dated, (are.trees octets).0 is)) (λ _. says_right oracles tag tag_fit (codes "NO not a message") state refl)
 

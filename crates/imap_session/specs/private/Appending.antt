@@ -45,9 +45,9 @@ abbrev pub put_of : Oracles → Mode → (account : ℕ) → StoreState → Appe
 put_of oracles mode account store request = put_named oracles mode store request.in_utf8 request.octets.now (folder_named oracles mode store account request.written.now)
 
 -- the change, if there is one
-abbrev pub put_changes : (flags : ℕ) → (date octets : List ℕ) → Put → List (List Record)
-put_changes flags date octets (put.In folder) = (appended folder flags date octets ∷ []) ∷ []
-put_changes flags date octets other = []
+abbrev pub put_changes : (flags mark : ℕ) → (date octets : List ℕ) → Put → List (List Record)
+put_changes flags mark date octets (put.In folder) = (appended folder flags mark date octets ∷ []) ∷ []
+put_changes flags mark date octets other = []
 
 -- what is told beside, where the store has this then
 abbrev pub put_lines : (opened : Option ℕ) → Kept → Put → List ReplyPart
@@ -65,7 +65,7 @@ words_of_put put.TooLarge = codes "NO too large"
 -- what the store keeps after a request with these flags, and what it kept before: the message that was put is the last one, or all is as it was
 abbrev pub IsAfter : (old new : Kept) → (flags : ℕ) → Put → Type 0
 IsAfter old new flags (put.In folder) =
-    (date : List ℕ) × (octets : List ℕ) × (new ≡ after_record old (appended folder flags date octets)) × (length old.messages < THINGS_MAX)
+    (mark : ℕ) × (date : List ℕ) × (octets : List ℕ) × (new ≡ after_record old (appended folder flags mark date octets)) × (length old.messages < THINGS_MAX)
 IsAfter old new flags other = new ≡ old
 
 -- these were the messages of the opened folder before the request

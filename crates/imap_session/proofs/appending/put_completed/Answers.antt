@@ -18,7 +18,7 @@ pub returns-then-is_ended-clause-makes : goal.returns-then-is_ended-clause-makes
 returns-then-is_ended-clause-makes g c = λ oracles are.
     let same = completed_left c.args.request.now.octets.now (inl (c.if-is_ended.ensures.0 refl)) in
     subst (λ (octets : List ℕ). Makes c.args.outside.now c.put_octets.new.outside (fault_of c.put_octets.result)
-    (put_changes c.args.request.now.flags c.args.date.now octets (put_octets (oracles.has_tree octets) c.args.outside.now.desk.store c.args.folder octets))) same (c.put_octets.ensures.makes oracles are)
+    (put_changes c.args.request.now.flags (oracles.mark_of octets) c.args.date.now octets (put_octets (oracles.has_tree octets) c.args.outside.now.desk.store c.args.folder octets))) same (c.put_octets.ensures.makes oracles are)
 
 pub returns-clause-put : goal.returns-clause-put
 returns-clause-put g c =
@@ -30,4 +30,4 @@ pub returns-clause-makes : goal.returns-clause-makes
 returns-clause-makes g c = λ oracles are.
     let same = c.as_slice.ensures ∙ (completed_is c.in_ok-octets.octets c.complete.new.octets c.in_ok-complete.ensures.ok ∙ ap completed c.in_ok-octets.ensures) in
     subst (λ (octets : List ℕ). Makes c.args.outside.now c.put_octets-2.new.outside (fault_of c.put_octets-2.result)
-    (put_changes c.args.request.now.flags c.args.date.now octets (put_octets (oracles.has_tree octets) c.args.outside.now.desk.store c.args.folder octets))) same (c.put_octets-2.ensures.makes oracles are)
+    (put_changes c.args.request.now.flags (oracles.mark_of octets) c.args.date.now octets (put_octets (oracles.has_tree octets) c.args.outside.now.desk.store c.args.folder octets))) same (c.put_octets-2.ensures.makes oracles are)

@@ -18,5 +18,5 @@ returns-clause-makes g c = λ oracles are.
       | else-request-via-then-request+else-not-enabled w ↦ and_right request.in_utf8 (not (is_enabled g.V.View.mode)) (not_from_true (is_enabled g.V.View.mode) (sym w.enabled.ensures ∙ w.if-not-enabled.false))
       | else-request-via-else-request w ↦ and_left request.in_utf8 (not (is_enabled g.V.View.mode)) w.if-request.false
     ] in
-    subst (λ (advance : Put). Makes c.args.outside.now c.put_completed.new.outside (fault_of c.put_completed.result) (put_changes request.flags c.args.date.now (completed request.octets.now) advance))
+    subst (λ (advance : Put). Makes c.args.outside.now c.put_completed.new.outside (fault_of c.put_completed.result) (put_changes request.flags (oracles.mark_of (completed request.octets.now)) c.args.date.now (completed request.octets.now) advance))
     (put_found oracles g.V.View.mode c.args.account c.args.outside.now.desk.store request c.in-Some.folder found may) (c.put_completed.ensures.makes oracles are)
