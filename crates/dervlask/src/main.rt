@@ -46,7 +46,49 @@ fn finished<R: Read, W: Write>(status: u8, wire: &mut StdWire<R, W>) -> u8 {
     }
 }
 
-// Runs the command that the words name, over standard input and output, and says why it failed.
+// Lets all go out that was given, and says what was cut and why the command failed. The status that the program ends with.
+fn status_told<T, R, W>(
+    rt: &T,
+    status: u8,
+    wire: &mut StdWire<R, W>,
+    keeper: &mut FileKeeper<&T>,
+    dial: &TcpDial<&T>,
+) -> u8
+where
+    T: Net<Listener = TcpListener, Stream = TcpStream>
+        + Files<File = File>
+        + Eprint
+        + Alloc<A = Global>,
+    R: Read,
+    W: Write,
+{
+    let status = finished(status, wire);
+    let _cut = tell_cut(rt, keeper);
+    let _told = tell_failure(rt, status, wire, keeper);
+    let _help = tell_help(rt, status);
+    let _left = tell_left(rt, status, dial);
+    status
+}
+
+// Runs the command that the words name over a wire, and says why it failed. The status that the program ends with.
+fn run_over<T, R, W>(rt: &T, words: &Words, wire: &mut StdWire<R, W>) -> u8
+where
+    T: Net<Listener = TcpListener, Stream = TcpStream>
+        + Files<File = File>
+        + Clock
+        + Eprint
+        + Alloc<A = Global>,
+    R: Read,
+    W: Write,
+{
+    let mut keeper = FileKeeper::new(rt, JOURNAL, CUT);
+    let mut dial = TcpDial::new(rt.alloc(), rt);
+    let mut clock = SystemClock::new(rt);
+    let status = run(rt.alloc(), words, wire, &mut keeper, &mut dial, &mut clock);
+    status_told(rt, status, wire, &mut keeper, &dial)
+}
+
+// Runs it over standard input and output.
 fn run_words<T>(rt: &T, words: &Words) -> u8
 where
     T: Net<Listener = TcpListener, Stream = TcpStream>
@@ -62,23 +104,7 @@ where
         return WANT_OF_MEMORY;
     };
     let mut wire = StdWire::new(rt.reader(), output);
-    let mut keeper = FileKeeper::new(rt, JOURNAL, CUT);
-    let mut dial = TcpDial::new(rt.alloc(), rt);
-    let mut clock = SystemClock::new(rt);
-    let status = run(
-        rt.alloc(),
-        words,
-        &mut wire,
-        &mut keeper,
-        &mut dial,
-        &mut clock,
-    );
-    let status = finished(status, &mut wire);
-    let _cut = tell_cut(rt, &mut keeper);
-    let _told = tell_failure(rt, status, &wire, &keeper);
-    let _help = tell_help(rt, status);
-    let _left = tell_left(rt, status, &dial);
-    status
+    run_over(rt, words, &mut wire)
 }
 
 fn main(rt: HostRuntime) -> ExitCode {

@@ -1,5 +1,5 @@
 //! Serves connections to a port of this machine, one after the other.
-ghost use Rattle.std.specs.Prelude.{IfOk, IfSome};
+ghost use Rattle.std.specs.Prelude.{◌≡◌, IfOk, IfSome};
 ghost use Rattle.session_core.specs.Desks.{WorksWithin};
 ghost use Rattle.session_core.specs.declared.desk.TheConstants.{LIMITS};
 
@@ -35,7 +35,7 @@ fn tell_port<T: Eprint + Alloc<A = Global>>(rt: &T, port: u16, error: io::Error)
     tell(rt, place.as_str(), error)
 }
 
-// Whether there is no journal. One that is opened to be served from is made where there is none.
+// Whether there is no journal.
 fn lacks_journal<F: Files<File = File>>(files: &F) -> bool {
     match fs::symlink_metadata(files, JOURNAL) {
         Ok(_) => false,
@@ -57,37 +57,150 @@ fn finished(served: Served, wire: &mut TcpWire) -> Served {
     }
 }
 
-// Serves a connection, and says why it ended if its client didn't end it. The desk for the next one.
+// Serves a session over a wire, from the desk that was kept. How it ended, and the desk for the next one.
+fn serve_from<T>(
+    rt: &T,
+    role: Role,
+    kept: Option<Desk>,
+    wire: &mut TcpWire,
+    keeper: &mut FileKeeper<&T>,
+) -> Result<(Served, Option<Desk>), OpenFault>
+where
+    T: Files<File = File> + Clock + Alloc<A = Global>,
+    requires { IfSome kept (WorksWithin LIMITS) }
+    ensures { IfOk result (λ advance. IfSome advance.1 (WorksWithin LIMITS)) }
+{
+    let mut clock = SystemClock::new(rt);
+    match serve_next(rt.alloc(), role, kept, wire, keeper, &mut clock) {
+        Ok(advance) => Ok(advance),
+        // Opened anew, a desk may do with less, and what was read of the journal is read once more.
+        Err(_) => serve_next(rt.alloc(), role, None, wire, keeper, &mut clock),
+    }
+}
+
+// Serves a session over a wire, and leaves the desk for the next one. How it ended.
+fn serve_wire<T>(
+    rt: &T,
+    role: Role,
+    kept: &mut Option<Desk>,
+    wire: &mut TcpWire,
+    keeper: &mut FileKeeper<&T>,
+) -> Result<Served, OpenFault>
+where
+    T: Files<File = File> + Clock + Alloc<A = Global>,
+    requires { IfSome kept.old (WorksWithin LIMITS) }
+    ensures { IfSome kept.new (WorksWithin LIMITS) }
+{
+    let (served, next) = serve_from(rt, role, kept.take(), wire, keeper)?;
+    *kept = next;
+    Ok(served)
+}
+
+// Serves a connection, and says why it ended if its client didn't end it. It leaves the desk for the next one.
 fn serve_stream<T>(
     rt: &T,
     role: Role,
     number: u32,
     stream: TcpStream,
-    kept: Option<Desk>,
+    kept: &mut Option<Desk>,
     keeper: &mut FileKeeper<&T>,
-) -> Result<Option<Desk>, OpenFault>
+) -> Result<(), OpenFault>
 where
     T: Files<File = File> + Clock + Eprint + Alloc<A = Global>,
-    requires { IfSome kept (WorksWithin LIMITS) }
-    ensures { IfOk result (λ kept. IfSome kept (WorksWithin LIMITS)) }
+    requires { IfSome kept.old (WorksWithin LIMITS) }
+    ensures { IfSome kept.new (WorksWithin LIMITS) }
 {
     let patience = Duration::from_secs(role.patience());
     let mut wire = match TcpWire::new(rt.alloc(), stream, patience) {
         Ok(wire) => wire,
         Err(error) => {
             let _told = tell_connection(rt, number, error);
-            return Ok(kept);
+            return Ok(());
         }
     };
-    let mut clock = SystemClock::new(rt);
-    let (served, kept) = match serve_next(rt.alloc(), role, kept, &mut wire, keeper, &mut clock) {
-        Ok(advance) => advance,
-        // Opened anew, a desk may do with less, and what was read of the journal is read once more.
-        Err(_) => serve_next(rt.alloc(), role, None, &mut wire, keeper, &mut clock)?,
-    };
+    let served = serve_wire(rt, role, kept, &mut wire, keeper)?;
     let served = finished(served, &mut wire);
     let _told = tell_served(rt, number, served, &wire, keeper);
-    Ok(kept)
+    Ok(())
+}
+
+// The next connection, or none: then it is said why.
+fn accepted<T: Eprint + Alloc<A = Global>>(rt: &T, listener: &TcpListener) -> Option<TcpStream> {
+    match listener.accept() {
+        Ok((stream, _)) => Some(stream),
+        Err(error) => {
+            let _told = tell(rt, "accepting", error);
+            None
+        }
+    }
+}
+
+// Serves so many connections, the first of them from the desk that is kept. The status that the program ends with, or why the desk can't
+// be opened.
+fn serve_each<T>(
+    rt: &T,
+    role: Role,
+    connections: u32,
+    listener: &TcpListener,
+    kept: &mut Option<Desk>,
+    keeper: &mut FileKeeper<&T>,
+) -> Result<u8, OpenFault>
+where
+    T: Files<File = File> + Clock + Eprint + Alloc<A = Global>,
+    requires { IfSome kept.old (WorksWithin LIMITS) }
+{
+    for number in 1..=connections {
+        let Some(stream) = accepted(rt, listener) else {
+            return Ok(WIRE_FAULT);
+        };
+        serve_stream(rt, role, number, stream, kept, keeper)?;
+        let _cut = tell_cut(rt, keeper);
+        keeper.release();
+    }
+    Ok(DONE)
+}
+
+// The desk, or none where its store has no domain.
+fn with_domain(desk: Desk) -> Result<Option<Desk>, OpenFault>
+    ensures { IfOk result (λ kept. IfSome kept (λ same. same ≡ desk)) }
+{
+    match has_domain(&desk) {
+        Ok(true) => Ok(Some(desk)),
+        Ok(false) => Ok(None),
+        Err(_) => Err(OpenFault::Memory),
+    }
+}
+
+// The desk over the journal, or none where there is no journal or it has no domain. Opening makes one where there is none.
+fn open_served<T>(rt: &T, keeper: &mut FileKeeper<&T>) -> Result<Option<Desk>, OpenFault>
+where
+    T: Files<File = File> + Eprint + Alloc<A = Global>,
+    ensures { IfOk result (λ kept. IfSome kept (WorksWithin LIMITS)) }
+{
+    if lacks_journal(rt) {
+        return Ok(None);
+    }
+    let desk = open_desk(rt.alloc(), keeper, LIMITS)?;
+    let _cut = tell_cut(rt, keeper);
+    with_domain(desk)
+}
+
+// Serves so many connections, the first of them from this desk.
+fn serve_from_first<T>(
+    rt: &T,
+    role: Role,
+    connections: u32,
+    listener: &TcpListener,
+    first: Desk,
+    keeper: &mut FileKeeper<&T>,
+) -> Result<u8, OpenFault>
+where
+    T: Files<File = File> + Clock + Eprint + Alloc<A = Global>,
+    requires { WorksWithin LIMITS first }
+{
+    let mut kept = Some(first);
+    keeper.release();
+    serve_each(rt, role, connections, listener, &mut kept, keeper)
 }
 
 // Serves so many connections. The status that the program ends with, or why the desk can't be opened.
@@ -101,31 +214,25 @@ fn serve_all<T>(
 where
     T: Files<File = File> + Clock + Eprint + Alloc<A = Global>,
 {
-    if lacks_journal(rt) {
-        return Ok(refuse_journal(rt));
+    match open_served(rt, keeper)? {
+        Some(first) => serve_from_first(rt, role, connections, listener, first, keeper),
+        None => Ok(refuse_journal(rt)),
     }
-    let desk = open_desk(rt.alloc(), keeper, LIMITS)?;
-    let _cut = tell_cut(rt, keeper);
-    match has_domain(&desk) {
-        Ok(true) => {}
-        Ok(false) => return Ok(refuse_journal(rt)),
-        Err(_) => return Err(OpenFault::Memory),
+}
+
+// Serves so many connections by this listener. The status that the program ends with.
+fn serve_by<T>(rt: &T, role: Role, connections: u32, listener: &TcpListener) -> u8
+where
+    T: Files<File = File> + Clock + Input + Print + Eprint + Alloc<A = Global>,
+{
+    let mut keeper = FileKeeper::new(rt, JOURNAL, CUT);
+    match serve_all(rt, role, connections, listener, &mut keeper) {
+        Ok(status) => status,
+        Err(fault) => {
+            let _cut = tell_cut(rt, &mut keeper);
+            status_unopened(rt, fault, &keeper)
+        }
     }
-    let mut kept = Some(desk);
-    keeper.release();
-    for number in 1..=connections {
-        let stream = match listener.accept() {
-            Ok((stream, _)) => stream,
-            Err(error) => {
-                let _told = tell(rt, "accepting", error);
-                return Ok(WIRE_FAULT);
-            }
-        };
-        kept = serve_stream(rt, role, number, stream, kept, keeper)?;
-        let _cut = tell_cut(rt, keeper);
-        keeper.release();
-    }
-    Ok(DONE)
 }
 
 /// Serves so many connections to this port of 127.0.0.1, each by one session of the role, and answers the status that the program ends
@@ -148,12 +255,5 @@ where
         }
     };
     let _told = eprintln!(rt; "dervlask: {} on 127.0.0.1, port {port}", role.word());
-    let mut keeper = FileKeeper::new(rt, JOURNAL, CUT);
-    match serve_all(rt, role, connections, &listener, &mut keeper) {
-        Ok(status) => status,
-        Err(fault) => {
-            let _cut = tell_cut(rt, &mut keeper);
-            status_unopened(rt, fault, &keeper)
-        }
-    }
+    serve_by(rt, role, connections, &listener)
 }

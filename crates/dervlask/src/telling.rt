@@ -116,6 +116,32 @@ pub fn tell_connection<T: Eprint + Alloc<A = Global>>(
     }
 }
 
+// Says why the wire of a connection failed.
+fn tell_wire<T: Eprint + Alloc<A = Global>>(rt: &T, number: u32, wire: &TcpWire) -> io::Result<()> {
+    match wire.failure() {
+        Some(WireFailure::Input(error) | WireFailure::Output(error)) => {
+            tell_connection(rt, number, error)
+        }
+        None => Ok(()),
+    }
+}
+
+// Says why the keeper failed while a connection was served.
+fn tell_keeper<T, F>(rt: &T, number: u32, keeper: &FileKeeper<F>) -> io::Result<()>
+where
+    T: Eprint + Alloc<A = Global>,
+    F: Files<File = File>,
+{
+    match keeper.failure() {
+        Some(failure) => {
+            let (file, error) = place_and_error(failure);
+            let place = format!(in rt.alloc(); "connection {number}: {file}")?;
+            tell(rt, place.as_str(), error)
+        }
+        None => Ok(()),
+    }
+}
+
 /// Says why a connection came to its end before its client ended it.
 pub fn tell_served<T, F>(
     rt: &T,
@@ -130,20 +156,8 @@ where
 {
     match served {
         Served::Ended => Ok(()),
-        Served::WireFault => match wire.failure() {
-            Some(WireFailure::Input(error) | WireFailure::Output(error)) => {
-                tell_connection(rt, number, error)
-            }
-            None => Ok(()),
-        },
-        Served::KeeperFault => match keeper.failure() {
-            Some(failure) => {
-                let (file, error) = place_and_error(failure);
-                let place = format!(in rt.alloc(); "connection {number}: {file}")?;
-                tell(rt, place.as_str(), error)
-            }
-            None => Ok(()),
-        },
+        Served::WireFault => tell_wire(rt, number, wire),
+        Served::KeeperFault => tell_keeper(rt, number, keeper),
         Served::Memory => eprintln!(rt; "dervlask: connection {number}: out of memory"),
         Served::Limit => eprintln!(rt; "dervlask: connection {number}: it took 1 GiB"),
     }
