@@ -8,12 +8,14 @@ use Rattle.ace_domains.specs.Domains.{HasInnerHyphens, HasLabelLength}
 use Rattle.ace_domains.proofs.HostNameLemmas.{host_name_own}
 use Rattle.journal_records.specs.Addresses.{IsDomainText}
 use Rattle.journal_records.specs.Spelling.{journal}
+use Rattle.journal_records.specs.declared.versions.Version.TheVariants.{Two}
 use Rattle.kept_mail.specs.Kept.{Kept, nothing, store_of}
 use Rattle.kept_mail.specs.Records.{AreRecords}
 use Rattle.mail_store.specs.Answers.{OpensTo}
 use Rattle.mail_store.specs.Opening.{IsBadAt}
 use Rattle.mail_store.proofs.Readings.{records_not_bad, same_records}
-use Rattle.mail_store.proofs.ReplayLemmas.{whole_journal}
+use Rattle.mail_store.proofs.OpenLemmas.{upgraded_kept}
+use Rattle.mail_store.proofs.SettleLemmas.{whole_journal}
 use Rattle.mail_command.specs.private.Account.{domain, first_records}
 
 -- ---- the domain
@@ -84,13 +86,14 @@ address_is_path =
 
 -- ---- the records
 
-are_records : AreRecords nothing first_records
+are_records : AreRecords Two nothing first_records
 are_records = (
-  record { fits = omega arith; short = omega arith; in_order = (domain_is_text, omega arith) },
+  record { fits = omega arith; short = omega arith; of_version = tt; in_order = (domain_is_text, omega arith) },
   (
     record {
       fits = (omega arith, omega arith);
       short = omega arith;
+      of_version = tt;
       in_order = (((record { local = codes "a"; domain = domain }, address_is_path), omega arith), omega arith, omega arith, omega arith);
     },
     tt,
@@ -98,10 +101,10 @@ are_records = (
 )
 
 -- what is kept of them, and nothing more
-pub opens_to_account : (opened : Option (List ℕ)) (kept : Kept) → OpensTo (journal first_records) opened kept → kept ≡ store_of first_records
+pub opens_to_account : (opened : Option (List ℕ)) (kept : Kept) → OpensTo (journal Two first_records) opened kept → kept ≡ store_of first_records
 opens_to_account opened kept opens =
-    let same = same_records (journal first_records) opens.all first_records opens.had (whole_journal first_records are_records) in
-    opens.kept_is ∙ ap store_of same
+    let same = same_records (journal Two first_records) opens.first first_records (opens.version, opens.had) (Two, whole_journal Two first_records are_records) in
+    opens.kept_is ∙ ap store_of opens.all_is ∙ upgraded_kept opens.version opens.first ∙ ap store_of same
 
-pub account_not_bad : (at : ℕ) → IsBadAt (journal first_records) at → ⊥
-account_not_bad at bad = records_not_bad (journal first_records) first_records at (whole_journal first_records are_records) bad
+pub account_not_bad : (at : ℕ) → IsBadAt (journal Two first_records) at → ⊥
+account_not_bad at bad = records_not_bad (journal Two first_records) first_records at (Two, whole_journal Two first_records are_records) bad

@@ -17,17 +17,16 @@ use Rattle.journal_records.specs.Spelling.{journal}
 use Rattle.mail_store.specs.StoreState.{StoreState}
 use Rattle.session_core.proofs.DoneLemmas.{records_in-append}
 use Rattle.mail_store.proofs.FollowLemmas.{followed, broken}
-use Rattle.mail_store.proofs.ReplayLemmas.{whole_journal}
-use Rattle.setup_command.proofs.AddingLemmas.{records_had, opened_store}
+use Rattle.mail_store.proofs.SettleLemmas.{opened_store, whole_journal}
 use Rattle.setup_command.specs.Running.{HoldsBegun}
 
 -- the keeper of a store has the first of whatever records begin with those that were put last
 HoldsFirst-made : (store : StoreState) (octets : Option (List ℕ)) (all made left : List Record) → IsStoreOf store octets (all ++ made) → HoldsFirst octets all (made ++ left)
 HoldsFirst-made store octets all made left is = record {
-  kept = journal (all ++ made);
+  kept = journal is.version (all ++ made);
   count = length made;
   holds = is.holds;
-  records = rw (take-append_seam made left) (whole_journal (all ++ made) is.records);
+  records = rw (take-append_seam made left) (is.version, whole_journal is.version (all ++ made) is.records);
 }
 
 -- the first of the front of some records are the first of all of them
@@ -77,9 +76,10 @@ first_held spelled store after had has (Some fault.Memory) all acts given is mad
 pub begun_held : {P : Type 0} (spelled : P → List ℕ) (old : Option (List ℕ)) (store after : StoreState) (opened new : Option (List ℕ)) (met : Option Fault) (acts : List (Act P)) (given : List ℕ)
     → IfSome old (λ octets. OpensTo octets opened store.kept) → IsDone spelled store after opened new met acts given → IfSome old (λ octets. HoldsBegun new store (changes_in acts))
 begun_held spelled old store after opened new met acts given opens made =
-    IfSome_then old {P = λ octets. OpensTo octets opened store.kept} opens (λ octets to. record {
+    IfSome_then old {P = λ octets. OpensTo octets opened store.kept} opens (λ octets to. let is = opened_store octets opened store to in record {
+      version = is.version;
       all = to.all;
-      records = records_had octets to.all to.had;
+      records = is.records;
       fold = to.kept_is;
-      holds = first_held spelled store after opened new met to.all acts given (opened_store octets opened store to) made;
+      holds = first_held spelled store after opened new met to.all acts given is made;
     })

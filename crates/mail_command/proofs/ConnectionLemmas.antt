@@ -10,6 +10,7 @@ use Rattle.mail_wire.specs.declared.outside.Fault.{Fault}
 use Rattle.mail_wire.specs.declared.outside.Fault.TheVariants as fault
 use Rattle.journal_records.specs.Spelling.{journal}
 use Rattle.journal_records.specs.declared.records.Record.{Record}
+use Rattle.journal_records.specs.declared.versions.Version.{Version}
 use Rattle.mail_store.specs.Answers.{OpensTo}
 use Rattle.mail_store.specs.Catching.{HasReadFirst}
 use Rattle.mail_store.specs.Changing.{IsStoreOf}
@@ -19,6 +20,7 @@ use Rattle.mail_store.specs.declared.opening.OpenFault.{OpenFault}
 use Rattle.mail_store.specs.declared.opening.OpenFault.TheVariants as faults
 use Rattle.mail_store.proofs.CatchLemmas.{after_journal, end_changed}
 use Rattle.mail_store.proofs.FollowLemmas.{followed}
+use Rattle.mail_store.proofs.SettleLemmas.{opened_store}
 use Rattle.session_core.specs.Acts.{Act, changes_in}
 use Rattle.session_core.specs.Around.{Around}
 use Rattle.session_core.specs.Desks.{HasFirst, IsNextCache, IsOpen, OpensOrCatchesUp, WorksWithin}
@@ -33,7 +35,6 @@ use Rattle.session_core.specs.declared.serving.Served.{Served}
 use Rattle.session_core.specs.declared.serving.Served.TheVariants as ended_as
 use Rattle.session_core.proofs.CaughtLemmas.{WorksWithin-open}
 use Rattle.session_core.proofs.MeaningLemmas.{oracles_given}
-use Rattle.setup_command.proofs.AddingLemmas.{opened_store}
 use Rattle.mail_command.specs.Connections.{GoesOnFrom, ServesNext}
 use Rattle.mail_command.proofs.InstanceLemmas.{with_instance}
 use Rattle.mail_command.proofs.SessionLemmas.{IsLent}
@@ -94,23 +95,24 @@ put_by protocol before now advance serves fine =
     let lawful = (serves.holds oracles_given.0 oracles_given.1 []).serves.lawful in
     put_last instance.spelled before.desk.store now.desk.store before.keeper.octets now.keeper.octets (met_of advance) _ _ fine lawful.done
 
--- the store has what the keeper begins with, whatever comes after that
-reads_first : (store after : StoreState) (opened new : Option (List ℕ)) (all more : List Record) → IsStoreOf store opened all → store.end ≡ length (journal all) → Follows store after opened new more
-    → IfSome new (λ has. (following : List ℕ) → HasReadFirst after (has ++ following) (all ++ more))
-reads_first store after opened new all more is end follows =
+-- the store has what the keeper begins with, whatever comes after that; a journal is as long in either version
+reads_first : (version : Version) (store after : StoreState) (opened new : Option (List ℕ)) (all more : List Record) → IsStoreOf store opened all → store.end ≡ length (journal version all)
+    → Follows store after opened new more → IfSome new (λ has. (following : List ℕ) → HasReadFirst after (has ++ following) (all ++ more))
+reads_first version store after opened new all more is end follows =
     let now = followed store after opened new all more is follows in
-    let ended = end_changed store after opened new all more end (follows.records, follows.store, follows.journal) in
+    let ended = end_changed version store after opened new all more end (follows.records, follows.store, follows.journal) in
     subst (λ (o : Option (List ℕ)). IfSome o (λ has. (following : List ℕ) → HasReadFirst after (has ++ following) (all ++ more))) (sym now.holds)
-    (λ following. after_journal after (journal (all ++ more)) (all ++ more) following (record { records = now.records; kept_is = now.kept_is; holds = refl }) ended)
+    (λ following. after_journal version after (journal now.version (all ++ more)) (all ++ more) following
+    (record { version = now.version; records = now.records; last_version = now.last_version; kept_is = now.kept_is; holds = refl }) ended)
 
 goes_by : (old opened new : Option (List ℕ)) (kept : Option Desk) (store : StoreState) (left : Desk) → IfSome old (λ octets. HasFirst kept octets → OpensTo octets opened store.kept)
     → IfSome opened (λ octets. store.end ≡ length octets) → PutLast store left.store opened new → GoesOnFrom kept (Some left) old new
 goes_by None opened new kept store left opens place put = tt
 goes_by (Some octets) opened new kept store left opens place put = λ first.
     let to = opens first in
-    let end : store.end ≡ length (journal to.all) = subst (λ (o : Option (List ℕ)). IfSome o (λ l. store.end ≡ length l)) to.holds place in
+    let end : store.end ≡ length (journal to.version to.all) = subst (λ (o : Option (List ℕ)). IfSome o (λ l. store.end ≡ length l)) to.holds place in
     IfSome_then new {P = λ has. (following : List ℕ) → HasReadFirst left.store (has ++ following) (to.all ++ put.more)}
-    (reads_first store left.store opened new to.all put.more (opened_store octets opened store to) end put.follows) (λ has reads following. (to.all ++ put.more, reads following))
+    (reads_first to.version store left.store opened new to.all put.more (opened_store octets opened store to) end put.follows) (λ has reads following. (to.all ++ put.more, reads following))
 
 pub goes_on : (protocol : Protocol) (before now : Around) (new : Option (List ℕ)) (kept : Option Desk) (limits : Limits) (old : Option (List ℕ)) (advance : Served) (left : Desk) → IsReadied before kept limits old
     → ServesBy protocol before now advance → ¬ (met_of advance ≡ Some fault.Keeper) → now.keeper.octets ≡ new → left ≡ now.desk → GoesOnFrom kept (Some left) old new

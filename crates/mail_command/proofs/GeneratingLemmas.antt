@@ -60,9 +60,9 @@ room_there store octets limit few short =
     rw (size, many) refl
 
 -- one more is there
-pub append_counts : (old new : StoreState) (had has : Option (List ℕ)) (folder flags : ℕ) (date octets : List ℕ) → append_refusal old octets ≡ None
-    → IsChanged old new had has None (append_changes old folder flags date octets) → length new.kept.messages ≡ length old.kept.messages + 1
-append_counts old new had has folder flags date octets none changed =
+pub append_counts : (old new : StoreState) (had has : Option (List ℕ)) (folder flags mark : ℕ) (date octets : List ℕ) → append_refusal old octets ≡ None
+    → IsChanged old new had has None (append_changes old folder flags mark date octets) → length new.kept.messages ≡ length old.kept.messages + 1
+append_counts old new had has folder flags mark date octets none changed =
     let follows = rw none at changed in
     ap (λ (store : StoreState). length store.kept.messages) follows.store ∙ length-append old.kept.messages _
 

@@ -1,8 +1,8 @@
--- The messages that `gen` makes may be kept.
-use Rattle.std.proofs.Common.{◌≡◌, ◌+◌, ◌%◌, ◌<◌, ◌≤◌, ◌^◌, ◌&&◌, [], ◌∷◌, ◌++◌, ◌∙◌}
+-- The messages that `gen` makes may be kept, and their mark.
+use Rattle.std.proofs.Common.{◌≡◌, ◌+◌, ◌%◌, ◌<◌, ◌≤◌, ◌^◌, ◌&&◌, ◌||◌, [], ◌∷◌, ◌++◌, ◌∙◌}
 use Rattle.std.proofs.Common.{ℕ, zero, suc, Bool, true, false, List, length, codes, None, Some, inl, inr, refl, sym, ap, subst, arith, append_assoc}
 use Rattle.std.specs.Prelude.{decimal, nat_le, nat_lt, not, slice_get}
-use Rattle.std.specs.List.{concat, list_all}
+use Rattle.std.specs.List.{concat, list_all, list_any}
 use Rattle.std.proofs.lemmas.Bool.{and_from, and_parts}
 use Rattle.std.proofs.lemmas.Bool.Decides.{nat_tests}
 use Rattle.std.proofs.lemmas.Fmt.{IsAscii-decimal, decimal_by_steps}
@@ -12,20 +12,20 @@ use Rattle.std.proofs.lemmas.List.Folds.{list_all-append}
 use Rattle.std.proofs.lemmas.Str.{IsUtf8-append, IsUtf8-from_ascii}
 use Rattle.mail_wire.specs.Lines.{crlf, is_crlf, lines_of}
 use Rattle.mail_wire.specs.Message.{IsSound}
-use Rattle.mail_wire.specs.Octets.{is_line_end, same_name}
+use Rattle.mail_wire.specs.Octets.{is_ascii, is_high, is_line_end, same_name}
 use Rattle.mail_wire.proofs.AllLemmas.{pass-append, pass-weaker}
 use Rattle.mail_wire.proofs.Folded.{IsFolded-plain}
 use Rattle.utf8_fields.proofs.LineShapes.{EndsOnce, before_once}
 use Rattle.mime_tree.specs.Openings.{IsOtherField, Opens}
-use Rattle.mime_tree.specs.Tree.{IsEntity}
+use Rattle.mime_tree.specs.Tree.{HasTree, IsEntity, has_high_block}
 use Rattle.mime_tree.specs.declared.entity.Entity.{Entity}
 use Rattle.mime_tree.specs.declared.entity.Shape.TheVariants.{Leaf}
 use Rattle.mime_tree.specs.declared.openings.Opening.TheVariants.{Nothing}
 use Rattle.mime_tree.proofs.EndedLines.{sound_ended}
 use Rattle.mime_tree.proofs.FieldLines.{is_safe, no_nul_in_safe}
 use Rattle.mime_tree.proofs.LinesAgain.{lines_of-ended}
-use Rattle.mime_tree.proofs.KeptTrees.{fields_before}
-use Rattle.journal_records.specs.Stored.{IsStored}
+use Rattle.mime_tree.proofs.KeptTrees.{fields_before, high_after}
+use Rattle.journal_records.specs.Stored.{HasMark, IsStored}
 use Rattle.mail_command.specs.Generating.{generated, space_and_e_acute}
 
 -- ---- digits
@@ -55,6 +55,16 @@ digit_at : (xs : List ℕ) → list_all is_digit xs ≡ true → (at x : ℕ) �
 digit_at [] all at x is = cc is
 digit_at (y ∷ xs) all zero x is = let same : y ≡ x = cc is in subst (λ z. 48 ≤ z) same (digit_large y (and_parts (is_digit y) (list_all is_digit xs) all).0)
 digit_at (y ∷ xs) all (suc at) x is = digit_at xs (and_parts (is_digit y) (list_all is_digit xs) all).1 at x is
+
+-- ---- octets above 127
+
+not_both : (a b : Bool) → not b ≡ true → not (a && b) ≡ true
+not_both true b is = is
+not_both false b is = refl
+
+-- one that stands after others
+high_back : (front back : List ℕ) → is_high back ≡ true → is_high (front ++ back) ≡ true
+high_back front back is = ap not (list_all-append is_ascii front back) ∙ not_both (list_all is_ascii front) (list_all is_ascii back) is
 
 -- ---- the empty line and a line of digits
 
@@ -166,18 +176,47 @@ subject_other n small =
       no_encoding = refl;
     }
 
--- ---- the message
+-- ---- the message, whose header has an octet above 127
 
-after_field : (field octets : List ℕ) → IsOtherField field → IsStored octets → IsStored (field ++ octets)
-after_field field octets other stored =
-    let found = fields_before octets (field ∷ []) stored.entities stored.tree (All-from_recursion IsOtherField (field ∷ []) (other, tt)) in
-    record { entities = found.0; tree = rw (append-nil field) at found.1 }
+-- a message with a high header block
+record HasHigh (octets : List ℕ) : Type 0 where
+  entities : List Entity
+  tree : HasTree octets entities
+  high : has_high_block octets entities ≡ true
 
-pub generated_stored : (number : ℕ) → number < 2 ^ 64 → IsStored (generated number)
-generated_stored number small =
+or_true : (a : Bool) → (a || true) ≡ true
+or_true true = refl
+or_true false = refl
+
+-- a field is put before it
+after_field : (field octets : List ℕ) → IsOtherField field → (stored : IsStored octets) → (list_any is_high (field ∷ []) || has_high_block octets stored.entities) ≡ true → HasHigh (field ++ octets)
+after_field field octets other stored high =
+    let all = All-from_recursion IsOtherField (field ∷ []) (other, tt) in
+    let found = fields_before octets (field ∷ []) stored.entities stored.tree all in
+    subst (λ front. HasHigh (front ++ octets)) (append-nil field)
+    (record { entities = found.0; tree = found.1; high = high_after octets (field ∷ []) stored.entities found.0 stored.tree all found.1 ∙ high })
+
+subject_high : (digits : List ℕ) → is_high (codes "Subject:" ++ (subject digits ++ crlf)) ≡ true
+subject_high digits = high_back (codes "Subject: s") ((digits ++ space_and_e_acute) ++ crlf) (rw (append_assoc digits space_and_e_acute crlf) (high_back digits (space_and_e_acute ++ crlf) refl))
+
+generated_high : (number : ℕ) → number < 2 ^ 64 → HasHigh (generated number)
+generated_high number small =
     let digits = decimal number in
     let body = digits_stored digits (decimal_digits number small) in
-    let field = after_field (codes "Subject:" ++ (subject digits ++ crlf)) (crlf ++ (digits ++ crlf)) (subject_other number small) body in
+    let line : List ℕ = codes "Subject:" ++ (subject digits ++ crlf) in
+    let high : (list_any is_high (line ∷ []) || has_high_block (crlf ++ (digits ++ crlf)) body.entities) ≡ true = rw (subject_high digits) refl in
+    let field = after_field line (crlf ++ (digits ++ crlf)) (subject_other number small) body high in
     let front = append_assoc digits space_and_e_acute crlf in
     let back = append_assoc digits (space_and_e_acute ++ crlf) (crlf ++ (digits ++ crlf)) in
-    after_field from_field (codes "Subject: s" ++ (digits ++ (space_and_e_acute ++ (crlf ++ (crlf ++ (digits ++ crlf)))))) from_other (rw (front, back) at field)
+    let rest = rw (front, back) at field in
+    after_field from_field (codes "Subject: s" ++ (digits ++ (space_and_e_acute ++ (crlf ++ (crlf ++ (digits ++ crlf)))))) from_other (record { entities = rest.entities; tree = rest.tree })
+    (ap (λ b. list_any is_high (from_field ∷ []) || b) rest.high ∙ or_true (list_any is_high (from_field ∷ [])))
+
+-- the mark of high octets with a high header block
+pub generated_marked : (number : ℕ) → number < 2 ^ 64 → HasMark (generated number) 3
+generated_marked number small =
+    let has = generated_high number small in
+    let rest : List ℕ = decimal number ++ (space_and_e_acute ++ (crlf ++ (crlf ++ (decimal number ++ crlf)))) in
+    let any : is_high (generated number) ≡ true =
+    high_back from_field (codes "Subject: s" ++ rest) (high_back (codes "Subject: s") rest (high_back (decimal number) (space_and_e_acute ++ (crlf ++ (crlf ++ (decimal number ++ crlf)))) refl)) in
+    record { entities = has.entities; tree = has.tree; mark_is = rw (has.high, any) refl }

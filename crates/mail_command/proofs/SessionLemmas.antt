@@ -130,7 +130,7 @@ unopened_exact old a b met result observed =
 -- a journal that was opened isn't bad
 pub opened_exact : (old new : Option (List ℕ)) (store : StoreState) (status : ℕ) → IfSome old (λ octets. OpensTo octets new store.kept) → IfSome old (λ octets. IsExactJournal octets status)
 opened_exact old new store status opens =
-    IfSome_then old {P = λ octets. OpensTo octets new store.kept} opens (λ octets to at bad. absurd (records_not_bad octets to.all at to.had bad))
+    IfSome_then old {P = λ octets. OpensTo octets new store.kept} opens (λ octets to at bad. absurd (records_not_bad octets to.first at (to.version, to.had) bad))
 
 -- ---- causes
 

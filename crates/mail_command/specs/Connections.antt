@@ -10,8 +10,9 @@ use Rattle.session_core.specs.declared.desk.Limits.{Limits}
 use Rattle.session_core.specs.declared.serving.Served.{Served}
 
 -- A session was served from a desk within these limits, whose cache was that of the desk that was kept. If the journal went on from what
--- the kept desk had, the session's store was the fold of the whole records of the journal, whoever wrote them, and the keeper held them and
--- nothing more when it began; whatever it was, no record had gone. What is kept now is the desk as the session left it.
+-- the kept desk had, the session's store was the fold of the whole records of the journal, whoever wrote them. When it began, the keeper held
+-- them, and the record that begins version 2 after those of version 1, and nothing more. Whatever the journal was, no record had gone. What is
+-- kept now is the desk as the session left it.
 pub record ServesNext (instance : Instance) (kept left : Option Desk) (limits : Limits) (old new : Option (List ℕ)) (before now : WireState) (advance : Served) : Type 0 where
   pub begun : Around
   pub done : Around

@@ -1,7 +1,7 @@
 //! Serves the connections of a program, one after the other, from one desk.
 ghost use Rattle.std.specs.Prelude.{◌≡◌, ◌≢◌, ◌↔◌, [], IfErr, IfOk, IfSome, IsNone, IsTrue, OnErr};
 ghost use Rattle.mail_wire.specs.Keeping.{HasKeeperCause};
-ghost use Rattle.mail_store.specs.Answers.{IsJournalFault, LeavesRecords};
+ghost use Rattle.mail_store.specs.Answers.{IsJournalFault, LeavesRecords, PutsNothing};
 ghost use Rattle.session_core.specs.Desks.{WorksWithin};
 ghost use Rattle.session_core.specs.Serving.{OfInstance};
 ghost use Rattle.session_core.specs.declared.desk.TheConstants.{LIMITS};
@@ -54,6 +54,7 @@ pub fn serve_next<W: Wire, J: Keeper, C: Clock>(
     ensures quiet { OnErr result (W.observed wire.new ≡ W.observed wire.old) }
     ensures fault { IfErr result (λ fault. IfSome (J.observed keeper.old).octets (λ old. IsJournalFault old (J.observed keeper.new).octets fault)) }
     ensures leaves { OnErr result (LeavesRecords (J.observed keeper.old).octets (J.observed keeper.new).octets) }
+    ensures memory { IfErr result (λ fault. fault ≡ OpenFault.Memory → PutsNothing (J.observed keeper.old).octets (J.observed keeper.new).octets) }
     ensures cause { HasKeeperCause (J.observed keeper.old) (J.observed keeper.new) result OpenFault.Keeper }
 {
     let desk = next_desk(alloc, kept, keeper, LIMITS)?;

@@ -2,7 +2,8 @@
 ghost use Rattle.std.specs.Prelude.{◌≡◌, ◌<◌, ◌≤◌, ◌+◌, length, Err, IfOk, IsTrue, None, OnOk};
 ghost use Rattle.mail_wire.specs.Moves.{HasWireCause};
 ghost use Rattle.journal_records.specs.Spelling.{journal};
-ghost use Rattle.journal_records.specs.Stored.{IsStored};
+ghost use Rattle.journal_records.specs.Stored.{HasMark};
+ghost use Rattle.journal_records.specs.declared.versions.Version.TheVariants as versions;
 ghost use Rattle.kept_mail.specs.Kept.{store_of};
 ghost use Rattle.session_core.specs.Desks.{IsOpen, stored_octets};
 ghost use Rattle.session_core.specs.Keeps.{Keeps};
@@ -17,7 +18,7 @@ ghost use Rattle.mail_command.specs.private.Sure.{IsSure};
 use crate::figures::push_number_line;
 use crate::roles::{Role, serve_one};
 use itoa::Buffer;
-use mail_store::OpenFault;
+use mail_store::{Attributes, OpenFault};
 use mail_wire::{Fault, FixedClock, MemKeeper, MemWire, Memory, Octets, Wire, give_all};
 use session_core::{Delivered, Desk, LIMITS, Outside, Served, open_desk};
 use setup_command::DONE;
@@ -25,12 +26,15 @@ use std::alloc::Global;
 use surrogate_cache::Legacy;
 
 // A journal with the domain `example.org` and the account `a@example.org`, whose password is `a`.
-const JOURNAL: &[u8] = b"MAILJNL1\
+const JOURNAL: &[u8] = b"MAILJNL2\
 \0\0\0\x10\x02\0\0\0\x0bexample.org\
 \0\0\0\x17\x01\0\0\0\x0da@example.org\0\0\0\x01a";
 
 // The date of each message.
 const DATE: &[u8] = b"01-Jan-1970 00:00:00 +0000";
+
+// What is noted of each message. It has an octet above 127, and that stands in its header.
+const NOTED: Attributes = Attributes { flags: 0, mark: 3 };
 
 // How a client begins that enables UTF-8, and how every client goes on.
 const ENABLING: &[u8] = b"UTF8\r\n";
@@ -77,7 +81,7 @@ fn append_message(
     requires limits { outside.old.desk.limits ≡ LIMITS }
     requires few { length outside.old.desk.store.kept.messages < 100000 }
     requires short { length octets.now ≤ 100 }
-    requires tree { IsStored octets.now }
+    requires marked { HasMark octets.now 3 }
     requires known { folder < length outside.old.desk.store.kept.folders }
     ensures known { IfOk result (λ id. id < length outside.new.desk.store.kept.messages) }
     ensures octets { IfOk result (λ id. stored_octets outside.new.desk.store id ≡ octets.now) }
@@ -86,7 +90,7 @@ fn append_message(
     ensures folders { OnOk result (outside.new.desk.store.kept.folders ≡ outside.old.desk.store.kept.folders) }
 {
     let id = outside.store().message_count() as u32;
-    match outside.append(folder, 0, DATE, octets) {
+    match outside.append(folder, NOTED, DATE, octets) {
         Ok(Delivered::Stored) => Ok(id),
         Err(Fault::Memory) => Err(Memory),
         // There is room.
@@ -107,7 +111,7 @@ fn put_message(
     requires limits { outside.old.desk.limits ≡ LIMITS }
     requires few { length outside.old.desk.store.kept.messages < 100000 }
     requires short { length octets.now ≤ 100 }
-    requires tree { IsStored octets.now }
+    requires marked { HasMark octets.now 3 }
     requires known { folder < length outside.old.desk.store.kept.folders }
     ensures sizes { IfOk result (AreSizes octets.now) }
     ensures keeps { OnOk result (Keeps outside.old outside.new None) }
@@ -149,7 +153,7 @@ fn put_messages(
 
 // Opens the journal that has the one account.
 fn open_first(alloc: Global, keeper: &mut MemKeeper) -> Result<Desk, Memory>
-    requires octets { keeper.old.octets ≡ journal first_records }
+    requires octets { keeper.old.octets ≡ journal versions.Two first_records }
     requires sure { IsTrue keeper.old.never_fails }
     ensures opens { IfOk result IsOpen }
     ensures limits { IfOk result (λ desk. desk.limits ≡ LIMITS) }

@@ -2,7 +2,7 @@ use Rattle.std.proofs.Common.{None, length, ap, ◌<◌, ◌^◌, ◌∙◌, ari
 use Rattle.kept_mail.specs.Kept.{Kept}
 use Rattle.session_core.proofs.KeepsLemmas.{Keeps-nil, Keeps-then}
 use Rattle.mail_command.proofs.GeneratingLemmas.{generated_short, no_totals, opens_still, sure_still, totals_more}
-use Rattle.mail_command.proofs.MadeLemmas.{generated_stored}
+use Rattle.mail_command.proofs.MadeLemmas.{generated_marked}
 use Rattle.mail_command.proofs.generating.put_messages.Goals as goal
 
 pub loop-message-init : goal.loop-message-init
@@ -51,8 +51,8 @@ put_message-requires-clause-short c =
     let few = c.requires.few in
     rw (c.as_slice.ensures, c.in_ok-octets.ensures) (generated_short c.loop-message.message (omega (arith, within, few)))
 
-pub put_message-requires-clause-tree : goal.put_message-requires-clause-tree
-put_message-requires-clause-tree c =
+pub put_message-requires-clause-marked : goal.put_message-requires-clause-marked
+put_message-requires-clause-marked c =
     let within : c.loop-message.message < c.args.number = search rules in
     let few = c.requires.few in
-    rw (c.as_slice.ensures, c.in_ok-octets.ensures) (generated_stored c.loop-message.message (omega (arith, within, few)))
+    rw (c.as_slice.ensures, c.in_ok-octets.ensures) (generated_marked c.loop-message.message (omega (arith, within, few)))
