@@ -61,7 +61,9 @@ RCPT TO:<ANN@example.org>\r\nRCPT TO:<bob@example.org>\r\nDATA\r\nSubject: \xc3\
     keeper_calls: OPENING_CALLS + 1,
 };
 
-const DELIVERED: &[u8] = b"\0\0\0\xb2\x04\0\0\0\0\0\0\0\0\x1a01-Jan-1970 00:00:00 +0000\0\0\0\x8a\
+// The mark says that the message is high, and its header too.
+const DELIVERED: &[u8] =
+    b"\0\0\0\xb3\x09\0\0\0\0\0\x03\0\0\0\x1a01-Jan-1970 00:00:00 +0000\0\0\0\x8a\
 Return-Path: <jos\xc3\xa9@example.com>\r\n\
 Received: from client by example.org with UTF8SMTP; Thu, 01 Jan 1970 00:00:00 +0000\r\n\
 Subject: \xc3\xa9\r\n\r\n.x\r\n";

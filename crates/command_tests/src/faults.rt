@@ -262,7 +262,7 @@ fn an_account_that_is_not_kept_is_no_account(rt: HostRuntime) -> Result<(), Fail
 }
 
 // The journal of the domain `x.org`.
-const DOMAIN: &[u8] = b"MAILJNL1\0\0\0\x0a\x02\0\0\0\x05x.org";
+const DOMAIN: &[u8] = b"MAILJNL2\0\0\0\x0a\x02\0\0\0\x05x.org";
 
 #[test]
 fn a_journal_opens_wherever_it_is_cut(rt: HostRuntime) -> Result<(), Fail> {
@@ -275,7 +275,43 @@ fn a_journal_opens_wherever_it_is_cut(rt: HostRuntime) -> Result<(), Fail> {
     Ok(())
 }
 
-const BAD: &[u8] = b"MAILJNL1\0\0\0\x01\x09";
+// The same journal in version 1, and the record by which it goes on in version 2.
+const OLD: &[u8] = b"MAILJNL1\0\0\0\x0a\x02\0\0\0\x05x.org";
+
+const UPGRADED: &[u8] = b"MAILJNL1\0\0\0\x0a\x02\0\0\0\x05x.org\0\0\0\x01\x0b";
+
+#[test]
+fn a_journal_of_version_1_goes_on_in_version_2(rt: HostRuntime) -> Result<(), Fail> {
+    let alloc = rt.alloc();
+    // It is opened by the calls that open one of version 2, and one that appends.
+    let call = opening_calls(alloc, DOMAIN)?;
+    let later = opening_calls(alloc, OLD)?;
+    assert!(rt; later == call.saturating_add(1));
+    // Opened again, nothing is appended.
+    for journal in [OLD, UPGRADED] {
+        let opened = outcome_of_words(alloc, &["pop"], journal, Failing::Nothing)?;
+        assert!(rt; opened.status == 0 && opened.journal.as_slice() == UPGRADED);
+    }
+    for kept in 0..6 {
+        let failing = Failing::Keeper(Failure { call, kept });
+        let cut = outcome_of_words(alloc, &["pop"], OLD, failing)?;
+        let left = first(UPGRADED, OLD.len().saturating_add(kept));
+        assert!(rt;
+            cut.status == 2 && cut.given.is_empty() && cut.journal.as_slice() == left,
+            "at {kept}"
+        );
+        let opens = opens_with(alloc, &cut, UPGRADED, UPGRADED.len())?;
+        assert!(rt; opens, "at {kept}");
+    }
+    Ok(())
+}
+
+// Records that end version 1 stand in that version alone, and messages have their fields.
+const BAD: [&[u8]; 3] = [
+    b"MAILJNL2\0\0\0\x01\x0b",
+    b"MAILJNL2\0\0\0\x01\x09",
+    b"MAILJNL1\0\0\0\x01\x09",
+];
 
 #[test]
 fn sessions_open_a_cut_journal_and_no_bad_one(rt: HostRuntime) -> Result<(), Fail> {
@@ -287,12 +323,17 @@ fn sessions_open_a_cut_journal_and_no_bad_one(rt: HostRuntime) -> Result<(), Fai
             opened.status == 0 && opened.journal.as_slice() == BEGUN,
             "{word}"
         );
-        let bad = outcome_of_words(alloc, &[word], BAD, Failing::Nothing)?;
-        assert!(rt; bad.status == 5 && bad.journal.as_slice() == BAD, "{word}");
-        assert!(rt;
-            bad.given.as_slice() == b"bad journal at 8\r\n".as_slice(),
-            "{word}"
-        );
+        for journal in BAD {
+            let bad = outcome_of_words(alloc, &[word], journal, Failing::Nothing)?;
+            assert!(rt;
+                bad.status == 5 && bad.journal.as_slice() == journal,
+                "{word}"
+            );
+            assert!(rt;
+                bad.given.as_slice() == b"bad journal at 8\r\n".as_slice(),
+                "{word}"
+            );
+        }
     }
     Ok(())
 }

@@ -7,7 +7,7 @@ use test_mail::{BEGUN, JOURNAL, dial_of, given, joined};
 
 // A message of the account, which waits for one recipient, and the record that this one is settled.
 const WAITING: &[u8] =
-    b"\0\0\0\x38\x07\0\0\0\x0fann@example.org\0\0\0\x01\0\0\0\x0dx@example.com\0\0\0\x0bA: b\r\n\r\nx\r\n";
+    b"\0\0\0\x39\x0a\0\0\0\x0fann@example.org\0\0\0\x01\0\0\0\x0dx@example.com\0\0\0\0\x0bA: b\r\n\r\nx\r\n";
 
 const SETTLED: &[u8] = b"\0\0\0\x09\x08\0\0\0\0\0\0\0\0";
 
