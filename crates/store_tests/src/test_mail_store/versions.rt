@@ -31,6 +31,14 @@ const MARKED_QUEUE: &[u8] =
 
 const VERSION: &[u8] = b"\0\0\0\x01\x0b";
 
+// A domain's record after these first octets, and these octets after it.
+fn with_domain(alloc: Global, first: &[u8], more: &[u8]) -> Result<Octets, Memory> {
+    let mut journal = Octets::from_slice(alloc, first)?;
+    journal.push_slice(DOMAIN)?;
+    journal.push_slice(more)?;
+    Ok(journal)
+}
+
 // Whether the store's keeper has these octets, and so once more where it is opened again.
 fn opens_to(alloc: Global, keeper: &mut MemKeeper, left: &[u8]) -> bool {
     for _ in 0..2 {
@@ -123,9 +131,9 @@ struct Fails(usize);
 
 impl Case for Fails {
     fn holds(&self, alloc: Global) -> Result<bool, Memory> {
-        let before = joined(alloc, &[ONE, DOMAIN])?;
-        let begun = joined(alloc, &[before.as_slice(), &VERSION[..self.0.min(5)]])?;
-        let whole = joined(alloc, &[before.as_slice(), VERSION])?;
+        let before = with_domain(alloc, ONE, b"")?;
+        let begun = with_domain(alloc, ONE, &VERSION[..self.0.min(5)])?;
+        let whole = with_domain(alloc, ONE, VERSION)?;
         let failure = Failure {
             call: 4,
             kept: self.0,
@@ -166,7 +174,7 @@ struct End(&'static [u8], usize, usize, &'static [u8], Becomes);
 
 impl End {
     fn octets(&self, alloc: Global, first: &[u8]) -> Result<Octets, Memory> {
-        let mut octets = joined(alloc, &[first, DOMAIN, self.0])?;
+        let mut octets = with_domain(alloc, first, self.0)?;
         for _ in 0..self.1 {
             octets.push(b'x')?;
         }
@@ -183,11 +191,12 @@ impl End {
         let mut keeper = keeper_of(alloc, octets.as_slice(), None)?;
         match self.4 {
             Becomes::Kept => {
-                let left = joined(alloc, &[octets.as_slice(), last])?;
+                let mut left = Octets::from_slice(alloc, octets.as_slice())?;
+                left.push_slice(last)?;
                 Ok(opens_to(alloc, &mut keeper, left.as_slice()))
             }
             Becomes::Cut => {
-                let left = joined(alloc, &[first, DOMAIN, last])?;
+                let left = with_domain(alloc, first, last)?;
                 Ok(opens_to(alloc, &mut keeper, left.as_slice()))
             }
             Becomes::Bad => Ok(is_bad(alloc, &mut keeper) && keeper.octets() == octets.as_slice()),
@@ -311,7 +320,10 @@ const DATE: &[u8] = b"\0\0\0\x1a01-Jan-1970 00:00:00 +0000";
 const WAITS: &[u8] = b"\0\0\0\0\0\0\0\x01\0\0\0\x07c@z.org";
 
 fn push_number(journal: &mut Octets, number: usize) -> Result<(), Memory> {
-    journal.push_slice(&(number as u32).to_be_bytes())
+    let Ok(number) = u32::try_from(number) else {
+        return Err(Memory);
+    };
+    journal.push_slice(&number.to_be_bytes())
 }
 
 // Puts a record last that has these fields, and then these octets.
